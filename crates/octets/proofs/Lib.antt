@@ -1,0 +1,4 @@
+pub mod Laws
+pub mod Sections
+pub mod Codecs
+mod Turns

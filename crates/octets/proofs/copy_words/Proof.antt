@@ -1,0 +1,67 @@
+-- `octets::copy_words` meets its contract. Assumes nothing.
+use Prim.Native.Nat.{_≤_, _%_, _-_}
+use mathlib.Core.Path.{_≡_}
+use native.Mathlib.Omega.{arith}
+use lib.ListN.{length}
+use borrow.Author.Needs.{needs}
+use Rattle.octets.specs.Bytes.{part, splice}
+use Rattle.octets.proofs.Turns.{none-yet, copy-turn, all-done}
+use Rattle.octets.proofs.copy_words.Statement.{statement}
+use Rattle.octets.proofs.copy_words.Tie as tie
+
+abbrev Inv-loop : tie.InvT-loop
+Inv-loop dst₀ at src from n i₀ dst i = (i % 8 ≡ 0) × (i ≤ n) × (length dst ≡ length dst₀) × (dst ≡ splice dst₀ at (part src from i))
+
+abbrev μ-loop : tie.MeasureT-loop
+μ-loop dst₀ at src from n i₀ dst i = n - i
+
+loop-holds : tie.Need-loop-holds Inv-loop μ-loop
+loop-holds c = search (needs, none-yet)
+
+add-put64 : tie.Need-add-put64 Inv-loop μ-loop
+add-put64 c = search needs
+
+add-get64 : tie.Need-add-get64 Inv-loop μ-loop
+add-get64 c = search needs
+
+get64-requires : tie.Need-get64-requires Inv-loop μ-loop
+get64-requires c κs = search needs
+
+put64-requires : tie.Need-put64-requires Inv-loop μ-loop
+put64-requires c κs = search needs
+
+add-i : tie.Need-add-i Inv-loop μ-loop
+add-i c = search needs
+
+loop-less : tie.Need-loop-less Inv-loop μ-loop
+loop-less c = search needs
+
+loop-again : tie.Need-loop-again Inv-loop μ-loop
+loop-again c =
+    let put = c .before .before in
+    let get = put .before in
+    let loop = c .before .before .before .before .before .before in
+    (search needs, search needs, search needs, copy-turn _ _ _ _ _ 8 _ _ _ (loop .loop .inv .3) (get .get64 .ensures) (put .put64 .ensures) (λ i. loop .before .shared-slice-known .given i .fits) (omega arith) (omega arith))
+
+same-length : tie.Need-same-length Inv-loop μ-loop
+same-length c = search needs
+
+returns : tie.Need-returns Inv-loop μ-loop
+returns c = search all-done
+
+pub copy-words-spec : {M : Type 1} → statement M
+copy-words-spec =
+    tie.close
+    (tie.spec
+    Inv-loop
+    μ-loop
+    loop-holds
+    add-put64
+    add-get64
+    get64-requires
+    put64-requires
+    add-i
+    loop-less
+    loop-again
+    same-length
+    returns)

@@ -1,0 +1,43 @@
+-- `octets::put32` meets its contract. Assumes nothing.
+use native.Mathlib.Omega.{arith}
+use borrow.Author.Needs.{needs}
+use Rattle.octets.proofs.Laws.{put-two}
+use Rattle.octets.proofs.put32.Statement.{statement}
+use Rattle.octets.proofs.put32.Tie as tie
+
+cast-put16 : tie.Need-cast-put16
+cast-put16 c = search needs
+
+put16-requires : tie.Need-put16-requires
+put16-requires c κs = search needs
+
+add-put16 : tie.Need-add-put16
+add-put16 c = search needs
+
+cast-put16-2 : tie.Need-cast-put16-2
+cast-put16-2 c = search needs
+
+put16-requires-2 : tie.Need-put16-requires-2
+put16-requires-2 c κs = search needs
+
+same-length : tie.Need-same-length
+same-length c = search needs
+
+returns : tie.Need-returns
+returns c =
+    let two = c .before .before in
+    let one = two .before .before .before .before in
+    let a = one .before .before .before .args in
+    put-two (a .s .now) (a .at) 2 2 (a .v) _ _ (omega arith) (one .put16 .ensures) (two .put162 .ensures)
+
+pub put32-spec : {M : Type 1} → statement M
+put32-spec =
+    tie.close
+    (tie.spec
+    cast-put16
+    put16-requires
+    add-put16
+    cast-put16-2
+    put16-requires-2
+    same-length
+    returns)

@@ -1,0 +1,17 @@
+-- `octets::put8` meets its contract. Assumes nothing.
+use borrow.Author.Needs.{needs}
+use Rattle.octets.proofs.Laws.{put-one}
+use Rattle.octets.proofs.put8.Statement.{statement}
+use Rattle.octets.proofs.put8.Tie as tie
+
+slice-write-s : tie.Need-slice-write-s
+slice-write-s c = search needs
+
+same-length : tie.Need-same-length
+same-length c = search needs
+
+returns : tie.Need-returns
+returns c = search (needs, put-one)
+
+pub put8-spec : {M : Type 1} → statement M
+put8-spec = tie.close (tie.spec slice-write-s same-length returns)

@@ -1,0 +1,3 @@
+-- Numbers in bytes, and sections of bytes: definitions alone. Their laws are in proofs/.
+pub mod Bytes
+pub mod Sections
