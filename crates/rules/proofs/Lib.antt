@@ -8,3 +8,11 @@ pub mod Verdicts
 pub mod EachKind
 pub mod Messages
 pub mod Case
+pub mod Choice
+pub mod Cases
+pub mod NotKept
+pub mod Digest
+pub mod Order
+pub mod Logs
+pub mod Rebuilt
+pub mod Merged
