@@ -1,0 +1,2 @@
+-- The laws of the digest.
+pub mod Laws

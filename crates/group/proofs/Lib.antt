@@ -1,0 +1,4 @@
+-- The laws of masks and of the commit rule.
+pub mod Masks
+pub mod Greatest
+pub mod Commit

@@ -1,0 +1,2 @@
+-- What the contracts of the group's functions cite beside the rules.
+pub mod Points
