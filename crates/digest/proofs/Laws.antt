@@ -29,9 +29,3 @@ digest-more h g s i l e = simp (drop-cons s i 0 l, e, add-one i)
 pub digest-done : (h : ℕ) (s : List ℕ) (i : ℕ) → length s ≤ i → digestFrom h (drop i s) ≡ h
 unfolding digestFrom
 digest-done h s i l = simp (drop-of-length-le s l)
-
--- to run on over b from the digest of a is to digest a ++ b
-pub digest-append : (h : ℕ) (a b : List ℕ) → digestFrom h (a ++ b) ≡ digestFrom (digestFrom h a) b
-unfolding digestFrom
-digest-append h [] b = refl
-digest-append h (x ∷ a) b = digest-append (bitXor x h * prime % 2 ^ 64) a b

@@ -16,7 +16,8 @@ use Rattle.rules.specs.Group.{majority}
 use Rattle.rules.specs.Image.{pointAt}
 use Rattle.rules.specs.Commit.{hasReached, reached, counted, commitPoint}
 use Rattle.group.specs.Points.{points, reachedIn, held, raised}
-use Rattle.group.proofs.Greatest.{clash, count-mono, raisedTo, found}
+use Rattle.group.proofs.Greatest.{count-mono, raisedTo, found}
+use Rattle.rules.proofs.Choice.{clash}
 
 -- ---- one replica
 
@@ -48,7 +49,7 @@ reached-next own len b m i l o e = go (eqb i own) (eqb (num b (9 * i) 1) 0) (num
   where
     go : (mine flag : Bool) (w : ℕ) → (w ≡ m → ⊥) → pick mine (leb m len) (hasReached m (pick flag none (some w))) ≡ true → pick mine (leb (m + 1) len) (hasReached (m + 1) (pick flag none (some w))) ≡ true
     go true flag w o e = le-leb (m + 1) len (omega arith)
-    go false true w o e = absurd (clash e refl)
+    go false true w o e = clash _ e refl
     go false false w o e = le-leb (m + 1) w (omega (arith, leb-true m w e, o))
 
 -- ---- the count

@@ -1,32 +1,24 @@
 -- The greatest point that passes, found among few that are tried.
 use mathlib.Core.Path.{_≡_, _∙_, ap, refl, sym}
-use mathlib.Core.Bool.{Bool, true, false, _&&_, true≢false}
+use mathlib.Core.Bool.{Bool, true, false, _&&_}
 use Prim.Native.Nat.{ℕ, zero, suc, _+_, _<_, _≤_, max}
 use native.Mathlib.Omega.{arith}
 use lib.Dec.{ltb, leb}
 use borrow.Author.Tests.{ltb-true, leb-true, leb-false, lt-ltb, le-leb}
 use Rattle.rules.specs.Choice.{pick, count, point}
+use Rattle.rules.proofs.Choice.{by-test, clash, and-left, and-right, point-most, point-passes, point-above}
 use Rattle.group.specs.Points.{raised}
-
--- a choice by cases of its test
-pub by-test : {A : Type 0} (P : A → Type 0) (b : Bool) {x y : A} → (b ≡ true → P x) → (b ≡ false → P y) → P (pick b x y)
-unfolding pick
-by-test P true f g = f refl
-by-test P false f g = g refl
-
-pub clash : {b : Bool} → b ≡ true → b ≡ false → ⊥
-clash e f = true≢false (sym e ∙ f)
 
 -- what passes where another does not is not that other
 pub apart : (p : ℕ → Bool) {a c : ℕ} → p a ≡ true → p c ≡ false → c ≡ a → ⊥
-apart p e f q = clash e (ap p (sym q) ∙ f)
+apart p e f q = clash _ e (ap p (sym q) ∙ f)
 
 -- ---- counts
 
 mono-step : (x y : ℕ) (a b : Bool) → (a ≡ true → b ≡ true) → x ≤ y → pick a (suc x) x ≤ pick b (suc y) y
 unfolding pick
 mono-step x y true true f h = omega arith
-mono-step x y true false f h = absurd (clash (f refl) refl)
+mono-step x y true false f h = clash _ (f refl) refl
 mono-step x y false true f h = omega arith
 mono-step x y false false f h = h
 
@@ -38,27 +30,6 @@ count-mono p q (suc k) f = mono-step (count p k) (count q k) (p k) (q k) (f k (o
 -- ---- the greatest that passes, and one more that is tried
 
 module _ (p : ℕ → Bool) where
-  pub point-most : (len : ℕ) → point p len ≤ len
-  unfolding point
-  point-most zero = omega arith
-  point-most (suc k) = by-test (λ (x : ℕ). x ≤ suc k) (p (suc k)) (λ _. omega arith) (λ _. omega (arith, point-most k))
-
-  -- it passes, or it is 0
-  pub point-passes : (len : ℕ) → 0 < point p len → p (point p len) ≡ true
-  unfolding point
-  point-passes zero l = absurd (omega arith)
-  point-passes (suc k) l = by-test (λ (x : ℕ). 0 < x → p x ≡ true) (p (suc k)) (λ e _. e) (λ _ m. point-passes k m) l
-
-  -- none that passes is greater
-  pub point-greatest : (len c : ℕ) → c ≤ len → p c ≡ true → c ≤ point p len
-  unfolding point
-  point-greatest zero c l e = l
-  point-greatest (suc k) c l e = by-test (λ (x : ℕ). c ≤ x) (p (suc k)) (λ _. l) (λ f. point-greatest k c (less (leb c k) refl f) e)
-    where
-      less : (b : Bool) → leb c k ≡ b → p (suc k) ≡ false → c ≤ k
-      less true t f = leb-true c k t
-      less false t f = absurd (apart p e f (omega (arith, leb-false c k t)))
-
   module _ (len : ℕ) where
     -- what a try leaves: never less, and what was tried in vain does not pass
     record Tried (best c r : ℕ) : Type 0 where
@@ -70,21 +41,13 @@ module _ (p : ℕ → Bool) where
     in-vain best c f l m = rw (lt-ltb best c l, le-leb c len m) at f
 
     passed : (best c : ℕ) → (ltb best c && (leb c len && p c)) ≡ true → (best < c) × (c ≤ len) × (p c ≡ true)
-    passed best c e = (ltb-true best c (left _ _ e), leb-true c len (left _ _ (right (ltb best c) _ e)), right (leb c len) _ (right (ltb best c) _ e))
-      where
-        left : (a b : Bool) → (a && b) ≡ true → a ≡ true
-        left true b e = refl
-        left false b e = e
-
-        right : (a b : Bool) → (a && b) ≡ true → b ≡ true
-        right true b e = e
-        right false b e = absurd (clash e refl)
+    passed best c e = (ltb-true best c (and-left _ _ e), leb-true c len (and-left _ _ (and-right (ltb best c) _ e)), and-right (leb c len) _ (and-right (ltb best c) _ e))
 
     tried : (best c : ℕ) → Tried best c (raised p len best c)
     unfolding raised
     tried best c =
         by-test (Tried best c) (ltb best c && (leb c len && p c))
-        (λ e. let h = passed best c e in record { kept = omega arith; sound = omega (arith, point-greatest len c (h .1) (h .2)); vain = λ l m. absurd (omega arith) })
+        (λ e. let h = passed best c e in record { kept = omega arith; sound = omega (arith, point-above p len c (h .1) (h .2)); vain = λ l m. absurd (omega arith) })
         (λ f. record { kept = omega arith; sound = omega arith; vain = λ l m. in-vain best c f l m })
 
     -- the length tried, then the first i of a row
@@ -124,13 +87,13 @@ module _ (p : ℕ → Bool) where
       module _ (n : ℕ) (more : (m : ℕ) → p m ≡ true → m < len → ((j : ℕ) → j < n → v j ≡ m → ⊥) → p (m + 1) ≡ true) where
         none-above : raisedTo before v n < point p len → ⊥
         none-above l =
-            let e : p (point p len) ≡ true = point-passes len (omega arith) in
+            let e : p (point p len) ≡ true = point-passes p len (omega arith) in
             let u : point p len < len = inside (leb len (point p len)) refl e in
             let f : p (point p len + 1) ≡ true = more (point p len) e u (λ j h q. apart p e (to-vain n j h (omega arith) (omega arith)) q) in
-            omega (arith, point-greatest len (point p len + 1) (omega arith) f)
+            omega (arith, point-above p len (point p len + 1) (omega arith) f)
           where
             inside : (b : Bool) → leb len (point p len) ≡ b → p (point p len) ≡ true → point p len < len
-            inside true t e = absurd (apart p e (to-top n (omega (arith, point-most len))) (omega (arith, leb-true len (point p len) t, point-most len)))
+            inside true t e = absurd (apart p e (to-top n (omega (arith, point-most p len))) (omega (arith, leb-true len (point p len) t, point-most p len)))
             inside false t e = leb-false len (point p len) t
 
         pub found : raisedTo before v n ≡ max before (point p len)
