@@ -20,6 +20,8 @@ use Rattle.rules.specs.State.{Note, Vote, State, fresh, leads, viewGood,
 use Rattle.rules.specs.Image.{lengths, stateLength, sections, image, stateOf, canonical, goodBytes}
 use Rattle.rules.specs.declared.Entry.{Entry}
 use Rattle.rules.specs.declared.Shape.{Shape}
+pub use Rattle.rules.proofs.Logs.{Stands as InLog, good-each as good-at, each-good as good-to, log-each as log-at, each-log as at-log}
+use Rattle.rules.proofs.Logs.{log-each}
 use Rattle.rules.proofs.Tests.{and-l, and-r, split, join, when-so, each, each-of, each-front, each-back, every-replicate, getD-replicate, all-at, at-all, all-1, all-2, all-3, below-at, at-below, same-true, _also_, Sizes, sizes}
 use Rattle.rules.proofs.Entries.{entry-fits}
 use Rattle.rules.proofs.Tables.{PointFits, TableFits, VoteFits, ReplyFits, NoteFits}
@@ -35,55 +37,9 @@ pub shape-sizes : (sh : Shape) → shapeFits sh ≡ true → Sizes (sh .n) (sh .
 shape-sizes sh e = sizes (sh .n) (sh .s) (and-l (sizesFit (sh .n) (sh .s)) (leb 16 (sh .c) && leb (sh .c) 4096) e)
 
 -- ---- a good log: each of its entries is in range and stands
-module _ (s k : ℕ) (f : ℕ → Entry) where
-  pub good-le : (i : ℕ) → goodTo s k f i ≤ i
-  unfolding goodTo pick
-  good-le zero = omega arith
-  good-le (suc i) = go (eqb (goodTo s k f i) i && (entryFits s (f i) && stands s k f i)) (good-le i)
-    where
-      go : (t : Bool) → goodTo s k f i ≤ i → pick t (suc i) (goodTo s k f i) ≤ suc i
-      go true h = omega arith
-      go false h = omega arith
-
-  abbrev pub InLog : ℕ → Type 0
-  InLog i = (entryFits s (f i) ≡ true) × (stands s k f i ≡ true)
-
-  pub good-step : (i : ℕ) → goodTo s k f (suc i) ≡ suc i → (goodTo s k f i ≡ i) × InLog i
-  unfolding goodTo pick
-  good-step i e = go (eqb (goodTo s k f i) i && (entryFits s (f i) && stands s k f i)) refl e
-    where
-      go : (t : Bool) → (eqb (goodTo s k f i) i && (entryFits s (f i) && stands s k f i)) ≡ t → pick t (suc i) (goodTo s k f i) ≡ suc i → (goodTo s k f i ≡ i) × InLog i
-      go true q h =
-          let r = and-r (eqb (goodTo s k f i) i) (entryFits s (f i) && stands s k f i) q in
-          (eqb-true (goodTo s k f i) i (and-l (eqb (goodTo s k f i) i) (entryFits s (f i) && stands s k f i) q), (and-l (entryFits s (f i)) (stands s k f i) r, and-r (entryFits s (f i)) (stands s k f i) r))
-      go false q h = absurd (omega (arith, good-le i))
-
-  pub good-at : (n : ℕ) → goodTo s k f n ≡ n → (i : ℕ) → i < n → InLog i
-  good-at zero e i l = absurd (not-suc-le-zero l)
-  good-at (suc n) e i l = go (eqb i n) refl (good-at n (good-step n e .0) i)
-    where
-      go : (t : Bool) → eqb i n ≡ t → (i < n → InLog i) → InLog i
-      go true h r = rw (eqb-true i n h) (good-step n e .1)
-      go false h r = let z : i ≡ n → ⊥ = eqb-false i n h in r (omega arith)
-
-  pub good-to : (n : ℕ) → ((i : ℕ) → i < n → InLog i) → goodTo s k f n ≡ n
-  unfolding goodTo pick
-  good-to zero h = refl
-  good-to (suc n) h =
-      let r = good-to n (λ i l. h i (omega arith)) in
-      rw (eq-eqb (goodTo s k f n) n r, h n (omega arith) .0, h n (omega arith) .1)
-
 module _ (s k : ℕ) (es : List Entry) where
-  pub log-at : goodLog s k es ≡ true → (i : ℕ) → i < length es → InLog s k (entryOf es) i
-  unfolding goodLog
-  log-at e = good-at s k (entryOf es) (length es) (eqb-true _ _ e)
-
-  pub at-log : ((i : ℕ) → i < length es → InLog s k (entryOf es) i) → goodLog s k es ≡ true
-  unfolding goodLog
-  at-log h = eq-eqb _ _ (good-to s k (entryOf es) (length es) h)
-
   pub good-fits : goodLog s k es ≡ true → All (λ e. entryFits s e ≡ true) es
-  good-fits e = at-all (λ e. entryFits s e ≡ true) noEntry es (λ i l. log-at e i l .0)
+  good-fits e = at-all (λ e. entryFits s e ≡ true) noEntry es (λ i l. log-each s k es e i l .0)
 
 -- ---- the parts of a good state fit their bytes
 point-fits : (x : Option ℕ) → passes (λ p. ltb p (2 ^ 64)) x ≡ true → PointFits x

@@ -1,4 +1,5 @@
--- What follows from the definitions. The round trips: a state and its bytes (Good), a message and its bytes (Messages), a case and its message (Case).
+-- What follows from the definitions. Round trips: a state and its bytes (Good), a message and its bytes (Messages), a case and its message (Case). The starred numbers (Cases).
+-- The order, good logs, the rebuild and the merge. Runs of a group (Run, RunSafe). A good state stays good (Kept, KeptBytes).
 pub mod Tests
 pub mod Entries
 pub mod Tables
@@ -16,3 +17,22 @@ pub mod Order
 pub mod Logs
 pub mod Rebuilt
 pub mod Merged
+pub mod Run
+pub mod RunForms
+pub mod RunCounting
+pub mod RunInvariant
+pub mod RunCore
+pub mod RunSteps
+pub mod RunTurns
+pub mod RunSafe
+pub mod RunExample
+pub mod RunGood
+pub mod KeptState
+pub mod KeptMessage
+pub mod KeptLaws
+pub mod KeptBuffers
+pub mod KeptNotes
+pub mod KeptSteps
+pub mod KeptTakes
+pub mod Kept
+pub mod KeptBytes

@@ -13,17 +13,7 @@ use Rattle.octets.specs.Bytes.{items}
 use Rattle.octets.proofs.Codecs.{All, items-cons}
 use Rattle.rules.specs.Choice.{pick, when, allOf, every, below, passes, same}
 use Rattle.rules.specs.Group.{permitted, sizesFit}
-
-pub and-l : (a b : Bool) → (a && b) ≡ true → a ≡ true
-and-l true b e = refl
-and-l false b e = e
-
-pub and-r : (a b : Bool) → (a && b) ≡ true → b ≡ true
-and-r true b e = e
-and-r false b e = absurd (true≢false (sym e))
-
-pub and-both : (a b : Bool) → a ≡ true → b ≡ true → (a && b) ≡ true
-and-both a b e f = rw (e, f)
+pub use Rattle.rules.proofs.Choice.{and-left as and-l, and-right as and-r, and-both, pick-true, pick-false, every-all as each, all-every as each-of, all-at, at-all, all-map as all-1, all-both as all-2}
 
 -- ---- tests in a row: the test at place i, which at a numeral computes to that test
 pub split : (ts : List Bool) → allOf ts ≡ true → (i : ℕ) → getD ts i true ≡ true
@@ -55,27 +45,8 @@ pub so-when : (a b : Bool) → when a b ≡ true → a ≡ true → b ≡ true
 so-when true b h e = h
 so-when false b h e = absurd (true≢false (sym e))
 
--- ---- a choice whose test is known
-pub pick-true : {A : Type 0} (t : Bool) (a b : A) → t ≡ true → pick t a b ≡ a
-unfolding pick
-pick-true t a b e = rw e
-
-pub pick-false : {A : Type 0} (t : Bool) (a b : A) → t ≡ false → pick t a b ≡ b
-unfolding pick
-pick-false t a b e = rw e
-
 -- ---- each element of a list
 module _ {A : Type 0} where
-  pub each : (p : A → Bool) (xs : List A) → every p xs ≡ true → All (λ x. p x ≡ true) xs
-  unfolding every
-  each p [] e = tt
-  each p (x ∷ xs) e = (and-l (p x) (every p xs) e, each p xs (and-r (p x) (every p xs) e))
-
-  pub each-of : (p : A → Bool) (xs : List A) → All (λ x. p x ≡ true) xs → every p xs ≡ true
-  unfolding every
-  each-of p [] h = refl
-  each-of p (x ∷ xs) h = and-both (p x) (every p xs) (h .0) (each-of p xs (h .1))
-
   pub each-front : (p : A → Bool) (xs ys : List A) → every p (xs ++ ys) ≡ true → every p xs ≡ true
   unfolding every
   each-front p [] ys e = refl
@@ -100,25 +71,6 @@ module _ {A : Type 0} where
   getD-replicate zero x i = refl
   getD-replicate (suc n) x zero = refl
   getD-replicate (suc n) x (suc i) = getD-replicate n x i
-
-  -- all, by places
-  pub all-at : (P : A → Type 0) (d : A) (xs : List A) → All P xs → (i : ℕ) → i < length xs → P (getD xs i d)
-  all-at P d [] a i l = absurd (not-suc-le-zero l)
-  all-at P d (x ∷ xs) a zero l = a .0
-  all-at P d (x ∷ xs) a (suc i) l = all-at P d xs (a .1) i (le-of-suc-le-suc l)
-
-  pub at-all : (P : A → Type 0) (d : A) (xs : List A) → ((i : ℕ) → i < length xs → P (getD xs i d)) → All P xs
-  at-all P d [] h = tt
-  at-all P d (x ∷ xs) h = (h 0 (zero-lt-suc (length xs)), at-all P d xs (λ i l. h (suc i) (omega arith)))
-
-  -- what follows of each from what holds of each
-  pub all-1 : {P R : A → Type 0} → ((x : A) → P x → R x) → (xs : List A) → All P xs → All R xs
-  all-1 h [] p = tt
-  all-1 h (x ∷ xs) p = (h x (p .0), all-1 h xs (p .1))
-
-  pub all-2 : {P Q R : A → Type 0} → ((x : A) → P x → Q x → R x) → (xs : List A) → All P xs → All Q xs → All R xs
-  all-2 h [] p q = tt
-  all-2 h (x ∷ xs) p q = (h x (p .0) (q .0), all-2 h xs (p .1) (q .1))
 
   pub all-3 : {P Q S R : A → Type 0} → ((x : A) → P x → Q x → S x → R x) → (xs : List A) → All P xs → All Q xs → All S xs → All R xs
   all-3 h [] p q s = tt
