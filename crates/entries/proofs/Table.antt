@@ -14,9 +14,11 @@ use Rattle.rules.specs.Image.{tableBytes, tableAt}
 use Rattle.rules.specs.declared.Entry.{Entry}
 use Rattle.rules.proofs.Entries.{EntryFits}
 use Rattle.rules.proofs.Tables.{TableFits, table}
-use Rattle.entries.specs.First.{first, findRow}
+use Rattle.repeats.specs.Repeat.{firstTo}
+use Rattle.repeats.proofs.Laws.{first-agree}
+use Rattle.entries.specs.First.{findRow}
 use Rattle.entries.specs.Table.{Holds, Table}
-use Rattle.entries.proofs.First.{first-ext, among-row, found-row}
+use Rattle.entries.proofs.First.{among-row, found-row}
 
 -- ---- what is true of each element, of parts of a list
 
@@ -76,8 +78,8 @@ module _ (c : ℕ) (es : List Entry) (t : List ℕ) (h : Holds c es t) where
       sym (getD-items (entryAt t) 24 4 (min (num t 0 4) c) i noEntry k) ∙ ap (λ (xs : List Entry). entryOf xs i) decoded
 
   -- the rows of its bytes are those of its entries
-  pub rows-in : (q : Entry → Bool) (n : ℕ) → n ≡ length es → first (λ i. q (entryAt t (4 + 24 * i))) n ≡ first (λ i. q (entryOf es i)) n
-  rows-in q n e = first-ext _ _ n (λ i l. ap q (entry-in i (omega arith)))
+  pub rows-in : (q : Entry → Bool) (n : ℕ) → n ≡ length es → firstTo (λ i. q (entryAt t (4 + 24 * i))) n ≡ firstTo (λ i. q (entryOf es i)) n
+  rows-in q n e = first-agree _ _ n (λ i l. ap q (entry-in i (omega arith)))
 
   -- what a search for the transaction of e tells
   pub row-among : (e : Entry) (n r : ℕ) → n ≡ length es → r ≡ findRow (λ i. entryAt t (4 + 24 * i)) (e .request) (e .coordinator) n → ltb r n ≡ among es e

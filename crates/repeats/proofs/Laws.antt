@@ -71,6 +71,26 @@ module _ (p : ℕ → Bool) where
   pub first-is : (m n : ℕ) → First p m n → firstTo p m ≡ n
   first-is m n w = only m (firstTo p m) n (first-to m) w (decLt (firstTo p m) n) (decLt n (firstTo p m))
 
+-- ---- a search for it, a turn at a time
+
+module _ (p : ℕ → Bool) where
+  pub first-start : firstTo p 0 ≡ 0
+  unfolding firstTo
+  first-start = refl
+
+  -- none of the first i passes, nor does i
+  pub first-pass : (i : ℕ) → firstTo p i ≡ i → p i ≡ false → firstTo p (i + 1) ≡ i + 1
+  first-pass i e f = rw (add-one i) (on p i e f)
+
+  -- none of the first i passes, and i does
+  pub first-stop : (i n : ℕ) → firstTo p i ≡ i → p i ≡ true → i < n → i ≡ firstTo p n
+  first-stop i n e f l =
+      sym (first-is p n i (record { low = omega arith; before = λ j k. first-to p i .before j (omega arith); at = λ _. f }))
+
+  -- all were looked at
+  pub first-end : (i n : ℕ) → firstTo p i ≡ i → i ≤ n → n ≤ i → n ≡ firstTo p n
+  first-end i n e l h = let q : i ≡ n = omega arith in rw q at (sym e)
+
 pub first-agree : (p q : ℕ → Bool) (m : ℕ) → ((i : ℕ) → i < m → p i ≡ q i) → firstTo p m ≡ firstTo q m
 first-agree p q m h =
     let w : First q m (firstTo q m) = first-to q m in
@@ -143,7 +163,7 @@ module _ (key : ℕ → ℕ) where
   unfolding repeatPlace firstTo
   repeat-step i = refl
 
-  repeat-first : (m : ℕ) → First (again key) m (repeatPlace key m)
+  pub repeat-first : (m : ℕ) → First (again key) m (repeatPlace key m)
   unfolding repeatPlace
   repeat-first m = first-to (again key) m
 
@@ -159,11 +179,11 @@ module _ (key : ℕ → ℕ) where
 
   pub repeat-next : (i : ℕ) → repeatPlace key i ≡ i → seenKey key (key i) i ≡ false → repeatPlace key (i + 1) ≡ i + 1
   unfolding repeatPlace
-  repeat-next i e f = rw (add-one i) (on (again key) i e f)
+  repeat-next i e f = first-pass (again key) i e f
 
   pub repeat-here : (m i : ℕ) → i < m → repeatPlace key i ≡ i → seenKey key (key i) i ≡ true → repeatPlace key m ≡ i
-  repeat-here m i h e f =
-      repeat-is m i (record { low = omega arith; before = λ j k. repeat-first i .before j (omega arith); at = λ _. f })
+  unfolding repeatPlace
+  repeat-here m i h e f = sym (first-stop (again key) i m e f h)
 
   pub repeat-le : (m : ℕ) → repeatPlace key m ≤ m
   repeat-le m = repeat-first m .low

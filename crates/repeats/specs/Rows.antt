@@ -1,5 +1,5 @@
 -- Where the keys stand: three runs, one after the other in number, with one stride. A key is the number that 6 bytes say.
-use Prim.Native.Nat.{ℕ, _+_, _-_, _*_, _≤_}
+use Prim.Native.Nat.{ℕ, _+_, _-_, _*_, _≤_, _<_}
 use mathlib.Core.List.{List}
 use lib.Dec.{ltb}
 use lib.ListN.{length}
@@ -22,9 +22,9 @@ spotOf sp i =
 unfoldable pub keyOf : List ℕ → Spots → ℕ → ℕ
 keyOf b sp i = num b (spotOf sp i) 6
 
--- every key lies inside b: of each run, the last key ends in b. There are few enough that a row's number is 2 bytes
+-- every key lies inside b: of each run, the last key ends in b. Their number is one of 8 bytes
 pub record Inside (b : List ℕ) (sp : Spots) : Type 0 where
   pub one : sp .first + sp .stride * sp .«first_count» + 6 ≤ length b + sp .stride
   pub two : sp .second + sp .stride * sp .«second_count» + 6 ≤ length b + sp .stride
   pub three : sp .third + sp .stride * sp .«third_count» + 6 ≤ length b + sp .stride
-  pub few : countOf sp ≤ 65535
+  pub few : countOf sp < 18446744073709551616

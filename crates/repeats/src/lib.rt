@@ -22,7 +22,7 @@ pub struct Spots {
 
 // How many keys there are.
 fn count(sp: Spots) -> usize
-    requires { ⌜ countOf sp ≤ 65535 ⌝ }
+    requires { ⌜ countOf sp < 18446744073709551616 ⌝ }
     ensures { λ r. ⌜ r ≡ countOf sp ⌝ }
 {
     sp.first_count + sp.second_count + sp.third_count
@@ -135,7 +135,7 @@ fn path_end(b: &[u8], sp: Spots, table: &[u16], x: u64) -> usize
 
 // Puts row i into the free slot at which the path of its key ends. Says false where another row has the key, or no slot is free.
 fn put(b: &[u8], sp: Spots, table: &mut [u16], i: usize) -> bool
-    requires { ⌜ Inside (now b) sp × (i < countOf sp) × (64 ≤ length (now table)) × (length (now table) ≤ 65600) ⌝ }
+    requires { ⌜ Inside (now b) sp × (i < countOf sp) × (64 ≤ length (now table)) × (length (now table) ≤ 65600) × (countOf sp ≤ 65535) ⌝ }
     ensures { λ r. ⌜ (r ≡ true → Went (keyOf (now (b .entry)) sp) (countOf sp) i (now (table .entry)) (now (table .exit))) ⌝ }
 {
     let x = key(b, sp, i);
@@ -150,7 +150,8 @@ fn put(b: &[u8], sp: Spots, table: &mut [u16], i: usize) -> bool
     true
 }
 
-// Puts every row into the table, of 65535s where it is empty: true only if all went in, and then no key stands twice.
+// Puts every row into the table, of 65535s where it is empty: true only if all went in, and then no key stands twice. Of more
+// rows than a slot can number it says false.
 pub fn fill(b: &[u8], sp: Spots, table: &mut [u16]) -> bool
     requires { ⌜ Inside (now b) sp ⌝ }
     ensures { λ r. ⌜ (r ≡ true → Filled (keyOf (now (b .entry)) sp) (countOf sp) (now (table .exit))) ⌝ }
@@ -162,6 +163,9 @@ pub fn fill(b: &[u8], sp: Spots, table: &mut [u16]) -> bool
         return false;
     }
     let m = count(sp);
+    if 65535 < m {
+        return false;
+    }
     let mut i = 0;
     while i < m {
         if !put(b, sp, table, i) {

@@ -25,8 +25,11 @@ returns-2 c = λ e. let z : _≡_ {A = ℕ} 0 1 = cc in absurd (omega arith)
 count-requires : tie.Need-count-requires Inv-loop μ-loop
 count-requires c κs = search needs
 
+returns-3 : tie.Need-returns-3 Inv-loop μ-loop
+returns-3 c = λ e. let z : _≡_ {A = ℕ} 0 1 = cc in absurd (omega arith)
+
 loop-holds : tie.Need-loop-holds Inv-loop μ-loop
-loop-holds c = (search needs, refl, holds-none (keyOf (c .before .before .before .before .before .args .b .now) (c .before .before .before .before .before .args .sp)) (countOf (c .before .before .before .before .before .args .sp)) (c .before .before .before .before .before .args .table .now))
+loop-holds c = (search needs, refl, holds-none (keyOf (c .before .before .before .before .before .before .args .b .now) (c .before .before .before .before .before .before .args .sp)) (countOf (c .before .before .before .before .before .before .args .sp)) (c .before .before .before .before .before .before .args .table .now))
 
 put-requires : tie.Need-put-requires Inv-loop μ-loop
 put-requires c κs = search needs
@@ -34,8 +37,8 @@ put-requires c κs = search needs
 same-length : tie.Need-same-length Inv-loop μ-loop
 same-length c = search needs
 
-returns-3 : tie.Need-returns-3 Inv-loop μ-loop
-returns-3 c = λ e. let z : _≡_ {A = ℕ} 0 1 = cc in absurd (omega arith)
+returns-4 : tie.Need-returns-4 Inv-loop μ-loop
+returns-4 c = λ e. let z : _≡_ {A = ℕ} 0 1 = cc in absurd (omega arith)
 
 add-i : tie.Need-add-i Inv-loop μ-loop
 add-i c = search needs
@@ -44,13 +47,13 @@ loop-less : tie.Need-loop-less Inv-loop μ-loop
 loop-less c = search needs
 
 loop-again : tie.Need-loop-again Inv-loop μ-loop
-loop-again c = (search needs, search needs, holds-more (keyOf (c .before .before .before .before .before .before .before .before .before .before .before .before .args .b .now) (c .before .before .before .before .before .before .before .before .before .before .before .before .args .sp)) (countOf (c .before .before .before .before .before .before .before .before .before .before .before .before .args .sp)) (c .before .before .before .before .before .before .loop .table) _ (c .before .before .before .before .before .before .loop .i) (search needs) (omega arith) (c .before .before .before .before .before .before .loop .inv .2) ((c .before .before .before .put .ensures) (not-false (c .before .before .before .put .result) (c .if3 .left))))
+loop-again c = (search needs, search needs, holds-more (keyOf (c .before .before .before .before .before .before .before .before .before .before .before .before .before .args .b .now) (c .before .before .before .before .before .before .before .before .before .before .before .before .before .args .sp)) (countOf (c .before .before .before .before .before .before .before .before .before .before .before .before .before .args .sp)) (c .before .before .before .before .before .before .loop .table) _ (c .before .before .before .before .before .before .loop .i) (search needs) (omega arith) (c .before .before .before .before .before .before .loop .inv .2) ((c .before .before .before .put .ensures) (not-false (c .before .before .before .put .result) (c .if4 .left))))
 
 same-length-2 : tie.Need-same-length-2 Inv-loop μ-loop
 same-length-2 c = search needs
 
-returns-4 : tie.Need-returns-4 Inv-loop μ-loop
-returns-4 c = λ _. filled (keyOf (c .before .before .before .before .before .before .before .args .b .now) (c .before .before .before .before .before .before .before .args .sp)) (countOf (c .before .before .before .before .before .before .before .args .sp)) (c .before .loop .table) (c .before .loop .i) (omega arith) (omega arith) (omega arith) (c .before .loop .inv .2)
+returns-5 : tie.Need-returns-5 Inv-loop μ-loop
+returns-5 c = λ _. filled (keyOf (c .before .before .before .before .before .before .before .before .args .b .now) (c .before .before .before .before .before .before .before .before .args .sp)) (countOf (c .before .before .before .before .before .before .before .before .args .sp)) (c .before .loop .table) (c .before .loop .i) (omega arith) (omega arith) (omega arith) (c .before .loop .inv .2)
 
 pub fill-spec : {M : Type 1} → statement M
 fill-spec =
@@ -61,12 +64,13 @@ fill-spec =
     returns
     returns-2
     count-requires
+    returns-3
     loop-holds
     put-requires
     same-length
-    returns-3
+    returns-4
     add-i
     loop-less
     loop-again
     same-length-2
-    returns-4)
+    returns-5)

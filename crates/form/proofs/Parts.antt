@@ -1,0 +1,142 @@
+-- Each kind of place in the state's bytes: its length, and what decides whether it has its form. Assumes nothing.
+use Prim.Native.Nat.{ℕ, zero, suc, _+_, _-_, _*_, _≤_, _<_, min}
+use mathlib.Core.Path.{_≡_, refl, sym, ap, ap₂, _∙_}
+use mathlib.Core.Bool.{Bool, true}
+use mathlib.Core.List.{List, [], _∷_, _++_}
+use native.Mathlib.Omega.{arith}
+use native.Mathlib.Nat.{add-assoc}
+use lib.ListN.{length, take, drop, length-append}
+use lib.Seq.{length-take-le}
+use Rattle.octets.specs.Bytes.{le, part, num, flat, items}
+use Rattle.octets.proofs.Laws.{Bytes, length-le, length-part, part-front, part-past, cut, le-num}
+use Rattle.octets.proofs.Codecs.{length-items}
+use Rattle.rules.specs.Choice.{same}
+use Rattle.rules.specs.Read.{entryAt}
+use Rattle.rules.specs.State.{Vote}
+use Rattle.rules.specs.Image.{tableLength, noteLength, voteLength, replyLength, pointBytes, tableBytes, noteBytes, voteBytes, replyBytes, pointAt, tableAt, noteAt, voteAt, replyAt}
+use Rattle.rules.specs.declared.Entry.{Entry}
+use Rattle.rules.proofs.Tests.{same-self}
+use Rattle.rules.proofs.Tables.{table-long}
+use Rattle.form.proofs.Same.{number-first, Flagged, flag-long, row-long}
+
+-- ---- what is read from a part of b alone
+
+module _ (b : List ℕ) (a m : ℕ) (l : a + m ≤ length b) where
+  pub part-part : (i k : ℕ) → i + k ≤ m → part (part b a m) i k ≡ part b (a + i) k
+  part-part i k h =
+      let p : List ℕ = take a b in
+      let q : List ℕ = part b a m in
+      let r : List ℕ = drop (a + m) b in
+      let hp : length p ≡ a = length-take-le a b (omega arith) in
+      let hq : length q ≡ m = length-part b a m l in
+      let e : a + i - a ≡ i = omega arith in
+      sym (ap (λ (x : List ℕ). part x (a + i) k) (cut b a m) ∙ part-past p (q ++ r) a (a + i) k hp (omega arith) ∙ ap (λ (j : ℕ). part (q ++ r) j k) e ∙ part-front q r i k (omega arith))
+
+  num-part : (i j k : ℕ) → i + k ≤ m → j ≡ a + i → num (part b a m) i k ≡ num b j k
+  unfolding num
+  num-part i j k h e = rw (part-part i k h, e)
+
+  entry-part : (i j : ℕ) → i + 24 ≤ m → j ≡ a + i → entryAt (part b a m) i ≡ entryAt b j
+  unfolding entryAt
+  entry-part i j h e =
+      simp (
+        num-part i j 8 (omega arith) e,
+        num-part (i + 8) (j + 8) 8 (omega arith) (omega arith),
+        num-part (i + 16) (j + 16) 4 (omega arith) (omega arith),
+        num-part (i + 20) (j + 20) 2 (omega arith) (omega arith),
+        num-part (i + 22) (j + 22) 2 (omega arith) (omega arith),
+      )
+
+items-shift : {A : Type 0} (f g : ℕ → A) (k o p n : ℕ) → ((i : ℕ) → i < n → f (o + k * i) ≡ g (p + k * i)) → items f k o n ≡ items g k p n
+unfolding items
+items-shift f g k o p zero h = refl
+items-shift f g k o p (suc n) h = ap₂ (λ (xs : List _) x. xs ++ (x ∷ [])) (items-shift f g k o p n (λ i l. h i (omega arith))) (h n (omega arith))
+
+-- the form in which a part is lent
+pub part-lent : (b : List ℕ) (a m n : ℕ) → m ≡ n → take m (drop a b) ≡ part b a n
+unfolding part
+part-lent b a m n e = rw e
+
+-- ---- a point
+
+pub point-place : Flagged ℕ 9 8 pointBytes pointAt (le 8) (λ b a. num b (a + 1) 8)
+unfolding pointBytes pointAt
+point-place = record { wide = refl; unset = refl; is = λ x. refl; read = λ b a. refl; long = λ b a. length-le 8 (num b (a + 1) 8) }
+
+-- what stands behind its flag is a number
+pub point-body : (b : List ℕ) (a : ℕ) → Bytes b → a + 9 ≤ length b → true ≡ same (le 8 (num b (a + 1) 8)) (part b (a + 1) 8)
+point-body b a bs l = sym (ap (same (le 8 (num b (a + 1) 8))) (sym (le-num b (a + 1) 8 bs (omega arith))) ∙ same-self (le 8 (num b (a + 1) 8)))
+
+-- ---- a table
+
+module _ (c : ℕ) (b : List ℕ) (a : ℕ) where
+  table-within : length (tableAt c b a) ≤ c
+  unfolding tableAt
+  table-within = omega (arith, length-items (entryAt b) 24 (a + 4) (min (num b a 4) c))
+
+  pub table-at-long : length (tableBytes c (tableAt c b a)) ≡ tableLength c
+  table-at-long = table-long c (tableAt c b a) table-within
+
+  module _ (l : a + tableLength c ≤ length b) where
+    pub table-part : tableAt c (part b a (tableLength c)) 0 ≡ tableAt c b a
+    unfolding tableAt
+    table-part =
+        let e : num (part b a (tableLength c)) 0 4 ≡ num b a 4 = num-part b a (tableLength c) l 0 a 4 (omega arith) (omega arith) in
+        rw e (items-shift (entryAt (part b a (tableLength c))) (entryAt b) 24 4 (a + 4) (min (num b a 4) c) (λ i h. entry-part b a (tableLength c) l (4 + 24 * i) (a + 4 + 24 * i) (omega arith) (omega arith)))
+
+    -- lent as a slice of m bytes
+    pub table-lent : (m : ℕ) (r : Bool) → m ≡ tableLength c → r ≡ same (tableBytes c (tableAt c (take m (drop a b)) 0)) (take m (drop a b)) → r ≡ same (tableBytes c (tableAt c b a)) (part b a (tableLength c))
+    table-lent m r e h =
+        h
+        ∙ ap (λ (x : List ℕ). same (tableBytes c (tableAt c x 0)) x) (part-lent b a m (tableLength c) e)
+        ∙ ap (λ (es : List Entry). same (tableBytes c es) (part b a (tableLength c))) table-part
+
+-- ---- a vote
+
+module _ (c : ℕ) where
+  abbrev voteBody : Vote → List ℕ
+  voteBody v = le 4 (v .normal) ++ (le 8 (v .sync) ++ tableBytes c (v .log))
+
+  abbrev voteIn : List ℕ → ℕ → Vote
+  voteIn b a = record { normal = num b (a + 1) 4; sync = num b (a + 5) 8; log = tableAt c b (a + 13) }
+
+  vote-long : (b : List ℕ) (a : ℕ) → length (voteBody (voteIn b a)) ≡ 4 + (8 + tableLength c)
+  vote-long b a = simp (length-append, length-le) (omega (arith, table-at-long c b (a + 13)))
+
+  pub vote-place : Flagged Vote (voteLength c) (4 + (8 + tableLength c)) (voteBytes c) (voteAt c) voteBody voteIn
+  unfolding voteBytes voteAt
+  vote-place = record { wide = omega arith; unset = refl; is = λ v. refl; read = λ b a. refl; long = vote-long }
+
+  -- what stands behind its flag is right where its table is
+  pub vote-body : (b : List ℕ) (a : ℕ) → Bytes b → a + voteLength c ≤ length b → same (tableBytes c (tableAt c b (a + 13))) (part b (a + 13) (tableLength c)) ≡ same (voteBody (voteIn b a)) (part b (a + 1) (4 + (8 + tableLength c)))
+  vote-body b a bs l =
+      let t : List ℕ = tableBytes c (tableAt c b (a + 13)) in
+      let y : List ℕ = le 8 (num b (a + 5) 8) ++ t in
+      sym (number-first b (a + 1) 4 (8 + tableLength c) (omega arith) y bs
+      ∙ ap (λ (j : ℕ). same y (part b j (8 + tableLength c))) (add-assoc a 1 4)
+      ∙ number-first b (a + 5) 8 (tableLength c) (omega arith) t bs
+      ∙ ap (λ (j : ℕ). same t (part b j (tableLength c))) (add-assoc a 5 8))
+
+  -- ---- a reply
+  pub reply-place : Flagged (List Entry) (replyLength c) (tableLength c) (replyBytes c) (replyAt c) (tableBytes c) (λ b a. tableAt c b (a + 1))
+  unfolding replyBytes replyAt
+  reply-place = record { wide = refl; unset = refl; is = λ x. refl; read = λ b a. refl; long = λ b a. table-at-long c b (a + 1) }
+
+-- ---- a note
+
+module _ (s : ℕ) (b : List ℕ) (a : ℕ) where
+  pub note-long : length (noteBytes (noteAt s b a)) ≡ noteLength s
+  unfolding noteBytes noteAt
+  note-long = simp (length-append, length-le) (omega (arith, row-long pointBytes pointAt 9 (flag-long point-place) b (a + 6) s))
+
+  -- it is right where its points are
+  pub note-points : Bytes b → a + noteLength s ≤ length b → (r : Bool) → r ≡ same (flat pointBytes (items (pointAt b) 9 (a + 6) s)) (part b (a + 6) (9 * s)) → r ≡ same (noteBytes (noteAt s b a)) (part b a (noteLength s))
+  unfolding noteBytes noteAt
+  note-points bs l r h =
+      let p : List ℕ = flat pointBytes (items (pointAt b) 9 (a + 6) s) in
+      let y : List ℕ = le 2 (num b (a + 4) 2) ++ p in
+      let e : noteLength s ≡ 4 + (2 + 9 * s) = omega arith in
+      h ∙ sym (ap (λ (n : ℕ). same (le 4 (num b a 4) ++ y) (part b a n)) e
+      ∙ number-first b a 4 (2 + 9 * s) (omega arith) y bs
+      ∙ number-first b (a + 4) 2 (9 * s) (omega arith) p bs
+      ∙ ap (λ (j : ℕ). same p (part b j (9 * s))) (add-assoc a 4 2))

@@ -1,0 +1,131 @@
+-- No transaction stands twice where no key repeats an earlier one: of a list, and of three tables in bytes. Assumes nothing.
+use Prim.Native.Nat.{ℕ, zero, suc, _+_, _-_, _*_, _≤_, _<_}
+use mathlib.Core.Path.{_≡_, refl, sym, ap, _∙_}
+use mathlib.Core.Bool.{Bool, true, false, not, true≢false}
+use mathlib.Core.List.{List, [], _∷_, _++_}
+use native.Mathlib.Decide.{decLt}
+use native.Mathlib.Omega.{arith}
+use lib.ListN.{length, getD, length-append, List·getD-append}
+use lib.Seq.{getD-append-add}
+use lib.Dec.{eqb}
+use borrow.Author.Tests.{eq-eqb, ne-eqb, eqb-true, eqb-false}
+use Rattle.octets.specs.Bytes.{num, items}
+use Rattle.octets.proofs.Laws.{Bytes, bytes-known}
+use Rattle.octets.proofs.Codecs.{length-items, getD-items}
+use Rattle.rules.specs.Entry.{noEntry, entryOf, sameTxn, among}
+use Rattle.rules.specs.Log.{distinct}
+use Rattle.rules.specs.Read.{entryAt}
+use Rattle.rules.specs.Image.{tableAt}
+use Rattle.rules.specs.declared.Entry.{Entry}
+use Rattle.rules.proofs.Tests.{and-l, and-r, and-both}
+use Rattle.repeats.specs.Repeat.{repeatPlace, Distinct}
+use Rattle.repeats.specs.Rows.{countOf, keyOf, spotOf}
+use Rattle.repeats.specs.declared.Spots.{Spots}
+use Rattle.repeats.proofs.Laws.{repeat-distinct, distinct-repeat}
+use Rattle.repeats.proofs.Places.{spot-first, spot-second, spot-third}
+use Rattle.entries.proofs.First.{any-here, any-nowhere}
+use Rattle.logs.specs.Place.{Within}
+use Rattle.logs.proofs.Keys.{Keyed, keyed-at, key-is}
+use Rattle.logs.proofs.Every.{when-not}
+use Rattle.logs.proofs.Tables.{table-run}
+
+-- ---- of a list
+
+-- the numbers are the keys of the entries
+abbrev pub KeysOf : (ℕ → ℕ) → List Entry → Type 0
+KeysOf key es = (i : ℕ) → i < length es → Keyed (key i) (entryOf es i)
+
+module _ (e : Entry) (es : List Entry) (key : ℕ → ℕ) (h : KeysOf key (e ∷ es)) where
+  -- the first entry against another
+  against : (j : ℕ) → j < length es → eqb (key 0) (key (suc j)) ≡ sameTxn e (entryOf es j)
+  against j l = key-is (key 0) (key (suc j)) e (entryOf es j) (h 0 (omega arith)) (h (suc j) (omega arith))
+
+  apart : among es e ≡ false → (j : ℕ) → j < length es → key 0 ≡ key (suc j) → ⊥
+  apart a j l q = true≢false (sym (any-here (sameTxn e) noEntry es j l (sym (against j l) ∙ eq-eqb (key 0) (key (suc j)) q)) ∙ a)
+
+  rest : KeysOf (λ i. key (suc i)) es
+  rest i l = h (suc i) (omega arith)
+
+-- the keys of distinct transactions are distinct
+pub distinct-keys : (es : List Entry) (key : ℕ → ℕ) → KeysOf key es → distinct es ≡ true → Distinct key (length es)
+unfolding distinct Distinct
+distinct-keys [] key h d i j hi hj q = absurd (omega arith)
+distinct-keys (e ∷ es) key h d zero zero hi hj q = refl
+distinct-keys (e ∷ es) key h d zero (suc j) hi hj q = absurd (apart e es key h (when-not (among es e) (and-l (not (among es e)) (distinct es) d)) j (omega arith) q)
+distinct-keys (e ∷ es) key h d (suc i) zero hi hj q = absurd (apart e es key h (when-not (among es e) (and-l (not (among es e)) (distinct es) d)) i (omega arith) (sym q))
+distinct-keys (e ∷ es) key h d (suc i) (suc j) hi hj q =
+    ap suc (distinct-keys es (λ n. key (suc n)) (rest e es key h) (and-r (not (among es e)) (distinct es) d) i j (omega arith) (omega arith) q)
+
+-- and the other way
+pub keys-distinct : (es : List Entry) (key : ℕ → ℕ) → KeysOf key es → Distinct key (length es) → distinct es ≡ true
+unfolding distinct Distinct
+keys-distinct [] key h d = refl
+keys-distinct (e ∷ es) key h d =
+    let a : among es e ≡ false = any-nowhere (sameTxn e) noEntry es (λ j l. sym (against e es key h j l) ∙ ne-eqb (key 0) (key (suc j)) (λ q. let z : 0 ≡ suc j = d 0 (suc j) (omega arith) (omega arith) q in omega arith)) in
+    and-both (not (among es e)) (distinct es) (ap not a)
+    (keys-distinct es (λ n. key (suc n)) (rest e es key h) (λ i j hi hj q. let z : suc i ≡ suc j = d (suc i) (suc j) (omega arith) (omega arith) q in omega arith))
+
+pub distinct-is : (es : List Entry) (key : ℕ → ℕ) → KeysOf key es → eqb (repeatPlace key (length es)) (length es) ≡ distinct es
+distinct-is es key h = go (eqb (repeatPlace key (length es)) (length es)) (distinct es) refl refl
+  where
+    go : (s t : Bool) → eqb (repeatPlace key (length es)) (length es) ≡ s → distinct es ≡ t → s ≡ t
+    go true t e f = sym (keys-distinct es key h (repeat-distinct key (length es) (eqb-true (repeatPlace key (length es)) (length es) e))) ∙ f
+    go false false e f = refl
+    go false true e f = absurd (eqb-false (repeatPlace key (length es)) (length es) e (distinct-repeat key (length es) (distinct-keys es key h f)))
+
+-- ---- of three tables
+
+-- the keys of the entries of three tables
+abbrev pub threeRuns : ℕ → ℕ → ℕ → ℕ → ℕ → ℕ → Spots
+threeRuns x l y m z n = record { first = x + 20; «first_count» = l; second = y + 20; «second_count» = m; third = z + 20; «third_count» = n; stride = 24 }
+
+-- past a list's end stands what comes after it
+past-end : {A : Type 0} (xs ys : List A) (d : A) (n i : ℕ) → length xs ≡ n → n ≤ i → getD (xs ++ ys) i d ≡ getD ys (i - n) d
+past-end xs ys d n i e h =
+    let q : i ≡ length xs + (i - n) = omega arith in
+    ap (λ (j : ℕ). getD (xs ++ ys) j d) q ∙ getD-append-add xs ys (i - n) d
+
+module _ (b : List ℕ) (c : ℕ) (known : (i : ℕ) → getD b i 0 < 256) where
+  -- entry i of a table's run
+  abbrev runOf : ℕ → ℕ → List Entry
+  runOf at n = items (entryAt b) 24 (at + 4) n
+
+  run-key : (at n i spot : ℕ) (e : Entry) → Within c b at → n ≤ c → i < n → at + 20 + 24 * i ≡ spot → e ≡ getD (runOf at n) i noEntry → Keyed (num b spot 6) e
+  run-key at n i spot e w r l p q =
+      let g : e ≡ entryAt b (at + 4 + 24 * i) = q ∙ getD-items (entryAt b) 24 (at + 4) n i noEntry l in
+      rw g (keyed-at b (at + 4 + 24 * i) spot (num b spot 6) (bytes-known b known) (omega (arith, w .ends)) (omega arith) refl)
+
+  module _ (x l y m z n : ℕ) (wx : Within c b x) (wy : Within c b y) (wz : Within c b z) (el : l ≡ num b x 4) (em : m ≡ num b y 4) (en : n ≡ num b z 4) where
+    abbrev three : List Entry
+    three = runOf x l ++ (runOf y m ++ runOf z n)
+
+    long-three : length three ≡ l + m + n
+    long-three = simp (length-append, length-items) (omega arith)
+
+    abbrev sp : Spots
+    sp = threeRuns x l y m z n
+
+    key-later : (i : ℕ) → i < l + m + n → l ≤ i → Dec (i - l < m) → Keyed (keyOf b sp i) (entryOf three i)
+    unfolding keyOf
+    key-later i h f (yes g) =
+        run-key y m (i - l) (spotOf sp i) (entryOf three i) wy (omega (arith, wy .room)) g (spot-second sp i f g)
+        (past-end (runOf x l) (runOf y m ++ runOf z n) noEntry l i (length-items (entryAt b) 24 (x + 4) l) f
+        ∙ List·getD-append (runOf y m) (runOf z n) noEntry (i - l) (rw (length-items (entryAt b) 24 (y + 4) m) g))
+    key-later i h f (no g) =
+        let k : m ≤ i - l = omega (arith, g) in
+        run-key z n (i - l - m) (spotOf sp i) (entryOf three i) wz (omega (arith, wz .room)) (omega arith) (spot-third sp i f k)
+        (past-end (runOf x l) (runOf y m ++ runOf z n) noEntry l i (length-items (entryAt b) 24 (x + 4) l) f
+        ∙ past-end (runOf y m) (runOf z n) noEntry m (i - l) (length-items (entryAt b) 24 (y + 4) m) k)
+
+    key-any : (i : ℕ) → i < l + m + n → Dec (i < l) → Keyed (keyOf b sp i) (entryOf three i)
+    unfolding keyOf
+    key-any i h (yes f) =
+        run-key x l i (spotOf sp i) (entryOf three i) wx (omega (arith, wx .room)) f (spot-first sp i f)
+        (List·getD-append (runOf x l) (runOf y m ++ runOf z n) noEntry i (rw (length-items (entryAt b) 24 (x + 4) l) f))
+    key-any i h (no f) = key-later i h (omega (arith, f)) (decLt (i - l) m)
+
+    pub three-distinct : (r : ℕ) → r ≡ repeatPlace (keyOf b sp) (countOf sp) → eqb r (l + m + n) ≡ distinct (tableAt c b x ++ (tableAt c b y ++ tableAt c b z))
+    three-distinct r q =
+        let d : eqb (repeatPlace (keyOf b sp) (length three)) (length three) ≡ distinct three = distinct-is three (keyOf b sp) (λ i h. key-any i (rw long-three at h) (decLt i l)) in
+        let d′ : eqb (repeatPlace (keyOf b sp) (l + m + n)) (l + m + n) ≡ distinct three = rw long-three at d in
+        rw (q, table-run c b x l (wx .room) el, table-run c b y m (wy .room) em, table-run c b z n (wz .room) en) d′

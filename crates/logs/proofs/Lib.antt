@@ -1,0 +1,6 @@
+-- The laws of logs in bytes.
+pub mod Keys
+pub mod Place
+pub mod Every
+pub mod Tables
+pub mod Apart

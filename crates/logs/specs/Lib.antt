@@ -1,0 +1,2 @@
+-- What the contracts on logs cite beside the rules.
+pub mod Place

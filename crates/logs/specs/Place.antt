@@ -1,0 +1,32 @@
+-- Entries in a row of bytes, and an entry that cannot stand where it does in a log, its transaction aside.
+use Prim.Native.Nat.{ℕ, _+_, _*_, _≤_}
+use mathlib.Core.Bool.{Bool, _&&_, not}
+use mathlib.Core.List.{List}
+use lib.Dec.{leb}
+use lib.ListN.{length}
+use Rattle.octets.specs.Bytes.{num}
+use Rattle.rules.specs.Group.{holds}
+use Rattle.rules.specs.Entry.{entryFits, stampBefore}
+use Rattle.rules.specs.Read.{entryAt}
+use Rattle.rules.specs.declared.Entry.{Entry}
+
+-- entry i of those that stand in b from `at` on
+abbrev pub rowAt : List ℕ → ℕ → ℕ → Entry
+rowAt b at i = entryAt b (at + 24 * i)
+
+-- after timestamp `last`, in a log of group k: the entry is out of range, or below `last`, or its mask lacks k
+unfoldable pub unfit : ℕ → ℕ → ℕ → Entry → Bool
+unfit s k last e = not (entryFits s e && (leb last (e .stamp) && holds (e .mask) k))
+
+-- entry i of entries in a row is unfit after the one before it
+abbrev pub unfitAt : ℕ → ℕ → (ℕ → Entry) → ℕ → Bool
+unfitAt s k f i = unfit s k (stampBefore f i) (f i)
+
+-- the entry is not below a timestamp
+abbrev pub notBelow : ℕ → Entry → Bool
+notBelow last e = leb last (e .stamp)
+
+-- a table with room for c entries lies inside b at `at`, and has no more of them
+pub record Within (c : ℕ) (b : List ℕ) (at : ℕ) : Type 0 where
+  pub ends : at + (4 + 24 * c) ≤ length b
+  pub room : num b at 4 ≤ c

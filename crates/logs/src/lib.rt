@@ -1,0 +1,164 @@
+// Logs in bytes: where a log stops being good, and what has to hold of each of its entries.
+use repeats::Spots;
+use rules::Entry;
+ghost use mathlib.Core.Path.{_≡_};
+ghost use mathlib.Core.Bool.{not};
+ghost use mathlib.Core.List.{_++_};
+ghost use Prim.Native.Nat.{ℕ, _+_, _*_, _≤_};
+ghost use lib.ListN.{length};
+ghost use Rattle.octets.specs.Bytes.{items};
+ghost use Rattle.rules.specs.Choice.{every};
+ghost use Rattle.rules.specs.Group as masks;
+ghost use Rattle.rules.specs.Entry.{entryFits, lastStamp};
+ghost use Rattle.rules.specs.Log.{goodTo, goodLog, allHold, distinct};
+ghost use Rattle.rules.specs.Read.{entryAt};
+ghost use Rattle.rules.specs.Image.{tableAt};
+ghost use Rattle.repeats.specs.Repeat.{firstTo};
+ghost use Rattle.entries.specs.Table.{Table};
+ghost use Rattle.logs.specs.Place.{rowAt, unfit, unfitAt, notBelow, Within};
+
+// Whether every field of an entry is in range, where there are s groups.
+pub fn entry_fits(e: Entry, s: u64) -> bool
+    ensures { λ r. ⌜ r ≡ entryFits s e ⌝ }
+{
+    let stamp = (1 <= e.stamp) & (e.stamp <= 9223372036854775807);
+    stamp & ((1 <= e.request) & ((e.coordinator <= 65534) & group::some_of(e.mask, s)))
+}
+
+// Whether an entry cannot come after timestamp `last` in a log of group k, its transaction aside.
+fn is_unfit(e: Entry, last: u64, s: u64, k: u64) -> bool
+    ensures { λ r. ⌜ r ≡ unfit s k last e ⌝ }
+{
+    !(entry_fits(e, s) & ((last <= e.stamp) & group::holds(e.mask, k)))
+}
+
+// The first of `count` entries from `at` on that is unfit, or `count`. Whether its transaction repeats an earlier one is not asked.
+fn first_unfit(b: &[u8], at: usize, count: usize, s: u64, k: u64) -> usize
+    requires { ⌜ at + 24 * count ≤ length (now b) ⌝ }
+    ensures { λ r. ⌜ r ≡ firstTo (unfitAt s k (rowAt (now (b .entry)) at)) count ⌝ }
+{
+    let mut last: u64 = 0;
+    let mut i = 0;
+    while i < count {
+        let e = entries::entry_at(b, at + 24 * i);
+        if is_unfit(e, last, s, k) {
+            return i;
+        }
+        last = e.stamp;
+        i += 1;
+    }
+    count
+}
+
+// The first of `count` entries from `at` on at which they stop being a good log of group k, or `count`. One pass finds where the
+// fit ones end, and a repeat among those comes first.
+pub fn good_place(b: &[u8], at: usize, count: usize, s: u64, k: u64) -> usize
+    requires { ⌜ at + 24 * count ≤ length (now b) ⌝ }
+    ensures { λ r. ⌜ r ≡ goodTo s k (rowAt (now (b .entry)) at) count ⌝ }
+{
+    let fit = first_unfit(b, at, count, s, k);
+    let spots = Spots {
+        first: at + 16,
+        first_count: fit,
+        second: 0,
+        second_count: 0,
+        third: 0,
+        third_count: 0,
+        stride: 24,
+    };
+    repeats::first_repeat(b, spots)
+}
+
+// Whether the entries of a table are a good log of group k.
+pub fn good_log(t: &[u8], c: usize, s: u64, k: u64) -> bool
+    requires { ⌜ Table c (now t) ⌝ }
+    ensures { λ r. ⌜ r ≡ goodLog s k (tableAt c (now (t .entry)) 0) ⌝ }
+{
+    let n = entries::count(t);
+    good_place(t, 4, n, s, k) == n
+}
+
+// The first of `count` entries from `at` on whose mask lacks group j, or `count`.
+pub fn first_lacking(b: &[u8], at: usize, count: usize, j: u64) -> usize
+    requires { ⌜ at + 24 * count ≤ length (now b) ⌝ }
+    ensures { λ r. ⌜ r ≡ firstTo (λ i. not (masks.holds (entryAt (now (b .entry)) (at + 24 * i) .mask) j)) count ⌝ }
+{
+    let mut i = 0;
+    while i < count {
+        if !group::holds(octets::get16(b, at + 24 * i + 22), j) {
+            return i;
+        }
+        i += 1;
+    }
+    count
+}
+
+// Whether every mask of `count` entries from `at` on holds group j.
+pub fn all_hold(b: &[u8], at: usize, count: usize, j: u64) -> bool
+    requires { ⌜ at + 24 * count ≤ length (now b) ⌝ }
+    ensures { λ r. ⌜ r ≡ allHold j (items (entryAt (now (b .entry))) 24 at count) ⌝ }
+{
+    first_lacking(b, at, count, j) == count
+}
+
+// Whether every field of `count` entries from `at` on is in range.
+pub fn all_fit(b: &[u8], at: usize, count: usize, s: u64) -> bool
+    requires { ⌜ at + 24 * count ≤ length (now b) ⌝ }
+    ensures { λ r. ⌜ r ≡ every (entryFits s) (items (entryAt (now (b .entry))) 24 at count) ⌝ }
+{
+    let mut i = 0;
+    while i < count {
+        if !entry_fits(entries::entry_at(b, at + 24 * i), s) {
+            return false;
+        }
+        i += 1;
+    }
+    true
+}
+
+// Whether none of `count` entries from `at` on is below timestamp `last`.
+pub fn none_below(b: &[u8], at: usize, count: usize, last: u64) -> bool
+    requires { ⌜ at + 24 * count ≤ length (now b) ⌝ }
+    ensures { λ r. ⌜ r ≡ every (notBelow last) (items (entryAt (now (b .entry))) 24 at count) ⌝ }
+{
+    let mut i = 0;
+    while i < count {
+        if octets::get64(b, at + 24 * i) < last {
+            return false;
+        }
+        i += 1;
+    }
+    true
+}
+
+// The timestamp of a table's last entry, 0 where it has none.
+pub fn last_stamp(t: &[u8], c: usize) -> u64
+    requires { ⌜ Table c (now t) ⌝ }
+    ensures { λ r. ⌜ r ≡ lastStamp (tableAt c (now (t .entry)) 0) ⌝ }
+{
+    let n = entries::count(t);
+    if n == 0 {
+        return 0;
+    }
+    octets::get64(t, 4 + 24 * (n - 1))
+}
+
+// Whether no transaction stands twice in three tables together, such as log, early and late buffer.
+pub fn distinct3(b: &[u8], one: usize, two: usize, three: usize, c: usize) -> bool
+    requires { ⌜ Within c (now b) one × Within c (now b) two × Within c (now b) three ⌝ }
+    ensures { λ r. ⌜ r ≡ distinct (tableAt c (now (b .entry)) one ++ (tableAt c (now (b .entry)) two ++ tableAt c (now (b .entry)) three)) ⌝ }
+{
+    let l = octets::get32(b, one) as usize;
+    let m = octets::get32(b, two) as usize;
+    let n = octets::get32(b, three) as usize;
+    let spots = Spots {
+        first: one + 20,
+        first_count: l,
+        second: two + 20,
+        second_count: m,
+        third: three + 20,
+        third_count: n,
+        stride: 24,
+    };
+    repeats::first_repeat(b, spots) == l + m + n
+}

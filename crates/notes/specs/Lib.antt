@@ -1,0 +1,2 @@
+-- What the functions on notes cite: the notes in a slice, and the row of a transaction among them.
+pub mod Notes

@@ -1,0 +1,232 @@
+-- gVec, the points heard, the votes and the replies: place r read and written, or all of them written. Assumes nothing.
+use Prim.Native.Nat.{ℕ, _+_, _*_, _-_, _^_, _≤_, _<_}
+use mathlib.Core.Path.{_≡_, refl, sym, ap, _∙_}
+use mathlib.Core.Bool.{Bool, true, false}
+use mathlib.Core.Option.{Option, none, some}
+use mathlib.Core.List.{List, [], _∷_, _++_}
+use native.Mathlib.Omega.{arith}
+use native.Mathlib.Nat.{add-assoc}
+use lib.ListN.{length, take, drop, getD, set, replicate, length-append, length-replicate}
+use lib.Seq.{take-at}
+use lib.Dec.{eqb, lit<, lit≤}
+use Rattle.octets.specs.Bytes.{le, num, part, splice, flat, items}
+use Rattle.octets.proofs.Laws.{Bytes, length-le, part-past}
+use Rattle.octets.proofs.Sections.{part-whole}
+use Rattle.octets.proofs.Codecs.{All, number, length-items, peel-all, exact-number}
+use Rattle.rules.specs.Choice.{pick, count, isSome}
+use Rattle.rules.specs.State.{Vote, State, held}
+use Rattle.rules.specs.Image.{tableLength, voteLength, replyLength, lengths, zeroBytes, headSection, pointBytes, tableBytes, voteBytes, replyBytes, sections, pointAt, tableAt, voteAt, replyAt}
+use Rattle.rules.specs.declared.Entry.{Entry}
+use Rattle.rules.specs.declared.Shape.{Shape}
+use Rattle.rules.proofs.Tests.{all-1, all-at}
+use Rattle.rules.proofs.Tables.{point, TableFits, table-long, VoteIs, VoteFits, vote, ReplyFits, reply}
+use Rattle.places.specs.Layout.{startOf, ownBytes, Laid, Stands}
+use Rattle.places.specs.With.{withGVec, withHeard, withVotes, withReplies}
+use Rattle.places.proofs.Sections.{stands-fits, stands-laid, long-at, get-in, drop-all, put-in, put-all}
+use Rattle.places.proofs.Rows.{within, Even, long-row, places-row, get-row, set-row, row-at}
+use Rattle.places.proofs.Head.{get-head}
+use Rattle.places.proofs.Tables.{log-part}
+use Rattle.places.proofs.Spots.{count-like}
+use Rattle.places.proofs.Fresh.{heard-zeros, votes-zeros, replies-zeros}
+
+-- ---- lengths
+
+each : {A : Type 0} (P : A → Type 0) → ((x : A) → P x) → (xs : List A) → All P xs
+each P h [] = tt
+each P h (x ∷ xs) = (h x, each P h xs)
+
+pub point-long : (p : Option ℕ) → length (pointBytes p) ≡ 9
+unfolding pointBytes
+point-long none = refl
+point-long (some p) = simp (length-append, length-le)
+
+pub vote-long : (c : ℕ) (v : Vote) → length (v .log) ≤ c → length (voteBytes c (some v)) ≡ voteLength c
+unfolding voteBytes
+vote-long c v h = simp (length-append, length-le) (omega (arith, table-long c (v .log) h))
+
+pub reply-long : (c : ℕ) (es : List Entry) → length es ≤ c → length (replyBytes c (some es)) ≡ replyLength c
+unfolding replyBytes
+reply-long c es h = simp (length-append, length-le) (omega (arith, table-long c es h))
+
+pub even-points : (xs : List (Option ℕ)) → Even pointBytes 9 xs
+even-points = each (λ p. length (pointBytes p) ≡ 9) point-long
+
+pub even-views : (xs : List ℕ) → Even (le 4) 4 xs
+even-views = each (λ v. length (le 4 v) ≡ 4) (length-le 4)
+
+-- ---- written
+
+module _ {sh : Shape} {st : State} {b : List ℕ} (l : Laid sh st b) where
+  -- place r of a section that is a row of n things, each of k bytes
+  put-place : {A : Type 0} {b′ : List ℕ} (put : A → List ℕ) (k n i r : ℕ) (xs : List A) (y : A) (next : State) → i < 10 → getD (sections sh st) i [] ≡ flat put xs → getD (lengths sh) i 0 ≡ k * n → 0 < k → Even put k xs → length (put y) ≡ k → r < n → set (sections sh st) i (flat put (set xs r y)) ≡ sections sh next → b′ ≡ splice b (startOf sh i + k * r) (put y) → Laid sh next b′
+  put-place put k n i r xs y next h s z p f e j q w =
+      let m : length xs ≡ n = places-row put k xs n p f (ap length (sym s) ∙ long-at l i ∙ z) in
+      let u : r < length xs = omega arith in
+      let v : k * r + length (put y) ≤ getD (lengths sh) i 0 = omega (arith, within k r n j) in
+      put-in l next i (k * r) (startOf sh i + k * r) (put y) h refl v
+      (ap (λ (x : List ℕ). set (sections sh st) i (splice x (k * r) (put y))) s ∙ ap (set (sections sh st) i) (set-row put k xs r y f e u) ∙ q) w
+
+  pub put-views : {b′ : List ℕ} (xs : List ℕ) → length xs ≡ sh .s → b′ ≡ splice b (startOf sh 1) (flat (le 4) xs) → Laid sh (withGVec st xs) b′
+  unfolding headSection
+  put-views xs e = put-all l (withGVec st xs) 1 (startOf sh 1) (flat (le 4) xs) (lit< tt) refl (long-row (le 4) 4 xs (even-views xs) ∙ ap (λ (n : ℕ). 4 * n) e) refl
+
+  pub put-heard : {b′ : List ℕ} (r : ℕ) (p : Option ℕ) → r < sh .n → b′ ≡ splice b (startOf sh 2 + 9 * r) (pointBytes p) → Laid sh (withHeard st (set (st .heard) r p)) b′
+  unfolding headSection
+  put-heard r p h = put-place pointBytes 9 (sh .n) 2 r (st .heard) p (withHeard st (set (st .heard) r p)) (lit< tt) refl refl (lit< tt) (even-points (st .heard)) (point-long p) h refl
+
+  pub put-vote : {b′ : List ℕ} (r : ℕ) (v : Vote) → Even (voteBytes (sh .c)) (voteLength (sh .c)) (st .votes) → length (v .log) ≤ sh .c → r < sh .n → b′ ≡ splice b (startOf sh 7 + voteLength (sh .c) * r) (voteBytes (sh .c) (some v)) → Laid sh (withVotes st (set (st .votes) r (some v))) b′
+  unfolding headSection
+  put-vote r v f e h = put-place (voteBytes (sh .c)) (voteLength (sh .c)) (sh .n) 7 r (st .votes) (some v) (withVotes st (set (st .votes) r (some v))) (lit< tt) refl refl (omega arith) f (vote-long (sh .c) v e) h refl
+
+  pub put-reply : {b′ : List ℕ} (j : ℕ) (es : List Entry) → Even (replyBytes (sh .c)) (replyLength (sh .c)) (st .replies) → length es ≤ sh .c → j < sh .s → b′ ≡ splice b (startOf sh 9 + replyLength (sh .c) * j) (replyBytes (sh .c) (some es)) → Laid sh (withReplies st (set (st .replies) j (some es))) b′
+  unfolding headSection
+  put-reply j es f e h = put-place (replyBytes (sh .c)) (replyLength (sh .c)) (sh .s) 9 j (st .replies) (some es) (withReplies st (set (st .replies) j (some es))) (lit< tt) refl refl (omega arith) f (reply-long (sh .c) es e) h refl
+
+  -- zeros over a section of which zeros are the form
+  put-zeros : {b′ : List ℕ} (next : State) (i n : ℕ) (x : List ℕ) → i < 10 → x ≡ zeroBytes n → n ≡ getD (lengths sh) i 0 → set (sections sh st) i x ≡ sections sh next → b′ ≡ splice b (startOf sh i) (zeroBytes n) → Laid sh next b′
+  put-zeros next i n x h e r q w = put-all l next i (startOf sh i) x h refl (ap length e ∙ length-replicate {A = ℕ} n 0 ∙ r) q (w ∙ ap (splice b (startOf sh i)) (sym e))
+
+  pub clear-heard : {b′ : List ℕ} → b′ ≡ splice b (startOf sh 2) (replicate (9 * sh .n) 0) → Laid sh (withHeard st (replicate (sh .n) none)) b′
+  unfolding headSection
+  clear-heard = put-zeros (withHeard st (replicate (sh .n) none)) 2 (9 * sh .n) (flat pointBytes (replicate (sh .n) none)) (lit< tt) (heard-zeros (sh .n)) refl refl
+
+  pub clear-votes : {b′ : List ℕ} → b′ ≡ splice b (startOf sh 7) (replicate (voteLength (sh .c) * sh .n) 0) → Laid sh (withVotes st (replicate (sh .n) none)) b′
+  unfolding headSection
+  clear-votes = put-zeros (withVotes st (replicate (sh .n) none)) 7 (voteLength (sh .c) * sh .n) (flat (voteBytes (sh .c)) (replicate (sh .n) none)) (lit< tt) (votes-zeros (sh .c) (sh .n)) refl refl
+
+  pub clear-replies : {b′ : List ℕ} → b′ ≡ splice b (startOf sh 9) (replicate (replyLength (sh .c) * sh .s) 0) → Laid sh (withReplies st (replicate (sh .s) none)) b′
+  unfolding headSection
+  clear-replies = put-zeros (withReplies st (replicate (sh .s) none)) 9 (replyLength (sh .c) * sh .s) (flat (replyBytes (sh .c)) (replicate (sh .s) none)) (lit< tt) (replies-zeros (sh .c) (sh .s)) refl refl
+
+  -- ---- the own vote, of a state on the way whose three numbers fit their bytes
+  pub put-own-vote : {b′ : List ℕ} → Even (voteBytes (sh .c)) (voteLength (sh .c)) (st .votes) → length (st .log) ≤ sh .c → st .replica < sh .n → st .replica < 256 → st .normal < 256 ^ 4 → st .sync < 256 ^ 8 → b′ ≡ splice b (startOf sh 7 + voteLength (sh .c) * num b 1 1) (ownBytes sh b) → Laid sh (withVotes st (set (st .votes) (st .replica) (some (record { normal = st .normal; sync = st .sync; log = st .log })))) b′
+  unfolding ownBytes voteBytes
+  put-own-vote f e h fr fn fs w =
+      let er : num b 1 1 ≡ st .replica = get-head l 1 1 1 (st .replica) (lit< tt) (simp length-le) (lit≤ tt) refl fr in
+      let en : num b 12 4 ≡ st .normal = get-head l 5 12 4 (st .normal) (lit< tt) (simp length-le) (lit≤ tt) refl fn in
+      let es : num b 24 8 ≡ st .sync = get-head l 7 24 8 (st .sync) (lit< tt) (simp length-le) (lit≤ tt) refl fs in
+      put-vote (st .replica) (record { normal = st .normal; sync = st .sync; log = st .log }) f e h (w ∙ rw (er, en, es, log-part l))
+
+-- ---- the views that stand in other bytes
+
+pub views-in : (src : List ℕ) (at n : ℕ) → Bytes src → at + 4 * n ≤ length src → part src at (4 * n) ≡ flat (le 4) (items (λ a. num src a 4) 4 at n)
+unfolding part
+views-in src at n bs h =
+    let vs = items (λ a. num src a 4) 4 at n in
+    let k : length (flat (le 4) vs) ≡ 4 * n = long-row (le 4) 4 vs (even-views vs) ∙ ap (λ (m : ℕ). 4 * m) (length-items (λ a. num src a 4) 4 at n) in
+    ap (take (4 * n)) (sym (peel-all (exact-number 4) src at n bs h)) ∙ take-at (flat (le 4) vs) (drop (at + 4 * n) src) (4 * n) k
+
+-- ---- what is kept at a place, by its reader
+
+point-is : (b : List ℕ) (a p : ℕ) → pointAt b a ≡ some p → num b (a + 1) 8 ≡ p
+unfolding pointAt pick
+point-is b a p e = go (eqb (num b a 1) 0) e
+  where
+    go : (t : Bool) → pick t none (some (num b (a + 1) 8)) ≡ some p → num b (a + 1) 8 ≡ p
+    go true q = absurd (let z : _≡_ {A = ℕ} 0 1 = cc in omega arith)
+    go false q = cc
+
+vote-is : (c : ℕ) (b : List ℕ) (a : ℕ) (v : Vote) → voteAt c b a ≡ some v → (num b (a + 1) 4 ≡ v .normal) × (num b (a + 5) 8 ≡ v .sync)
+unfolding voteAt pick
+vote-is c b a v e = go (eqb (num b a 1) 0) e
+  where
+    w : Vote
+    w = record { normal = num b (a + 1) 4; sync = num b (a + 5) 8; log = tableAt c b (a + 13) }
+
+    go : (t : Bool) → pick t none (some w) ≡ some v → (num b (a + 1) 4 ≡ v .normal) × (num b (a + 5) 8 ≡ v .sync)
+    go true q = absurd (let z : _≡_ {A = ℕ} 0 1 = cc in omega arith)
+    go false q = let r : w ≡ v = cc in (ap (λ (x : Vote). x .normal) r, ap (λ (x : Vote). x .sync) r)
+
+-- the table in a vote, and in a reply
+vote-body : (c : ℕ) (v : Vote) → length (v .log) ≤ c → part (voteBytes c (some v)) 13 (tableLength c) ≡ tableBytes c (v .log)
+unfolding voteBytes
+vote-body c v h =
+    let n = tableLength c in
+    part-past (le 1 1) (le 4 (v .normal) ++ (le 8 (v .sync) ++ tableBytes c (v .log))) 1 13 n (length-le 1 1) (lit≤ tt)
+    ∙ part-past (le 4 (v .normal)) (le 8 (v .sync) ++ tableBytes c (v .log)) 4 12 n (length-le 4 (v .normal)) (lit≤ tt)
+    ∙ part-past (le 8 (v .sync)) (tableBytes c (v .log)) 8 8 n (length-le 8 (v .sync)) (lit≤ tt)
+    ∙ part-whole (tableBytes c (v .log)) n (omega (arith, table-long c (v .log) h))
+
+reply-body : (c : ℕ) (es : List Entry) → length es ≤ c → part (replyBytes c (some es)) 1 (tableLength c) ≡ tableBytes c es
+unfolding replyBytes
+reply-body c es h = part-past (le 1 1) (tableBytes c es) 1 1 (tableLength c) (length-le 1 1) (lit≤ tt) ∙ part-whole (tableBytes c es) (tableLength c) (omega (arith, table-long c es h))
+
+-- ---- read
+
+module _ {sh : Shape} {st : State} {b : List ℕ} (s : Stands sh st b) where
+  pub even-votes : Even (voteBytes (sh .c)) (voteLength (sh .c)) (st .votes)
+  even-votes = all-1 (vote (sh .c) .long) (st .votes) (stands-fits s .votes)
+
+  pub even-replies : Even (replyBytes (sh .c)) (replyLength (sh .c)) (st .replies)
+  even-replies = all-1 (reply (sh .c) .long) (st .replies) (stands-fits s .replies)
+
+  pub view-at : (j : ℕ) → j < sh .s → num b (startOf sh 1 + 4 * j) 4 ≡ getD (st .gVec) j 0
+  view-at j h =
+      let m : length (st .gVec) ≡ sh .s = stands-fits s .gVecPlaces in
+      row-at (number 4) b (startOf sh 1) (st .gVec) _ 0 j (stands-fits s .gVec) (drop-all (stands-laid s) 1 (startOf sh 1) (lit< tt) refl) (omega arith)
+
+  pub heard-at : (r : ℕ) → r < sh .n → pointAt b (startOf sh 2 + 9 * r) ≡ getD (st .heard) r none
+  heard-at r h =
+      let m : length (st .heard) ≡ sh .n = stands-fits s .heardPlaces in
+      row-at point b (startOf sh 2) (st .heard) _ none r (stands-fits s .heard) (drop-all (stands-laid s) 2 (startOf sh 2) (lit< tt) refl) (omega arith)
+
+  pub vote-at : (r : ℕ) → r < sh .n → voteAt (sh .c) b (startOf sh 7 + voteLength (sh .c) * r) ≡ getD (st .votes) r none
+  vote-at r h =
+      let m : length (st .votes) ≡ sh .n = stands-fits s .votePlaces in
+      row-at (vote (sh .c)) b (startOf sh 7) (st .votes) _ none r (stands-fits s .votes) (drop-all (stands-laid s) 7 (startOf sh 7) (lit< tt) refl) (omega arith)
+
+  pub reply-at : (j : ℕ) → j < sh .s → replyAt (sh .c) b (startOf sh 9 + replyLength (sh .c) * j) ≡ getD (st .replies) j none
+  reply-at j h =
+      let m : length (st .replies) ≡ sh .s = stands-fits s .replyPlaces in
+      row-at (reply (sh .c)) b (startOf sh 9) (st .replies) _ none j (stands-fits s .replies) (drop-all (stands-laid s) 9 (startOf sh 9) (lit< tt) refl) (omega arith)
+
+  -- ---- of what is kept
+  pub heard-point : (r p : ℕ) → r < sh .n → getD (st .heard) r none ≡ some p → num b (startOf sh 2 + 9 * r + 1) 8 ≡ p
+  heard-point r p h e = point-is b (startOf sh 2 + 9 * r) p (heard-at r h ∙ e)
+
+  -- inside place r of a section that is a row of n things, each of k bytes
+  get-place : {A : Type 0} (put : A → List ℕ) (k n i r j m : ℕ) (xs : List A) (d : A) → i < 10 → getD (sections sh st) i [] ≡ flat put xs → getD (lengths sh) i 0 ≡ k * n → Even put k xs → length xs ≡ n → r < n → j + m ≤ k → part b (startOf sh i + k * r + j) m ≡ part (put (getD xs r d)) j m
+  get-place put k n i r j m xs d h q z f e u v =
+      let w : k * r + j + m ≤ getD (lengths sh) i 0 = omega (arith, within k r n u) in
+      let y : r < length xs = omega arith in
+      get-in (stands-laid s) i (k * r + j) (startOf sh i + k * r + j) m h (add-assoc (startOf sh i) (k * r) j) w
+      ∙ ap (λ (x : List ℕ). part x (k * r + j) m) q
+      ∙ get-row put k d xs r j m f y v
+
+  module _ (r : ℕ) (v : Vote) (h : r < sh .n) (e : getD (st .votes) r none ≡ some v) where
+    pub vote-normal : num b (startOf sh 7 + voteLength (sh .c) * r + 1) 4 ≡ v .normal
+    vote-normal = vote-is (sh .c) b (startOf sh 7 + voteLength (sh .c) * r) v (vote-at r h ∙ e) .0
+
+    pub vote-sync : num b (startOf sh 7 + voteLength (sh .c) * r + 5) 8 ≡ v .sync
+    vote-sync = vote-is (sh .c) b (startOf sh 7 + voteLength (sh .c) * r) v (vote-at r h ∙ e) .1
+
+    pub vote-fits : VoteIs (sh .c) v
+    vote-fits =
+        let m : length (st .votes) ≡ sh .n = stands-fits s .votePlaces in
+        let f : VoteFits (sh .c) (getD (st .votes) r none) = all-at (VoteFits (sh .c)) none (st .votes) (stands-fits s .votes) r (omega arith) in
+        rw e at f
+
+    pub vote-table : part b (startOf sh 7 + voteLength (sh .c) * r + 13) (tableLength (sh .c)) ≡ tableBytes (sh .c) (v .log)
+    vote-table =
+        get-place (voteBytes (sh .c)) (voteLength (sh .c)) (sh .n) 7 r 13 (tableLength (sh .c)) (st .votes) none (lit< tt) refl refl even-votes (stands-fits s .votePlaces) h (omega arith)
+        ∙ ap (λ (x : Option Vote). part (voteBytes (sh .c) x) 13 (tableLength (sh .c))) e
+        ∙ vote-body (sh .c) v (vote-fits .log .room)
+
+  module _ (j : ℕ) (es : List Entry) (h : j < sh .s) (e : getD (st .replies) j none ≡ some es) where
+    pub reply-fits : TableFits (sh .c) es
+    reply-fits =
+        let m : length (st .replies) ≡ sh .s = stands-fits s .replyPlaces in
+        let f : ReplyFits (sh .c) (getD (st .replies) j none) = all-at (ReplyFits (sh .c)) none (st .replies) (stands-fits s .replies) j (omega arith) in
+        rw e at f
+
+    pub reply-table : part b (startOf sh 9 + replyLength (sh .c) * j + 1) (tableLength (sh .c)) ≡ tableBytes (sh .c) es
+    reply-table =
+        get-place (replyBytes (sh .c)) (replyLength (sh .c)) (sh .s) 9 j 1 (tableLength (sh .c)) (st .replies) none (lit< tt) refl refl even-replies (stands-fits s .replyPlaces) h (omega arith)
+        ∙ ap (λ (x : Option (List Entry)). part (replyBytes (sh .c) x) 1 (tableLength (sh .c))) e
+        ∙ reply-body (sh .c) es (reply-fits .room)
+
+  pub votes-held : count (λ r. isSome (voteAt (sh .c) b (startOf sh 7 + voteLength (sh .c) * r))) (sh .n) ≡ held (st .votes)
+  votes-held = count-like _ _ (sh .n) (λ r h. ap isSome (vote-at r h)) ∙ ap (count (λ i. isSome (getD (st .votes) i none))) (sym (stands-fits s .votePlaces))
+
+  pub replies-held : count (λ j. isSome (replyAt (sh .c) b (startOf sh 9 + replyLength (sh .c) * j))) (sh .s) ≡ held (st .replies)
+  replies-held = count-like _ _ (sh .s) (λ j h. ap isSome (reply-at j h)) ∙ ap (count (λ i. isSome (getD (st .replies) i none))) (sym (stands-fits s .replyPlaces))

@@ -1,0 +1,19 @@
+-- `places::vote_sync` meets its contract. Assumes nothing.
+use borrow.Author.Needs.{needs}
+use Rattle.places.proofs.vote_sync.Statement.{statement}
+use Rattle.places.proofs.vote_sync.Tie as tie
+
+vote-place-requires : tie.Need-vote-place-requires
+vote-place-requires c κs = search needs
+
+add-get64 : tie.Need-add-get64
+add-get64 c = search needs
+
+get64-requires : tie.Need-get64-requires
+get64-requires c κs = search needs
+
+returns : tie.Need-returns
+returns c = cc
+
+pub vote-sync-spec : {M : Type 1} → statement M
+vote-sync-spec = tie.close (tie.spec vote-place-requires add-get64 get64-requires returns)

@@ -1,0 +1,172 @@
+-- When the writer's parts are formed, and what it answers. Assumes nothing.
+use Prim.Native.Nat.{ℕ, zero, suc, _+_, _*_, _/_, _^_, _≤_, _<_}
+use mathlib.Core.Path.{_≡_, refl, sym, ap, ap₂, _∙_}
+use mathlib.Core.Bool.{Bool, true, false, _&&_, not}
+use mathlib.Core.List.{List, [], _∷_}
+use native.Mathlib.Omega.{arith}
+use lib.ListN.{length, getD}
+use lib.Dec.{eqb, ltb, leb}
+use borrow.Author.Tests.{eq-eqb, lt-ltb, ltb-true, le-leb, lt-leb, not-true, not-false}
+use Rattle.octets.specs.Bytes.{num, items, splice}
+use Rattle.octets.proofs.Laws.{Bytes, num-lt}
+use Rattle.octets.proofs.Codecs.{length-items, getD-items}
+use Rattle.rules.specs.Choice.{pick, allOf, every}
+use Rattle.rules.specs.Entry.{noEntry, entryOf}
+use Rattle.rules.specs.Group.{sizesFit}
+use Rattle.rules.specs.Wire.{wireBytes, bare, viewsIn, numbersIn, numbersOf}
+use Rattle.rules.specs.Wire as Wires
+use Rattle.rules.specs.Read.{entryAt, messageWrong, entryWide, wide, isFine, formed}
+use Rattle.rules.specs.Read as Reads
+use Rattle.rules.specs.Write.{wireFrom, partsFormed, Written, writes}
+use Rattle.rules.specs.declared.Entry.{Entry}
+use Rattle.rules.specs.declared.Message.{Message}
+use Rattle.rules.specs.declared.Verdict.{Verdict}
+use Rattle.rules.specs.declared.Verdict.the-variants.{Fine, Wrong}
+use Rattle.rules.proofs.Tests.{and-l, and-r, and-both, split, join, _also_, each-of, all-items, at-all, sizes}
+use Rattle.rules.proofs.Verdicts.{not-fine, is-fine, verdict-ext}
+use Rattle.rules.proofs.Messages.{formed-fits}
+use Rattle.rules.proofs.Case.{PartsAre, parts-are}
+use Rattle.wire.specs.declared.Parts.{Parts}
+use Rattle.wire.specs.declared.Said.{Said}
+use Rattle.wire.specs.Parts.{numberOf, fieldsFrom, saidOf, partsFrom, sizeOf, Room}
+use Rattle.wire.specs.Rows.{rowIn}
+use Rattle.wire.proofs.Reader.{numbers-few}
+use Rattle.wire.proofs.Writer.{length-bytes}
+
+-- the parts that a case says, and its blocks
+abbrev partsSaid : Said → List ℕ → List ℕ → Parts
+partsSaid p views entries =
+    record { header = p .header; zeros = 0; views = length views / 4; numbers = p .numbers; first = p .first; second = p .second; third = p .third; entries = length entries / 24 }
+
+module _ (n s : ℕ) (m : Message) (views entries : List ℕ) where
+  abbrev count : ℕ
+  count = length entries / 24
+
+  refuses : (partsFormed n s m views entries ≡ true → ⊥) → false ≡ partsFormed n s m views entries
+  refuses h = go (partsFormed n s m views entries) refl
+    where
+      go : (t : Bool) → partsFormed n s m views entries ≡ t → false ≡ partsFormed n s m views entries
+      go true e = absurd (h e)
+      go false e = sym e
+
+  pub views-off : (4 * (length views / 4) ≡ length views → ⊥) → false ≡ partsFormed n s m views entries
+  views-off h = refuses (λ f. h (parts-are n s m views entries f .wholeViews))
+
+  pub entries-off : (24 * count ≡ length entries → ⊥) → false ≡ partsFormed n s m views entries
+  entries-off h = refuses (λ f. h (parts-are n s m views entries f .wholeEntries))
+
+  pub count-off : 4294967296 ≤ count → false ≡ partsFormed n s m views entries
+  unfolding formed wide wireFrom
+  count-off h =
+      refuses (λ f.
+      let w = and-l _ _ (parts-are n s m views entries f .right) in
+      let l : length (items (entryAt entries) 24 0 count) < 4294967296 = ltb-true _ _ (split _ w 3) in
+      omega (arith, length-items (entryAt entries) 24 0 count))
+
+  -- the verdict on the message of the parts, as the reader's function gives it
+  verdict-is : messageWrong n s (Reads.fieldsOf (wireFrom m views entries)) (length (wireFrom m views entries .entries)) (length (wireFrom m views entries .entries)) ≡ messageWrong n s (fieldsFrom (partsFrom m views entries) (rowIn entries 0)) count count
+  unfolding Reads.fieldsOf wireFrom
+  verdict-is =
+      simp length-items
+      (verdict-ext n s (fieldsFrom (partsFrom m views entries) (rowIn entries 0)) (λ i. getD (numbersOf m) i 0) (numberOf (partsFrom m views entries)) (entryOf (items (entryAt entries) 24 0 count)) (rowIn entries 0) same count count (λ j l. getD-items (entryAt entries) 24 0 count j noEntry l))
+    where
+      same : (i : ℕ) → i < numbersIn (Wires.headerIn m .kind) → getD (numbersOf m) i 0 ≡ numberOf (partsFrom m views entries) i
+      same zero h = refl
+      same (suc zero) h = refl
+      same (suc (suc zero)) h = refl
+      same (suc (suc (suc i))) h = absurd (omega (arith, numbers-few (Wires.headerIn m .kind)))
+
+  module _ (p : Said) (e : p ≡ saidOf m) where
+    pub tag-off : (p .tag ≡ p .header .kind → ⊥) → false ≡ partsFormed n s m views entries
+    tag-off h = refuses (λ f. h (rw e (parts-are n s m views entries f .kind)))
+
+    module _ (v : Verdict) (q : v ≡ messageWrong n s (fieldsFrom (partsSaid p views entries) (rowIn entries 0)) count count) where
+      given : v ≡ messageWrong n s (Reads.fieldsOf (wireFrom m views entries)) (length (wireFrom m views entries .entries)) (length (wireFrom m views entries .entries))
+      given = rw e at q ∙ sym verdict-is
+
+      pub wrong-off : (a u : ℕ) → v ≡ Wrong a u → false ≡ partsFormed n s m views entries
+      unfolding formed
+      wrong-off a u h = refuses (λ f. not-fine a u (sym h ∙ given ∙ is-fine _ (and-r (wide (wireFrom m views entries)) _ (parts-are n s m views entries f .right))))
+
+      module _ (bv : Bytes views) (be : Bytes entries) (wv : 4 * (length views / 4) ≡ length views) (we : 24 * count ≡ length entries) (few : count < 4294967296) (numbers : p .numbers ≤ 3) (view : p .header .view < 4294967296) (first : p .first < 18446744073709551616) (second : p .second < 18446744073709551616) (third : p .third < 18446744073709551616) where
+        number-wide : (i : ℕ) → i < length (numbersOf m) → ltb (getD (numbersOf m) i 0) (2 ^ 64) ≡ true
+        number-wide zero h = lt-ltb _ _ (rw e at first)
+        number-wide (suc zero) h = lt-ltb _ _ (rw e at second)
+        number-wide (suc (suc zero)) h = lt-ltb _ _ (rw e at third)
+        number-wide (suc (suc (suc i))) h = let l : length (numbersOf m) ≤ 3 = rw e at numbers in absurd (omega arith)
+
+        view-wide : (i : ℕ) → i < length views / 4 → ltb (num views (0 + 4 * i) 4) (2 ^ 32) ≡ true
+        view-wide i h = lt-ltb _ _ (num-lt views (0 + 4 * i) 4 bv (omega arith))
+
+        entry-wide : (i : ℕ) → i < count → entryWide (entryAt entries (0 + 24 * i)) ≡ true
+        unfolding entryAt
+        entry-wide i h =
+            and-both _ _ (lt-ltb _ _ (num-lt entries (0 + 24 * i + 8) 8 be (omega arith))) (lt-ltb _ _ (num-lt entries (0 + 24 * i + 16) 4 be (omega arith)))
+
+        parts-wide : wide (wireFrom m views entries) ≡ true
+        unfolding wide wireFrom
+        parts-wide =
+            let c : length (items (entryAt entries) 24 0 count) < 4294967296 = omega (arith, length-items (entryAt entries) 24 0 count) in
+            join _
+            (lt-ltb _ _ (rw e at view)
+            also each-of _ _ (all-items (λ v. ltb v (2 ^ 32) ≡ true) (λ a. num views a 4) 4 0 (length views / 4) view-wide)
+            also each-of _ _ (at-all (λ v. ltb v (2 ^ 64) ≡ true) 0 (numbersOf m) number-wide)
+            also lt-ltb _ _ c
+            also each-of _ _ (all-items (λ x. entryWide x ≡ true) (entryAt entries) 24 0 count entry-wide)
+            also tt)
+
+        pub formed-on : p .tag ≡ p .header .kind → v ≡ Fine → true ≡ partsFormed n s m views entries
+        unfolding partsFormed formed
+        formed-on t f =
+            let fine : isFine (messageWrong n s (Reads.fieldsOf (wireFrom m views entries)) (length (wireFrom m views entries .entries)) (length (wireFrom m views entries .entries))) ≡ true = rw (sym given ∙ f) in
+            sym (and-both _ _ (eq-eqb _ _ (rw e at t)) (and-both _ _ (eq-eqb _ _ wv) (and-both _ _ (eq-eqb _ _ we) (and-both _ _ parts-wide fine))))
+
+  -- ---- the writer's answers
+  module _ (out : List ℕ) (t : Bool) (et : t ≡ sizesFit n s) where
+    pub sizes-wrong : not t ≡ true → record { number = 1; sent = 0; out = out } ≡ writes n s m views entries out
+    unfolding writes pick
+    sizes-wrong h = rw (sym et ∙ not-true t h)
+
+    module _ (right : not t ≡ false) (r : Bool) (er : r ≡ partsFormed n s m views entries) where
+      fit : sizesFit n s ≡ true
+      fit = sym et ∙ not-false t right
+
+      pub parts-wrong : not r ≡ true → record { number = 2; sent = 0; out = out } ≡ writes n s m views entries out
+      unfolding writes pick
+      parts-wrong h = rw (fit, sym er ∙ not-true r h)
+
+      module _ (ok : not r ≡ false) where
+        are : PartsAre n s m views entries
+        are = parts-are n s m views entries (sym er ∙ not-false r ok)
+
+        views-most : (b : Bool) (k : ℕ) → pick b 0 k ≤ k
+        unfolding pick
+        views-most true k = omega arith
+        views-most false k = omega arith
+
+        pub small : (length views ≤ 32) × (length entries < 24 * 2 ^ 32)
+        unfolding wireFrom
+        small =
+            let f = formed-fits n s (wireFrom m views entries) fit (are .right) in
+            let a : length (items (λ x. num views x 4) 4 0 (length views / 4)) ≡ viewsIn s (Wires.headerIn m .kind) = f .viewsCount in
+            let k : viewsIn s (Wires.headerIn m .kind) ≤ s = views-most (bare (Wires.headerIn m .kind)) s in
+            let b : length (items (entryAt entries) 24 0 count) < 256 ^ 4 = f .entriesFew in
+            (omega (arith, a, length-items (λ x. num views x 4) 4 0 (length views / 4), are .wholeViews, sizes n s fit .groups), omega (arith, length-items (entryAt entries) 24 0 count, are .wholeEntries))
+
+        pub room-for : (size : ℕ) → size ≡ sizeOf m views entries → size ≤ length out → Room m views entries 0 (length out)
+        room-for size e h =
+            record { wholeViews = are .wholeViews; wholeEntries = are .wholeEntries; fewViews = small .0; fewEntries = small .1; room = omega arith }
+
+        module _ (bv : Bytes views) (be : Bytes entries) where
+          pub no-room : (size : ℕ) → size ≡ sizeOf m views entries → length out < size → record { number = 9; sent = 0; out = out } ≡ writes n s m views entries out
+          unfolding writes pick
+          no-room size e h =
+              let l = length-bytes m views entries (are .wholeViews) (are .wholeEntries) bv be in
+              rw (fit, sym er ∙ not-false r ok, lt-leb (length (wireBytes (wireFrom m views entries))) (length out) (omega arith))
+
+          pub all-done : (size end : ℕ) (o : List ℕ) → size ≡ sizeOf m views entries → size ≤ length out → end ≡ 0 + length (wireBytes (wireFrom m views entries)) → o ≡ splice out 0 (wireBytes (wireFrom m views entries)) → record { number = 0; sent = end; out = o } ≡ writes n s m views entries out
+          unfolding writes pick
+          all-done size end o e h q w =
+              let l = length-bytes m views entries (are .wholeViews) (are .wholeEntries) bv be in
+              let k : end ≡ length (wireBytes (wireFrom m views entries)) = omega arith in
+              rw (fit, sym er ∙ not-false r ok, le-leb (length (wireBytes (wireFrom m views entries))) (length out) (omega arith), k, w)

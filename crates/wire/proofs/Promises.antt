@@ -1,0 +1,26 @@
+-- What the two public statements promise of all inputs. Assumes nothing.
+use Prim.Native.Nat.{ℕ}
+use mathlib.Core.Path.{_≡_, sym, ap, _∙_}
+use mathlib.Core.List.{List}
+use Rattle.octets.specs.Bytes.{part}
+use Rattle.rules.specs.Read.{decoded}
+use Rattle.rules.specs.Write.{Written, written, writes}
+use Rattle.rules.specs.declared.Answer.{Answer}
+use Rattle.rules.specs.declared.Answer.the-variants.{Done}
+use Rattle.rules.specs.declared.Message.{Message}
+use Rattle.rules.proofs.Case.{writes-read}
+
+module _ (n s : ℕ) where
+  -- bytes are read in one way
+  pub read-one : (b : List ℕ) (x y : Message) → x ≡ decoded n s b → y ≡ decoded n s b → x ≡ y
+  read-one b x y p q = p ∙ sym q
+
+  module _ (m : Message) (views entries out : List ℕ) where
+    -- a message is written in one way: one answer, and one buffer
+    pub write-one : (x y : Answer) (o u : List ℕ) → written x o ≡ writes n s m views entries out → written y u ≡ writes n s m views entries out → written x o ≡ written y u
+    write-one x y o u p q = p ∙ sym q
+
+    -- what was written is read as what it was written from
+    pub read-written : (sent : ℕ) (o : List ℕ) (x : Message) → written (Done sent) o ≡ writes n s m views entries out → x ≡ decoded n s (part o 0 sent) → x ≡ m
+    read-written sent o x p q =
+        q ∙ ap (λ (w : Written). decoded n s (part (w .out) 0 (w .sent))) p ∙ writes-read n s m views entries out (sym (ap (λ (w : Written). w .number) p))

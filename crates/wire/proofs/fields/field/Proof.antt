@@ -1,0 +1,15 @@
+-- `wire::fields::field` meets its contract. Assumes nothing.
+use Rattle.wire.proofs.fields.field.Statement.{statement}
+use Rattle.wire.proofs.fields.field.Tie as tie
+use Rattle.rules.specs.Choice.{pick}
+
+returns : tie.Need-returns
+unfolding pick
+returns c = simp (c .if1 .taken)
+
+returns-2 : tie.Need-returns-2
+unfolding pick
+returns-2 c = simp (c .if1 .left)
+
+pub field-spec : {M : Type 1} → statement M
+field-spec = tie.close (tie.spec returns returns-2)

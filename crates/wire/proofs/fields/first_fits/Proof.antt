@@ -1,0 +1,14 @@
+-- `wire::fields::first_fits` meets its contract. Assumes nothing.
+use borrow.Author.Needs.{needs}
+use Rattle.wire.proofs.fields.first_fits.Statement.{statement}
+use Rattle.wire.proofs.fields.first_fits.Tie as tie
+use Rattle.wire.proofs.Rows.{all-three}
+
+cast-normal : tie.Need-cast-normal
+cast-normal c = search needs
+
+returns : tie.Need-returns
+returns c = simp all-three
+
+pub first-fits-spec : {M : Type 1} → statement M
+first-fits-spec = tie.close (tie.spec cast-normal returns)

@@ -1,0 +1,3 @@
+-- What the functions of the crate pass between them.
+pub mod Parts
+pub mod Rows

@@ -1,0 +1,137 @@
+// The messages of document 01: read from bytes, and written to bytes.
+mod decode;
+mod fields;
+mod kinds;
+mod log;
+mod put;
+
+ghost use mathlib.Core.Path.{_≡_};
+ghost use Prim.Native.Nat.{ℕ, _+_, _*_, _^_, _≤_, _<_};
+ghost use lib.ListN.{length};
+ghost use Rattle.rules.specs.Read as reading;
+ghost use Rattle.rules.specs.Wire as kinds;
+ghost use Rattle.rules.specs.Write as writing;
+use kinds::entries_at;
+use kinds::length_for;
+use rules::Answer;
+use rules::Header;
+use rules::Message;
+use rules::Verdict;
+
+// What a message says beside its entries: the header, the three zeros, the three counts, and its numbers, 0 where it has none.
+pub struct Parts {
+    pub header: Header,
+    pub zeros: u64,
+    pub views: u64,
+    pub numbers: u64,
+    pub first: u64,
+    pub second: u64,
+    pub third: u64,
+    pub entries: u64,
+}
+
+// What a message's case says: its number, the header, how many numbers it has, and those, 0 where it has none.
+pub struct Said {
+    pub tag: u8,
+    pub header: Header,
+    pub numbers: u64,
+    pub first: u64,
+    pub second: u64,
+    pub third: u64,
+}
+
+// How many entries from `from` on the bytes have room for.
+fn whole_in(len: usize, from: usize) -> usize
+    ensures { λ r. ⌜ r ≡ reading.wholeIn len from ⌝ }
+{
+    if len <= from {
+        return 0;
+    }
+    (len - from) / 24
+}
+
+// The message that the bytes are, or where they stop being one.
+pub fn read(n: u64, s: u64, b: &[u8]) -> Message
+    ensures { λ r. ⌜ r ≡ reading.decoded n s (now (b .entry)) ⌝ }
+{
+    if !group::sizes_fit(n, s) {
+        return Message::WrongSizes;
+    }
+    let p = decode::parts_at(s, b);
+    let h = p.header;
+    let count = p.entries as usize;
+    let from = entries_at(s, h.kind) + 4;
+    let whole = whole_in(b.len(), from);
+    let seen = log::smaller(count, whole + 1);
+    let v = log::message_wrong(n, s, p, b, from, whole, seen);
+    decode::judged(
+        b.len(),
+        length_for(s, h.kind, count),
+        decode::case_with(p),
+        v,
+    )
+}
+
+// Whether the case is that of its header, the blocks are whole, and the message is well formed.
+fn parts_formed(n: u64, s: u64, m: Message, views: &[u8], entries: &[u8]) -> bool
+    requires { ⌜ s ≤ 8 ⌝ }
+    ensures { λ r. ⌜ r ≡ writing.partsFormed n s m (now (views .entry)) (now (entries .entry)) ⌝ }
+{
+    let said = put::said_of(m);
+    let header = said.header;
+    let items = views.len() / 4;
+    let count = entries.len() / 24;
+    if said.tag != header.kind {
+        return false;
+    }
+    if 4 * items != views.len() {
+        return false;
+    }
+    if 24 * count != entries.len() {
+        return false;
+    }
+    if 4294967296 <= count {
+        return false;
+    }
+    let p = Parts {
+        header,
+        zeros: 0,
+        views: items as u64,
+        numbers: said.numbers,
+        first: said.first,
+        second: said.second,
+        third: said.third,
+        entries: count as u64,
+    };
+    let v = log::message_wrong(n, s, p, entries, 0, count, count);
+    match v {
+        Verdict::Fine => true,
+        Verdict::Wrong(_, _) => false,
+    }
+}
+
+// How long the message of these parts is.
+fn size_of(m: Message, views: usize, entries: usize) -> usize
+    requires { ⌜ (views ≤ 32) × (entries < 24 * 2 ^ 32) ⌝ }
+    ensures { λ r. ⌜ r ≡ 24 + views + 8 * length (kinds.numbersOf m) + entries ⌝ }
+{
+    let said = put::said_of(m);
+    24 + views + 8 * said.numbers as usize + entries
+}
+
+// Writes the message of these parts first into the buffer. All is tested, the room last, before a byte is written.
+pub fn write(n: u64, s: u64, m: Message, views: &[u8], entries: &[u8], out: &mut [u8]) -> Answer
+    ensures { λ r. ⌜ writing.written r (now (out .exit)) ≡ writing.writes n s m (now (views .entry)) (now (entries .entry)) (now (out .entry)) ⌝ }
+{
+    if !group::sizes_fit(n, s) {
+        return Answer::Refused(1);
+    }
+    if !parts_formed(n, s, m, views, entries) {
+        return Answer::Refused(2);
+    }
+    if out.len() < size_of(m, views.len(), entries.len()) {
+        return Answer::Refused(9);
+    }
+    let end = put::put_message(out, 0, m, views, entries);
+    Answer::Done(end)
+}
