@@ -6,3 +6,4 @@ mod Writes
 pub mod Sorting
 pub mod Copies
 pub mod Sifting
+pub mod Keys

@@ -25,7 +25,7 @@ use Rattle.repeats.proofs.Laws.{repeat-distinct, distinct-repeat}
 use Rattle.repeats.proofs.Places.{spot-first, spot-second, spot-third}
 use Rattle.entries.proofs.First.{any-here, any-nowhere}
 use Rattle.logs.specs.Place.{Within}
-use Rattle.logs.proofs.Keys.{Keyed, keyed-at, key-is}
+use Rattle.entries.proofs.Keys.{Keyed, keyed-at, key-is}
 use Rattle.logs.proofs.Every.{when-not}
 use Rattle.logs.proofs.Tables.{table-run}
 

@@ -1,5 +1,4 @@
 -- The laws of logs in bytes.
-pub mod Keys
 pub mod Place
 pub mod Every
 pub mod Tables

@@ -24,7 +24,7 @@ use Rattle.repeats.specs.declared.Spots.{Spots}
 use Rattle.repeats.proofs.Laws.{First, first-to, first-is, first-agree, again, repeat-first}
 use Rattle.repeats.proofs.Places.{spot-first}
 use Rattle.logs.specs.Place.{rowAt, unfit, unfitAt}
-use Rattle.logs.proofs.Keys.{Keyed, keyed-at, seen-is, seen-like}
+use Rattle.entries.proofs.Keys.{Keyed, keyed-at, seen-is, seen-like}
 
 -- ---- the tests of one entry
 
