@@ -1,5 +1,5 @@
 -- What follows from the definitions. Round trips: a state and its bytes (Good), a message and its bytes (Messages), a case and its message (Case). The starred numbers (Cases).
--- The order, good logs, the rebuild and the merge. Runs of a group (Run, RunSafe). A good state stays good (Kept, KeptBytes).
+-- The order, good logs, the rebuild and the merge. Runs of a group (Run, RunSafe). A good state stays good (Kept, KeptBytes), and what is sent is well formed (Sent).
 pub mod Tests
 pub mod Entries
 pub mod Tables
@@ -36,3 +36,5 @@ pub mod KeptSteps
 pub mod KeptTakes
 pub mod Kept
 pub mod KeptBytes
+pub mod SentForm
+pub mod Sent

@@ -10,7 +10,7 @@ use lib.Dec.{T, T-not, ltb, eqb, ltb→lt, eqb→eq, lit<}
 use Rattle.octets.specs.Bytes.{flat}
 use Rattle.rules.specs.Choice.{pick, allOf, count, point, below, any, every, keep, leading, same}
 use Rattle.rules.specs.Group.{only}
-use Rattle.rules.specs.Entry.{entryFits, before, place, placeAll, later, stampBefore, mayFollow, leaderStamp}
+use Rattle.rules.specs.Entry.{stamped, entryFits, before, place, placeAll, later, stampBefore, mayFollow, leaderStamp}
 use Rattle.rules.specs.Log.{seenBefore, stands, goodTo, goodLog, distinct}
 use Rattle.rules.specs.Wire.{fromOutside}
 use Rattle.rules.specs.State.{State, stampsOf, notedTo, greatestTo, viewGood, heardGood, voteGood, replyGood, keptGood, countsGood}
@@ -28,7 +28,7 @@ use Rattle.rules.proofs.RunForms.{and-l, and-r, or-case, neqb→ne}
 use Rattle.rules.proofs.RunSafe.{counted-kept, Starts, last-turn, started-kept}
 
 -- three replicas, s groups
-abbrev three : ℕ → Shape
+abbrev pub three : ℕ → Shape
 three s = record { n = 3; s = s; c = 16 }
 
 -- where a run of three ends. To unfold this is to compute the run
@@ -41,7 +41,7 @@ unfolding after exec ends upd pick allOf count point below any every keep leadin
     leaderReleases followerReleases onTick onReplicaSync onSyncStatus onCommit onChangeView starts verifies keepsVote onVote onVerifyReply handle step
 end s r = after (three s) 0 r
 
-abbrev e : Entry
+abbrev pub e : Entry
 e = record { stamp = 5; command = 9; request = 1; coordinator = 3; mask = 1 }
 
 -- site i is given a message
@@ -122,7 +122,7 @@ quiet-by s (x ∷ r) t =
 
 -- site 0 takes a transaction and releases it
 abbrev releases : List Turn
-releases = outside 0 23 0 [] (6 ∷ []) [] ∷ outside 0 1 0 [] (3 ∷ 2 ∷ []) (e ∷ []) ∷ []
+releases = outside 0 23 0 [] (6 ∷ []) [] ∷ outside 0 1 0 [] (3 ∷ 2 ∷ []) (stamped 0 e ∷ []) ∷ []
 
 -- site 1 adopts it and reports
 abbrev reported : List ℕ → List Turn
@@ -141,7 +141,7 @@ abbrev votes : List ℕ → Turn
 votes vec = given 2 4 0 1 8 2 vec (0 ∷ 1 ∷ []) (e ∷ [])
 
 -- two groups: the draft waits for the other group. The point is counted before the rebuild
-abbrev early : List Turn
+abbrev pub early : List Turn
 early = votes (2 ∷ 0 ∷ []) ∷ leaves (2 ∷ 0 ∷ []) ∷ counts (0 ∷ 0 ∷ []) ∷ reported (0 ∷ 0 ∷ [])
 
 -- or after it
@@ -164,20 +164,23 @@ kept-at r v q h =
     counted-kept (three 2) 0 refl r v q 1 (e ∷ []) (record { before = r; since = []; site = 0; then = refl; held = le-of-eq (sym (h .0)) })
     (record { before = r; since = []; site = 2; then = refl; cross = h .1; drafted = sym (h .2) })
 
-early-valid : Valid (three 2) 0 early
+pub early-valid : Valid (three 2) 0 early
 unfolding end
 early-valid =
     from-group 2 _ _ tt (List·Memᴰ·head refl)
     (from-outside 2 _ _ tt tt
     (from-group 2 _ _ tt (List·Memᴰ·head refl) (reported-valid 2 (0 ∷ 0 ∷ []) (List·Memᴰ·tail (List·Memᴰ·head refl)))))
 
-early-quiet : Quiet (three 2) 0 early
+pub early-quiet : Quiet (three 2) 0 early
 unfolding end quietRun
 early-quiet = quiet-by 2 early tt
 
-early-kept : Begins 1 (e ∷ []) (after (three 2) 0 early .sites 0 .log)
+pub early-ends : (after (three 2) 0 early .sites 0 .commit ≡ 1) × (after (three 2) 0 early .sites 2 .status ≡ 3) × (after (three 2) 0 early .sites 2 .draft ≡ e ∷ [])
 unfolding end
-early-kept = kept-at early early-valid early-quiet (refl, refl, refl)
+early-ends = (refl, refl, refl)
+
+early-kept : Begins 1 (e ∷ []) (after (three 2) 0 early .sites 0 .log)
+early-kept = kept-at early early-valid early-quiet early-ends
 
 late-valid : Valid (three 2) 0 late
 unfolding end
@@ -251,9 +254,9 @@ rebuilds =
     ∷ outside 1 23 0 [] (6 ∷ []) []
     ∷ given 1 6 0 0 4 0 (0 ∷ 0 ∷ []) [] (d ∷ e ∷ [])
     ∷ outside 0 23 0 [] (7 ∷ []) []
-    ∷ outside 0 1 0 [] (1 ∷ 2 ∷ []) (e ∷ [])
+    ∷ outside 0 1 0 [] (1 ∷ 2 ∷ []) (stamped 0 e ∷ [])
     ∷ outside 0 23 0 [] (6 ∷ []) []
-    ∷ outside 0 1 0 [] (3 ∷ 2 ∷ []) (d ∷ [])
+    ∷ outside 0 1 0 [] (3 ∷ 2 ∷ []) (stamped 0 d ∷ [])
     ∷ []
 
 abbrev merges : List Turn
