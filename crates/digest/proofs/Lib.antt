@@ -1,2 +1,3 @@
 -- The laws of the digest.
 pub mod Laws
+pub mod Promises

@@ -8,3 +8,4 @@ pub mod Kept
 pub mod Spots
 pub mod Writes
 pub mod Lent
+pub mod Promises
