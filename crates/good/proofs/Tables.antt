@@ -1,0 +1,94 @@
+-- A table anywhere in bytes, read by its count as far as there is room: what the tests of its entries say. Assumes nothing.
+use Prim.Native.Nat.{ℕ, suc, _+_, _-_, _*_, _≤_, _<_, min}
+use mathlib.Core.Path.{_≡_, refl, sym, ap, ap₂, _∙_}
+use mathlib.Core.Bool.{Bool, true, false, _&&_}
+use mathlib.Core.List.{List, [], _∷_, _++_}
+use native.Mathlib.Numerals.{add-one}
+use native.Mathlib.Omega.{arith}
+use lib.ListN.{length}
+use lib.Dec.{eqb}
+use Rattle.octets.specs.Bytes.{num, items}
+use Rattle.octets.proofs.Codecs.{length-items, getD-items}
+use Rattle.rules.specs.Choice.{every, below}
+use Rattle.rules.specs.Entry.{noEntry, entryOf, stampBefore, lastStamp}
+use Rattle.rules.specs.Log.{goodTo, goodLog}
+use Rattle.rules.specs.Read.{entryAt}
+use Rattle.rules.specs.Image.{tableAt}
+use Rattle.rules.specs.declared.Entry.{Entry}
+use Rattle.rules.proofs.Choice.{every-append}
+use Rattle.logs.specs.Place.{rowAt}
+use Rattle.logs.proofs.Tables.{good-items}
+use Rattle.form.proofs.Same.{and-true}
+
+-- ---- one turn more
+
+pub and-false : (a : Bool) → (a && false) ≡ false
+and-false true = refl
+and-false false = refl
+
+module _ {A : Type 0} (p : A → Bool) where
+  every-one : (xs : List A) (x : A) → every p (xs ++ (x ∷ [])) ≡ (every p xs && p x)
+  unfolding every
+  every-one xs x = every-append p xs (x ∷ []) ∙ ap (λ (t : Bool). every p xs && t) (and-true (p x))
+
+  pub every-turn : (f : ℕ → A) (k o i : ℕ) → every p (items f k o (i + 1)) ≡ (every p (items f k o i) && p (f (o + k * i)))
+  unfolding items
+  every-turn f k o i = rw (add-one i) (every-one (items f k o i) (f (o + k * i)))
+
+pub below-turn : (p : ℕ → Bool) (i : ℕ) → every p (below (i + 1)) ≡ (every p (below i) && p i)
+unfolding below
+below-turn p i = rw (add-one i) (every-one p (below i) i)
+
+-- a loop that asks of each in turn
+module _ {A : Type 0} (p : A → Bool) (f : ℕ → A) (k o : ℕ) where
+  pub row-none : true ≡ every p (items f k o 0)
+  unfolding items every
+  row-none = refl
+
+  pub row-next : (i : ℕ) (fine t : Bool) → fine ≡ every p (items f k o i) → t ≡ p (f (o + k * i)) → (fine && t) ≡ every p (items f k o (i + 1))
+  row-next i fine t e h = ap₂ _&&_ e h ∙ sym (every-turn p f k o i)
+
+  pub row-end : (i n : ℕ) (fine : Bool) → fine ≡ every p (items f k o i) → i ≤ n → n ≤ i → fine ≡ every p (items f k o n)
+  row-end i n fine e l h = let q : i ≡ n = omega arith in rw q at e
+
+module _ (p : ℕ → Bool) where
+  pub below-none : true ≡ every p (below 0)
+  unfolding below every
+  below-none = refl
+
+  pub below-next : (i : ℕ) (fine t : Bool) → fine ≡ every p (below i) → t ≡ p i → (fine && t) ≡ every p (below (i + 1))
+  below-next i fine t e h = ap₂ _&&_ e h ∙ sym (below-turn p i)
+
+  pub below-end : (i n : ℕ) (fine : Bool) → fine ≡ every p (below i) → i ≤ n → n ≤ i → fine ≡ every p (below n)
+  below-end i n fine e l h = let q : i ≡ n = omega arith in rw q at e
+
+-- ---- a table
+
+module _ (c : ℕ) (b : List ℕ) (at n : ℕ) (q : n ≡ min (num b at 4) c) where
+  pub table-is : items (entryAt b) 24 (at + 4) n ≡ tableAt c b at
+  unfolding tableAt
+  table-is = ap (items (entryAt b) 24 (at + 4)) q
+
+  pub count-is : n ≡ length (tableAt c b at)
+  count-is = sym (length-items (entryAt b) 24 (at + 4) n) ∙ ap length table-is
+
+  pub good-is : (s k r : ℕ) → r ≡ goodTo s k (rowAt b (at + 4)) n → eqb r n ≡ goodLog s k (tableAt c b at)
+  good-is s k r e = ap (λ (x : ℕ). eqb x n) e ∙ sym (good-items s k b (at + 4) n) ∙ ap (goodLog s k) table-is
+
+  pub each-is : (p : Entry → Bool) (r : Bool) → r ≡ every p (items (entryAt b) 24 (at + 4) n) → r ≡ every p (tableAt c b at)
+  each-is p r e = e ∙ ap (every p) table-is
+
+  pub last-none : n ≡ 0 → 0 ≡ lastStamp (tableAt c b at)
+  unfolding stampBefore
+  last-none z =
+      let e : 0 ≡ length (tableAt c b at) = sym z ∙ count-is in
+      ap (stampBefore (entryOf (tableAt c b at))) e
+
+  pub last-is : (n ≡ 0 → ⊥) → (r : ℕ) → r ≡ num b (at + 4 + 24 * (n - 1)) 8 → r ≡ lastStamp (tableAt c b at)
+  unfolding stampBefore entryAt
+  last-is z r p =
+      let e : suc (n - 1) ≡ length (tableAt c b at) = (let s : suc (n - 1) ≡ n = omega arith in s ∙ count-is) in
+      p
+      ∙ sym (ap (λ (x : Entry). x .stamp) (getD-items (entryAt b) 24 (at + 4) n (n - 1) noEntry (omega arith)))
+      ∙ ap (λ (xs : List Entry). entryOf xs (n - 1) .stamp) table-is
+      ∙ ap (stampBefore (entryOf (tableAt c b at))) e

@@ -1,0 +1,20 @@
+-- `good::entries_fit` meets its contract: the entries that are looked at are the table's. Assumes nothing.
+use borrow.Author.Needs.{needs}
+use Rattle.good.proofs.Tables.{each-is}
+use Rattle.good.proofs.entries_fit.Statement.{statement}
+use Rattle.good.proofs.entries_fit.Tie as tie
+
+count-at-requires : tie.Need-count-at-requires
+count-at-requires c κs = search needs
+
+add-all-fit : tie.Need-add-all-fit
+add-all-fit c = search needs
+
+all-fit-requires : tie.Need-all-fit-requires
+all-fit-requires c κs = search needs
+
+returns : tie.Need-returns
+returns c = each-is _ _ _ _ (c .before .count-at .ensures) _ _ (c .all-fit .ensures)
+
+pub entries-fit-spec : {M : Type 1} → statement M
+entries-fit-spec = tie.close (tie.spec count-at-requires add-all-fit all-fit-requires returns)

@@ -1,0 +1,54 @@
+-- `good::good` meets its contract: each way through it. Assumes nothing.
+use borrow.Author.Needs.{needs}
+use Rattle.octets.proofs.Laws.{bytes-known}
+use Rattle.good.proofs.Whole.{not-permitted, wrong-length, not-formed, head-unfit, all-good, formed}
+use Rattle.places.proofs.Sections.{fits}
+use Rattle.logs.proofs.Every.{unless-not}
+use mathlib.Core.Path.{sym, _∙_}
+use Rattle.good.proofs.good.Statement.{statement}
+use Rattle.good.proofs.good.Tie as tie
+
+shape-fits-requires : tie.Need-shape-fits-requires
+shape-fits-requires c κs = search needs
+
+returns : tie.Need-returns
+returns c = not-permitted _ _ _ (c .before .shape-fits .ensures) (c .if1 .taken)
+
+places-of-requires : tie.Need-places-of-requires
+places-of-requires c κs = fits _ (sym (c .before .shape-fits .ensures) ∙ unless-not _ (c .if1 .left))
+
+returns-2 : tie.Need-returns-2
+returns-2 c = wrong-length _ _ _ (c .before .before .places-of .ensures .end) (c .if2 .taken)
+
+canonical-requires : tie.Need-canonical-requires
+canonical-requires c κs = record { fits = (fits _ (sym (c .before .before .before .before .shape-fits .ensures) ∙ unless-not _ (c .before .before .before .if1 .left))); size = ((c .if2 .left) ∙ (c .before .before .places-of .ensures .end)) }
+
+returns-3 : tie.Need-returns-3
+returns-3 c = not-formed _ _ _ (c .before .canonical .ensures) (c .if3 .taken)
+
+head-fits-requires : tie.Need-head-fits-requires
+head-fits-requires c κs = record { fits = (fits _ (sym (c .before .before .before .before .before .before .shape-fits .ensures) ∙ unless-not _ (c .before .before .before .before .before .if1 .left))); size = ((c .before .before .if2 .left) ∙ (c .before .before .before .before .places-of .ensures .end)) }
+
+returns-4 : tie.Need-returns-4
+returns-4 c = head-unfit _ _ ((c .before .before .before .before .if2 .left) ∙ (c .before .before .before .before .before .before .places-of .ensures .end)) (bytes-known (c .before .before .before .before .before .before .before .before .before .before .args .state .now) (λ i. (c .before .before .before .before .before .before .before .before .before .shared-slice-known .given) i .fits)) _ (c .before .head-fits .ensures) (c .if4 .taken)
+
+rest-good-requires : tie.Need-rest-good-requires
+rest-good-requires c κs = formed _ _ (record { fits = (fits _ (sym (c .before .before .before .before .before .before .before .before .shape-fits .ensures) ∙ unless-not _ (c .before .before .before .before .before .before .before .if1 .left))); size = ((c .before .before .before .before .if2 .left) ∙ (c .before .before .before .before .before .before .places-of .ensures .end)) }) (bytes-known (c .before .before .before .before .before .before .before .before .before .before .args .state .now) (λ i. (c .before .before .before .before .before .before .before .before .before .shared-slice-known .given) i .fits)) (sym (c .before .before .before .canonical .ensures) ∙ unless-not _ (c .before .before .if3 .left)) (sym (c .before .head-fits .ensures) ∙ unless-not _ (c .if4 .left))
+
+returns-5 : tie.Need-returns-5
+returns-5 c = all-good _ _ ((c .before .before .before .before .before .if2 .left) ∙ (c .before .before .before .before .before .before .before .places-of .ensures .end)) (bytes-known (c .before .before .before .before .before .before .before .before .before .before .before .args .state .now) (λ i. (c .before .before .before .before .before .before .before .before .before .before .shared-slice-known .given) i .fits)) _ _ _ _ (c .before .before .before .before .before .before .before .before .before .shape-fits .ensures) (c .before .before .before .before .before .before .before .before .if1 .left) (c .before .before .before .before .canonical .ensures) (c .before .before .before .if3 .left) (c .before .before .head-fits .ensures) (c .before .if4 .left) (c .rest-good .ensures)
+
+pub good-spec : {M : Type 1} → statement M
+good-spec =
+    tie.close
+    (tie.spec
+    shape-fits-requires
+    returns
+    places-of-requires
+    returns-2
+    canonical-requires
+    returns-3
+    head-fits-requires
+    returns-4
+    rest-good-requires
+    returns-5)

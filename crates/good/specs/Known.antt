@@ -1,0 +1,69 @@
+-- What the checks know of a state's bytes, and tests that are parts of the rules' tests.
+use Prim.Native.Nat.{ℕ, _+_, _*_, _<_}
+use mathlib.Core.Bool.{Bool, _&&_}
+use mathlib.Core.List.{List, [], _∷_, _++_}
+use lib.ListN.{length}
+use lib.Dec.{eqb, ltb, leb}
+use Rattle.octets.specs.Bytes.{num, part}
+use Rattle.rules.specs.Choice.{pick, when, allOf, every, isSome}
+use Rattle.rules.specs.Entry.{latest, entryFits}
+use Rattle.rules.specs.Log.{goodLog}
+use Rattle.rules.specs.State.{Note, State, leads, noted, stampsOf, notedTo, greatestTo, valueOf, viewGood, heardGood, keptGood, buffersGood, earlyGood, noteFits, notesDistinct}
+use Rattle.rules.specs.Image.{noteLength}
+use Rattle.rules.specs.declared.Entry.{Entry}
+use Rattle.rules.specs.declared.Shape.{Shape}
+use Rattle.logs.specs.Place.{Within}
+use Rattle.notes.specs.Notes.{Notes}
+use Rattle.places.specs.Layout.{startOf, Sized}
+
+-- the head's numbers are in range
+unfoldable pub headFits : Shape → State → Bool
+headFits sh st =
+    allOf
+    (ltb (st .group) (sh .s)
+    ∷ ltb (st .replica) (sh .n)
+    ∷ leb 1 (st .status)
+    ∷ leb (st .status) 3
+    ∷ leb (st .clock) latest
+    ∷ leb (st .boundary) latest
+    ∷ [])
+
+-- the commit point is within the sync point, and that within the log
+unfoldable pub pointsGood : State → Bool
+pointsGood st = leb (st .commit) (st .sync) && leb (st .sync) (length (st .log))
+
+-- an entry has the note of group k, and the timestamp that the notes of s groups say
+unfoldable pub notedRight : ℕ → List Note → ℕ → Entry → Bool
+notedRight s xs k e =
+    isSome (noted xs e k)
+    && eqb (e .stamp) (pick (notedTo (e .mask) (stampsOf xs e) s) (greatestTo (e .mask) (stampsOf xs e) s) (valueOf (noted xs e k)))
+
+-- bytes of the right length whose group is in range
+pub record Known (sh : Shape) (b : List ℕ) : Type 0 where
+  pub sized : Sized sh b
+  pub group : num b 0 1 < sh .s
+
+-- and which are the form of the state in them: of that, what the tests need
+pub record Formed (sh : Shape) (b : List ℕ) : Type 0 where
+  pub known : Known sh b
+  pub log : Within (sh .c) b (startOf sh 3)
+  pub early : Within (sh .c) b (startOf sh 4)
+  pub late : Within (sh .c) b (startOf sh 5)
+  pub notes : Notes (sh .c) (sh .s) (part b (startOf sh 6) (4 + noteLength (sh .s) * sh .c))
+
+-- what is left of a good state where the head is in range
+unfoldable pub restGood : Shape → State → Bool
+restGood sh st =
+    allOf
+    (goodLog (sh .s) (st .group) (st .log)
+    ∷ goodLog (sh .s) (st .group) (st .draft)
+    ∷ pointsGood st
+    ∷ viewGood sh st
+    ∷ heardGood sh st
+    ∷ keptGood sh st
+    ∷ buffersGood st
+    ∷ when (eqb (st .status) 1 && leads sh st) (every (earlyGood sh st) (st .early))
+    ∷ every (entryFits (sh .s)) (st .early ++ st .late)
+    ∷ every noteFits (st .notes)
+    ∷ notesDistinct (st .notes)
+    ∷ [])

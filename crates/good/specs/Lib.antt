@@ -1,0 +1,2 @@
+-- What the check of a state cites beside the rules.
+pub mod Known
