@@ -11,6 +11,20 @@ use crate::Said;
 use rules::Header;
 use rules::Message;
 
+// A case's number with its header and its numbers.
+fn said(tag: u8, header: Header, numbers: u64, first: u64, second: u64, third: u64) -> Said
+    ensures { λ r. ⌜ (r ≡ record { tag = tag; header = header; numbers = numbers; first = first; second = second; third = third }) × (r .numbers ≡ numbers) ⌝ }
+{
+    Said {
+        tag,
+        header,
+        numbers,
+        first,
+        second,
+        third,
+    }
+}
+
 // What a case says.
 pub fn said_of(m: Message) -> Said
     ensures { λ r. ⌜ (r ≡ saidOf m) × (r .numbers ≡ length (numbersOf m)) × (r .numbers ≤ 3) ⌝ }
@@ -24,126 +38,21 @@ pub fn said_of(m: Message) -> Said
         view: 0,
     };
     match m {
-        Message::WrongSizes => Said {
-            tag: 0,
-            header: none,
-            numbers: 0,
-            first: 0,
-            second: 0,
-            third: 0,
-        },
-        Message::Malformed(_) => Said {
-            tag: 0,
-            header: none,
-            numbers: 0,
-            first: 0,
-            second: 0,
-            third: 0,
-        },
-        Message::Transaction(header, first, second) => Said {
-            tag: 1,
-            header,
-            numbers: 2,
-            first,
-            second,
-            third: 0,
-        },
-        Message::Note(header) => Said {
-            tag: 3,
-            header,
-            numbers: 0,
-            first: 0,
-            second: 0,
-            third: 0,
-        },
-        Message::ReplicaSync(header) => Said {
-            tag: 4,
-            header,
-            numbers: 0,
-            first: 0,
-            second: 0,
-            third: 0,
-        },
-        Message::FastReply(header, first, second, third) => Said {
-            tag: 5,
-            header,
-            numbers: 3,
-            first,
-            second,
-            third,
-        },
-        Message::SlowReply(header, first) => Said {
-            tag: 6,
-            header,
-            numbers: 1,
-            first,
-            second: 0,
-            third: 0,
-        },
-        Message::ChangeView(header) => Said {
-            tag: 7,
-            header,
-            numbers: 0,
-            first: 0,
-            second: 0,
-            third: 0,
-        },
-        Message::Vote(header, first, second) => Said {
-            tag: 8,
-            header,
-            numbers: 2,
-            first,
-            second,
-            third: 0,
-        },
-        Message::StartView(header) => Said {
-            tag: 9,
-            header,
-            numbers: 0,
-            first: 0,
-            second: 0,
-            third: 0,
-        },
-        Message::SyncStatus(header, first) => Said {
-            tag: 10,
-            header,
-            numbers: 1,
-            first,
-            second: 0,
-            third: 0,
-        },
-        Message::Commit(header, first) => Said {
-            tag: 11,
-            header,
-            numbers: 1,
-            first,
-            second: 0,
-            third: 0,
-        },
-        Message::VerifyRequest(header, first) => Said {
-            tag: 18,
-            header,
-            numbers: 1,
-            first,
-            second: 0,
-            third: 0,
-        },
-        Message::VerifyReply(header) => Said {
-            tag: 19,
-            header,
-            numbers: 0,
-            first: 0,
-            second: 0,
-            third: 0,
-        },
-        Message::Tick(header, first) => Said {
-            tag: 23,
-            header,
-            numbers: 1,
-            first,
-            second: 0,
-            third: 0,
-        },
+        Message::WrongSizes => said(0, none, 0, 0, 0, 0),
+        Message::Malformed(_) => said(0, none, 0, 0, 0, 0),
+        Message::Transaction(h, sent, bound) => said(1, h, 2, sent, bound, 0),
+        Message::Note(h) => said(3, h, 0, 0, 0, 0),
+        Message::ReplicaSync(h) => said(4, h, 0, 0, 0, 0),
+        Message::FastReply(h, placed, position, digest) => said(5, h, 3, placed, position, digest),
+        Message::SlowReply(h, position) => said(6, h, 1, position, 0, 0),
+        Message::ChangeView(h) => said(7, h, 0, 0, 0, 0),
+        Message::Vote(h, normal, sync) => said(8, h, 2, normal, sync, 0),
+        Message::StartView(h) => said(9, h, 0, 0, 0, 0),
+        Message::SyncStatus(h, sync) => said(10, h, 1, sync, 0, 0),
+        Message::Commit(h, commit) => said(11, h, 1, commit, 0, 0),
+        Message::VerifyRequest(h, boundary) => said(18, h, 1, boundary, 0, 0),
+        Message::VerifyReply(h) => said(19, h, 0, 0, 0, 0),
+        Message::Tick(h, time) => said(23, h, 1, time, 0, 0),
     }
 }
 

@@ -1,0 +1,2 @@
+-- What a handler is given and what it leaves.
+pub mod Handler
