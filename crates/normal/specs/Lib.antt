@@ -1,2 +1,0 @@
--- What a handler is given and what it leaves.
-pub mod Handler
