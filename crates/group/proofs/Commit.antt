@@ -1,23 +1,25 @@
--- The commit rule over the heard points' bytes.
+-- The commit rule over the heard points' bytes, and the commit point found by halves. Assumes nothing.
 use mathlib.Core.Path.{_≡_, _∙_, ap, refl, sym}
 use mathlib.Core.Bool.{Bool, true, false}
 use mathlib.Core.Option.{Option, none, some}
 use mathlib.Core.List.{List}
-use Prim.Native.Nat.{ℕ, _+_, _*_, _<_, _≤_}
-use native.Mathlib.Nat.{zero-add}
+use Prim.Native.Nat.{ℕ, _+_, _*_, _-_, _<_, _≤_, max}
+use native.Mathlib.Nat.{zero-add, le-trans}
 use native.Mathlib.Numerals.{add-one}
 use native.Mathlib.Omega.{arith}
-use lib.Dec.{eqb, leb}
-use borrow.Author.Tests.{leb-true, lt-ltb, le-ltb, le-leb, lt-leb, eq-eqb, ne-eqb}
+use native.Mathlib.Decide.{decLt}
+use lib.Dec.{T, eqb, leb, le→leb, leb→le}
+use lib.ListN.{getD}
+use borrow.Author.Tests.{leb-true, le-leb, eq-eqb, ne-eqb}
 use Rattle.octets.specs.Bytes.{num}
 use Rattle.octets.proofs.Codecs.{getD-items}
-use Rattle.rules.specs.Choice.{pick, count}
+use Rattle.rules.specs.Choice.{pick, count, point}
 use Rattle.rules.specs.Group.{majority}
 use Rattle.rules.specs.Image.{pointAt}
 use Rattle.rules.specs.Commit.{hasReached, reached, counted, commitPoint}
-use Rattle.group.specs.Points.{points, reachedIn, held, raised}
-use Rattle.group.proofs.Greatest.{count-mono, raisedTo, found}
-use Rattle.rules.proofs.Choice.{clash}
+use Rattle.rules.proofs.Choice.{clash, point-most, point-passes, point-above}
+use Rattle.rules.proofs.RunCounting.{count-mono}
+use Rattle.group.specs.Points.{points, reachedIn, held}
 
 -- ---- one replica
 
@@ -42,16 +44,6 @@ module _ (own len : ℕ) (b : List ℕ) (c i : ℕ) where
   pub reached-told : (n : ℕ) (t : Bool) → i < n → t ≡ reachedIn own len b c i → reached own len (points n b) c i ≡ t
   reached-told n t l e = reached-at n l ∙ sym e
 
--- who reached a point and did not name it reached the next
-pub reached-next : (own len : ℕ) (b : List ℕ) (m i : ℕ) → m < len → (num b (9 * i + 1) 8 ≡ m → ⊥) → reachedIn own len b m i ≡ true → reachedIn own len b (m + 1) i ≡ true
-unfolding reachedIn pointAt pick
-reached-next own len b m i l o e = go (eqb i own) (eqb (num b (9 * i) 1) 0) (num b (9 * i + 1) 8) o e
-  where
-    go : (mine flag : Bool) (w : ℕ) → (w ≡ m → ⊥) → pick mine (leb m len) (hasReached m (pick flag none (some w))) ≡ true → pick mine (leb (m + 1) len) (hasReached (m + 1) (pick flag none (some w))) ≡ true
-    go true flag w o e = le-leb (m + 1) len (omega arith)
-    go false true w o e = clash _ e refl
-    go false false w o e = le-leb (m + 1) w (omega (arith, leb-true m w e, o))
-
 -- ---- the count
 
 pub count-none : (p : ℕ → Bool) → 0 ≡ count p 0
@@ -66,53 +58,70 @@ pub count-same : (p : ℕ → Bool) (i sum : ℕ) → p i ≡ false → sum ≡ 
 unfolding count pick
 count-same p i sum e h = simp (add-one, e, h)
 
--- ---- one try
+-- ---- the search by halves
 
-module _ (n own len : ℕ) (b : List ℕ) (best c : ℕ) where
-  pub not-greater : c ≤ best → best ≡ raised (held n own len b) len best c
-  unfolding raised pick
-  not-greater h = rw (le-ltb best c h)
+module _ (n own len : ℕ) (heard : List (Option ℕ)) where
+  -- what is reached is reached lower down
+  reached-less : (c m i : ℕ) → c ≤ m → T (reached own len heard m i) → T (reached own len heard c i)
+  unfolding pick
+  reached-less c m i l = go (eqb i own) (getD heard i none)
+    where
+      less : (w : ℕ) → T (leb m w) → T (leb c w)
+      less w t = le→leb c w (le-trans l (leb→le m w t))
 
-  pub past-log : best < c → len < c → best ≡ raised (held n own len b) len best c
-  unfolding raised pick
-  past-log g h = rw (lt-ltb best c g, lt-leb c len h)
+      go : (mine : Bool) (x : Option ℕ) → T (pick mine (leb m len) (hasReached m x)) → T (pick mine (leb c len) (hasReached c x))
+      go true x t = less len t
+      go false none t = t
+      go false (some w) t = less w t
 
-  pub too-few : (k r : ℕ) → best < c → c ≤ len → k ≡ count (reached own len (points n b) c) n → r ≡ majority n → k < r → best ≡ raised (held n own len b) len best c
-  unfolding raised held pick
-  too-few k r g h e d l = rw (lt-ltb best c g, le-leb c len h, ← e, ← d, lt-leb r k l)
-
-  pub enough : (k r : ℕ) → best < c → c ≤ len → k ≡ count (reached own len (points n b) c) n → r ≡ majority n → r ≤ k → c ≡ raised (held n own len b) len best c
-  unfolding raised held pick
-  enough k r g h e d l = rw (lt-ltb best c g, le-leb c len h, ← e, ← d, le-leb r k l)
-
--- ---- all that are tried
-
--- the point in the eight bytes of replica i
-abbrev pub named : List ℕ → ℕ → ℕ
-named b i = num b (9 * i + 1) 8
-
-module _ (n own len : ℕ) (b : List ℕ) where
-  held-next : (m : ℕ) → held n own len b m ≡ true → m < len → ((j : ℕ) → j < n → named b j ≡ m → ⊥) → held n own len b (m + 1) ≡ true
+  -- and by as many
+  held-less : (c m : ℕ) → c ≤ m → held n own len heard m ≡ true → held n own len heard c ≡ true
   unfolding held
-  held-next m e l o =
-      le-leb (majority n) (count (reached own len (points n b) (m + 1)) n)
-      (omega (
-        arith,
-        leb-true (majority n) (count (reached own len (points n b) m) n) e,
-        count-mono (reached own len (points n b) m) (reached own len (points n b) (m + 1)) n
-            (λ i h t. reached-at own len b (m + 1) i n h ∙ reached-next own len b m i l (o i h) (sym (reached-at own len b m i n h) ∙ t)),
-      ))
+  held-less c m l e =
+      le-leb (majority n) (count (reached own len heard c) n)
+      (le-trans (leb-true (majority n) (count (reached own len heard m) n) e) (count-mono _ _ (λ i. reached-less c m i l) n))
 
-  pub committed : (before best i : ℕ) → i ≤ n → n ≤ i → best ≡ raisedTo (held n own len b) len before (named b) i → best ≡ commitPoint n own len (points n b) before
+  -- the greatest that is held
+  abbrev top : ℕ
+  top = point (held n own len heard) len
+
+  commit-top : (before : ℕ) → commitPoint n own len heard before ≡ max before top
   unfolding commitPoint counted held
-  committed before best i l g e =
-      let q : i ≡ n = omega arith in
-      e ∙ ap (raisedTo (held n own len b) len before (named b)) q ∙ found (held n own len b) len before (named b) n held-next
+  commit-top before = refl
 
-  pub first-try : (before best : ℕ) → best ≡ raised (held n own len b) len before len → best ≡ raisedTo (held n own len b) len before (named b) 0
-  unfolding raisedTo
-  first-try before best e = e
+  top-below : (m : ℕ) → 1 ≤ m → held n own len heard m ≡ false → top < m
+  top-below m o f = go (decLt top m)
+    where
+      go : Dec (top < m) → top < m
+      go (yes l) = l
+      go (no l) = clash _ (held-less m top (omega arith) (point-passes (held n own len heard) len (omega arith))) f
 
-  pub next-try : (before best i w r : ℕ) → best ≡ raisedTo (held n own len b) len before (named b) i → w ≡ named b i → r ≡ raised (held n own len b) len best w → r ≡ raisedTo (held n own len b) len before (named b) (i + 1)
-  unfolding raisedTo
-  next-try before best i w r e d f = rw (add-one i) (rw (← e, ← d) f)
+  -- the commit point lies between low and high
+  pub record Between (before low high : ℕ) : Type 0 where
+    pub kept : before ≤ low
+    pub within : high ≤ len
+    pub sound : low ≤ commitPoint n own len heard before
+    pub most : commitPoint n own len heard before ≤ max low high
+
+  pub begins : (before : ℕ) → Between before before len
+  begins before =
+      let e = commit-top before in
+      record { kept = omega arith; within = omega arith; sound = omega arith; most = omega (arith, point-most (held n own len heard) len) }
+
+  module _ (before low high : ℕ) (b : Between before low high) where
+    pub ends : high ≤ low → low ≡ commitPoint n own len heard before
+    ends h = omega (arith, b .sound, b .most)
+
+    -- what one halving leaves
+    module _ (middle : ℕ) (l : low < middle) (h : middle ≤ high) where
+      pub rises : held n own len heard middle ≡ true → Between before middle high
+      rises t =
+          let e = commit-top before in
+          let a = point-above (held n own len heard) len middle (omega (arith, b .within)) t in
+          record { kept = omega (arith, b .kept); within = b .within; sound = omega arith; most = omega (arith, b .most) }
+
+      pub falls : held n own len heard middle ≡ false → Between before low (middle - 1)
+      falls t =
+          let e = commit-top before in
+          let a = top-below middle (omega arith) t in
+          record { kept = b .kept; within = omega (arith, b .within); sound = b .sound; most = omega (arith, b .kept) }

@@ -1,4 +1,3 @@
 -- The laws of masks and of the commit rule.
 pub mod Masks
-pub mod Greatest
 pub mod Commit

@@ -1,9 +1,9 @@
--- The heard points as they stand in bytes, and a commit point raised by one that is tried.
+-- The heard points as they stand in bytes, and a point that a majority has reached.
 use Prim.Native.Nat.{ℕ, _*_}
-use mathlib.Core.Bool.{Bool, _&&_}
-use mathlib.Core.Option.{Option, none}
+use mathlib.Core.Bool.{Bool}
+use mathlib.Core.Option.{Option}
 use mathlib.Core.List.{List}
-use lib.Dec.{eqb, ltb, leb}
+use lib.Dec.{eqb, leb}
 use Rattle.octets.specs.Bytes.{items}
 use Rattle.rules.specs.Choice.{pick, count}
 use Rattle.rules.specs.Group.{majority}
@@ -19,9 +19,5 @@ unfoldable pub reachedIn : ℕ → ℕ → List ℕ → ℕ → ℕ → Bool
 reachedIn own len b c i = pick (eqb i own) (leb c len) (hasReached c (pointAt b (9 * i)))
 
 -- at least F+1 of the n replicas have reached c
-unfoldable pub held : ℕ → ℕ → ℕ → List ℕ → ℕ → Bool
-held n own len b c = leb (majority n) (count (reached own len (points n b) c) n)
-
--- c where it is greater, within the log and passes
-unfoldable pub raised : (ℕ → Bool) → ℕ → ℕ → ℕ → ℕ
-raised p len best c = pick (ltb best c && (leb c len && p c)) c best
+unfoldable pub held : ℕ → ℕ → ℕ → List (Option ℕ) → ℕ → Bool
+held n own len heard c = leb (majority n) (count (reached own len heard c) n)

@@ -6,7 +6,7 @@ ghost use lib.ListN.{length};
 ghost use Rattle.rules.specs.Choice.{count};
 ghost use Rattle.rules.specs.Group as rule;
 ghost use Rattle.rules.specs.Commit.{reached, commitPoint};
-ghost use Rattle.group.specs.Points.{points, reachedIn, held, raised};
+ghost use Rattle.group.specs.Points.{points, reachedIn, held};
 
 // Whether n replicas in each of s groups are permitted.
 pub fn sizes_fit(n: u64, s: u64) -> bool
@@ -97,34 +97,29 @@ fn reachers(n: u64, own: u64, len: u64, heard: &[u8], c: u64) -> u64
     sum
 }
 
-// The greater of best and c, where c counts only within the log and once F+1 replicas have reached it.
-fn raise(n: u64, own: u64, len: u64, heard: &[u8], best: u64, c: u64) -> u64
+// Whether at least F+1 of the n replicas have reached c.
+fn majority_reached(n: u64, own: u64, len: u64, heard: &[u8], c: u64) -> bool
     requires { ⌜ 9 * n ≤ length (now heard) ⌝ }
-    ensures { λ r. ⌜ r ≡ raised (held n own len (now (heard .entry))) len best c ⌝ }
+    ensures { λ r. ⌜ r ≡ held n own len (points n (now (heard .entry))) c ⌝ }
 {
-    if c <= best {
-        return best;
-    }
-    if len < c {
-        return best;
-    }
-    if reachers(n, own, len, heard, c) < rules::GroupSize(n).majority() {
-        return best;
-    }
-    c
+    rules::GroupSize(n).majority() <= reachers(n, own, len, heard, c)
 }
 
-// The commit point: only the log's length and the heard points are tried, so n x n counts do, whatever the log's length.
+// The commit point: what F+1 have reached they have reached lower down too, so it is found by halves between the point before and
+// the log's length. One count of the n replicas for each halving: linear in n, and halvings by the logarithm of what the log is ahead.
 pub fn commit_point(n: u64, own: u64, len: u64, heard: &[u8], before: u64) -> u64
     requires { ⌜ 9 * n ≤ length (now heard) ⌝ }
     ensures { λ r. ⌜ r ≡ commitPoint n own len (points n (now (heard .entry))) before ⌝ }
 {
-    let mut best = raise(n, own, len, heard, before, len);
-    let mut i: u64 = 0;
-    while i < n {
-        let point = octets::get64(heard, 9 * i as usize + 1);
-        best = raise(n, own, len, heard, best, point);
-        i += 1;
+    let mut low = before;
+    let mut high = len;
+    while low < high {
+        let middle = high - (high - low) / 2;
+        if majority_reached(n, own, len, heard, middle) {
+            low = middle;
+        } else {
+            high = middle - 1;
+        }
     }
-    best
+    low
 }
