@@ -1,0 +1,47 @@
+// The merge of the groups' verify replies into the draft, in lent bytes: what it gives can be measured before the state is changed.
+use rules::Entry;
+ghost use Prim.Native.Nat.{_+_, _*_, _≤_};
+ghost use lib.ListN.{length};
+ghost use Rattle.octets.specs.Bytes.{items};
+ghost use Rattle.rules.specs.Read.{entryAt};
+ghost use Rattle.rules.specs.Image.{tableAt};
+ghost use Rattle.rules.specs.Merge.{takeIn, takeAll};
+ghost use Rattle.entries.specs.Table.{Table};
+ghost use Rattle.merge.specs.Taken.{Taken};
+
+// Takes e into a table: it replaces a lower entry of its transaction, or stands last where there is none. False where it has no place.
+pub fn take_in(t: &mut [u8], c: usize, e: Entry) -> bool
+    requires { ⌜ Table c (now t) ⌝ }
+    ensures { λ r. ⌜ Taken c (takeIn e (tableAt c (now (t .entry)) 0)) r (now (t .exit)) ⌝ }
+{
+    let n = entries::count(t);
+    let i = entries::find(t, 4, n, e.request, e.coordinator);
+    if i < n {
+        if e.stamp <= entries::entry_of(t, c, i).stamp {
+            return true;
+        }
+        entries::replace_at(t, c, i, e);
+        return true;
+    }
+    if n < c {
+        entries::append(t, c, e);
+        return true;
+    }
+    false
+}
+
+// Takes in, one after the other, the `count` entries that stand in `src` from `at` on. False where one has no place.
+pub fn take_all(t: &mut [u8], c: usize, src: &[u8], at: usize, count: usize) -> bool
+    requires { ⌜ Table c (now t) × (at + 24 * count ≤ length (now src)) ⌝ }
+    ensures { λ r. ⌜ Taken c (takeAll (tableAt c (now (t .entry)) 0) (items (entryAt (now (src .entry))) 24 at count)) r (now (t .exit)) ⌝ }
+{
+    let mut i = 0;
+    while i < count {
+        let e = entries::entry_at(src, at + 24 * i);
+        if !take_in(t, c, e) {
+            return false;
+        }
+        i += 1;
+    }
+    true
+}
