@@ -1,12 +1,16 @@
 // The merge of the groups' verify replies into the draft, in lent bytes: what it gives can be measured before the state is changed.
 use rules::Entry;
-ghost use Prim.Native.Nat.{_+_, _*_, _≤_};
-ghost use lib.ListN.{length};
+use rules::Shape;
+ghost use mathlib.Core.Path.{_≡_};
+ghost use mathlib.Core.Option.{none, some};
+ghost use Prim.Native.Nat.{_+_, _*_, _≤_, _<_};
+ghost use lib.ListN.{length, getD, set};
 ghost use Rattle.octets.specs.Bytes.{items};
 ghost use Rattle.rules.specs.Read.{entryAt};
-ghost use Rattle.rules.specs.Image.{tableAt};
-ghost use Rattle.rules.specs.Merge.{takeIn, takeAll};
+ghost use Rattle.rules.specs.Image.{tableAt, stateOf};
+ghost use Rattle.rules.specs.Merge.{takeIn, takeAll, entriesIn, merged};
 ghost use Rattle.entries.specs.Table.{Table};
+ghost use Rattle.places.specs.Layout.{Stands};
 ghost use Rattle.merge.specs.Taken.{Taken};
 
 // Takes e into a table: it replaces a lower entry of its transaction, or stands last where there is none. False where it has no place.
@@ -44,4 +48,30 @@ pub fn take_all(t: &mut [u8], c: usize, src: &[u8], at: usize, count: usize) -> 
         i += 1;
     }
     true
+}
+
+// Takes in what group j replied: the `count` entries that stand in the message where the message is its reply, else what is kept of it.
+fn take_reply(
+    shape: Shape,
+    state: &[u8],
+    j: u64,
+    from: u64,
+    message: &[u8],
+    at: usize,
+    count: usize,
+    scratch: &mut [u8],
+) -> bool
+    requires { ⌜ Stands shape (stateOf shape (now state)) (now state) × (j < shape .s) × (at + 24 * count ≤ length (now message)) × Table (shape .c) (now scratch) ⌝ }
+    ensures { λ r. ⌜ Taken (shape .c) (takeAll (tableAt (shape .c) (now (scratch .entry)) 0) (entriesIn (getD (set (stateOf shape (now (state .entry)) .replies) from (some (items (entryAt (now (message .entry))) 24 at count))) j none))) r (now (scratch .exit)) ⌝ }
+{
+    if j == from {
+        return take_all(scratch, shape.c as usize, message, at, count);
+    }
+    if !places::reply_flag(shape, state, j) {
+        return true;
+    }
+    let start = places::reply_place(shape, j) + 1;
+    let end = start + places::places_of(shape).table;
+    let kept = entries::count(&state[start..end]);
+    take_all(scratch, shape.c as usize, &state[start..end], 4, kept)
 }
