@@ -75,3 +75,32 @@ fn take_reply(
     let kept = entries::count(&state[start..end]);
     take_all(scratch, shape.c as usize, &state[start..end], 4, kept)
 }
+
+// Makes `scratch` the table of the draft with the replies merged in, where that of group `from` is the `count` entries that stand in the message.
+// Groups rise, so that the lowest stays on a tie. False where there are more entries than places.
+pub fn merge(
+    shape: Shape,
+    state: &[u8],
+    from: u64,
+    message: &[u8],
+    at: usize,
+    count: usize,
+    scratch: &mut [u8],
+) -> bool
+    requires { ⌜ Stands shape (stateOf shape (now state)) (now state) × (at + 24 * count ≤ length (now message)) × (length (now scratch) ≡ 4 + 24 * shape .c) ⌝ }
+    ensures { λ r. ⌜ Taken (shape .c) (merged (stateOf shape (now (state .entry)) .draft) (set (stateOf shape (now (state .entry)) .replies) from (some (items (entryAt (now (message .entry))) 24 at count)))) r (now (scratch .exit)) ⌝ }
+{
+    let layout = places::places_of(shape);
+    let start = layout.draft;
+    let end = start + layout.table;
+    octets::copy_in(scratch, 0, &state[start..end]);
+    let mut j: u64 = 0;
+    while j < shape.s {
+        if !take_reply(shape, state, j, from, message, at, count, scratch) {
+            return false;
+        }
+        j += 1;
+    }
+    entries::order(scratch, shape.c as usize);
+    true
+}

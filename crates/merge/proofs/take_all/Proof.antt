@@ -1,9 +1,6 @@
+-- `merge::take_all` meets its contract. The invariant: the entries passed are taken in. Assumes nothing.
 use Rattle.merge.proofs.take_all.Statement.{statement}
 use Rattle.merge.proofs.take_all.Tie as tie
-use Rattle.merge.proofs.take_all.Reads as reads
-use Rattle.merge.proofs.take_all.Lts as lts
-use Rattle.entries.proofs.entry_at.Reads as entry-at-reads
-use Rattle.merge.proofs.take_in.Reads as take-in-reads
 use Prim.Native.Nat.{_≤_, _-_}
 use mathlib.Core.Path.{_≡_, refl, subst}
 use mathlib.Core.List.{List}

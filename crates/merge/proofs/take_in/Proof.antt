@@ -1,13 +1,7 @@
+-- `merge::take_in` meets its contract: one law for each way out. Assumes nothing.
 use borrow.Author.Needs.{needs}
 use Rattle.merge.proofs.take_in.Statement.{statement}
 use Rattle.merge.proofs.take_in.Tie as tie
-use Rattle.merge.proofs.take_in.Reads as reads
-use Rattle.merge.proofs.take_in.Lts as lts
-use Rattle.entries.proofs.append.Reads as append-reads
-use Rattle.entries.proofs.count.Reads as count-reads
-use Rattle.entries.proofs.entry_of.Reads as entry-of-reads
-use Rattle.entries.proofs.find.Reads as find-reads
-use Rattle.entries.proofs.replace_at.Reads as replace-at-reads
 use native.Mathlib.Omega.{arith}
 use Rattle.merge.proofs.Taking.{stays, replaces, appends, no-place}
 

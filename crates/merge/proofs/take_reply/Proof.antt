@@ -1,13 +1,7 @@
+-- `merge::take_reply` meets its contract: the message, nothing, or what is kept. Assumes nothing.
 use borrow.Author.Needs.{needs}
 use Rattle.merge.proofs.take_reply.Statement.{statement}
 use Rattle.merge.proofs.take_reply.Tie as tie
-use Rattle.merge.proofs.take_reply.Reads as reads
-use Rattle.merge.proofs.take_reply.Lts as lts
-use Rattle.entries.proofs.count.Reads as count-reads
-use Rattle.merge.proofs.take_all.Reads as take-all-reads
-use Rattle.places.proofs.places_of.Reads as places-of-reads
-use Rattle.places.proofs.reply_flag.Reads as reply-flag-reads
-use Rattle.places.proofs.reply_place.Reads as reply-place-reads
 use borrow.Author.Tests.{not-true, not-false}
 use Rattle.merge.proofs.Turns.{kept-room, way-own, way-none, way-kept}
 
