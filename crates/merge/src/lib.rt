@@ -2,16 +2,17 @@
 use rules::Entry;
 use rules::Shape;
 ghost use mathlib.Core.Path.{_≡_};
-ghost use mathlib.Core.Option.{none, some};
+ghost use mathlib.Core.Option.{none};
 ghost use Prim.Native.Nat.{_+_, _*_, _≤_, _<_};
-ghost use lib.ListN.{length, getD, set};
+ghost use lib.ListN.{length, getD};
 ghost use Rattle.octets.specs.Bytes.{items};
 ghost use Rattle.rules.specs.Read.{entryAt};
 ghost use Rattle.rules.specs.Image.{tableAt, stateOf};
-ghost use Rattle.rules.specs.Merge.{takeIn, takeAll, entriesIn, merged};
+ghost use Rattle.rules.specs.Merge.{takeIn, takeAll, entriesIn};
 ghost use Rattle.entries.specs.Table.{Table};
 ghost use Rattle.places.specs.Layout.{Stands};
 ghost use Rattle.merge.specs.Taken.{Taken};
+ghost use Rattle.merge.specs.Merged.{repliesWith, mergedWith};
 
 // Takes e into a table: it replaces a lower entry of its transaction, or stands last where there is none. False where it has no place.
 pub fn take_in(t: &mut [u8], c: usize, e: Entry) -> bool
@@ -62,7 +63,7 @@ fn take_reply(
     scratch: &mut [u8],
 ) -> bool
     requires { ⌜ Stands shape (stateOf shape (now state)) (now state) × (j < shape .s) × (at + 24 * count ≤ length (now message)) × Table (shape .c) (now scratch) ⌝ }
-    ensures { λ r. ⌜ Taken (shape .c) (takeAll (tableAt (shape .c) (now (scratch .entry)) 0) (entriesIn (getD (set (stateOf shape (now (state .entry)) .replies) from (some (items (entryAt (now (message .entry))) 24 at count))) j none))) r (now (scratch .exit)) ⌝ }
+    ensures { λ r. ⌜ Taken (shape .c) (takeAll (tableAt (shape .c) (now (scratch .entry)) 0) (entriesIn (getD (repliesWith shape (now (state .entry)) from (now (message .entry)) at count) j none))) r (now (scratch .exit)) ⌝ }
 {
     if j == from {
         return take_all(scratch, shape.c as usize, message, at, count);
@@ -88,7 +89,7 @@ pub fn merge(
     scratch: &mut [u8],
 ) -> bool
     requires { ⌜ Stands shape (stateOf shape (now state)) (now state) × (at + 24 * count ≤ length (now message)) × (length (now scratch) ≡ 4 + 24 * shape .c) ⌝ }
-    ensures { λ r. ⌜ Taken (shape .c) (merged (stateOf shape (now (state .entry)) .draft) (set (stateOf shape (now (state .entry)) .replies) from (some (items (entryAt (now (message .entry))) 24 at count)))) r (now (scratch .exit)) ⌝ }
+    ensures { λ r. ⌜ Taken (shape .c) (mergedWith shape (now (state .entry)) from (now (message .entry)) at count) r (now (scratch .exit)) ⌝ }
 {
     let layout = places::places_of(shape);
     let start = layout.draft;

@@ -2,22 +2,20 @@
 use Rattle.merge.proofs.merge.Statement.{statement}
 use Rattle.merge.proofs.merge.Tie as tie
 use Prim.Native.Nat.{_≤_, _-_}
-use mathlib.Core.Path.{_≡_, refl, subst}
+use mathlib.Core.Path.{subst}
 use mathlib.Core.List.{List}
 use native.Mathlib.Omega.{arith}
-use lib.ListN.{length}
 use borrow.Author.Needs.{needs}
 use borrow.Author.Tests.{not-true, not-false}
-use Rattle.octets.specs.Bytes.{items}
-use Rattle.rules.specs.Read.{entryAt}
 use Rattle.rules.specs.Image.{stateOf}
 use Rattle.rules.specs.declared.Entry.{Entry}
 use Rattle.entries.specs.Table.{Holds}
 use Rattle.entries.proofs.Table.{is-table}
-use Rattle.merge.proofs.Turns.{withReply, draft-copied, replies-long, mergedTo, merge-start, merge-again, merge-full, merge-end}
+use Rattle.merge.specs.Merged.{repliesWith}
+use Rattle.merge.proofs.Turns.{draft-copied, replies-long, mergedTo, merge-start, merge-again, merge-full, merge-end}
 
 abbrev Inv-loop : tie.InvT-loop
-Inv-loop shape state from message at count scratch₀ start end j₀ scratch j = (j ≤ shape .s) × Holds (shape .c) (mergedTo (stateOf shape state .draft) (withReply (stateOf shape state) from (items (entryAt message) 24 at count)) j) scratch
+Inv-loop shape state from message at count scratch₀ start end j₀ scratch j = (j ≤ shape .s) × Holds (shape .c) (mergedTo (stateOf shape state .draft) (repliesWith shape state from message at count) j) scratch
 
 abbrev μ-loop : tie.MeasureT-loop
 μ-loop shape state from message at count scratch₀ start end j₀ scratch j = shape .s - j
@@ -41,7 +39,7 @@ copy-in-requires : tie.Need-copy-in-requires Inv-loop μ-loop
 copy-in-requires c κs = search needs
 
 loop-holds : tie.Need-loop-holds Inv-loop μ-loop
-loop-holds c = (omega arith, subst (λ (ds : List Entry). Holds ((c .before .before .before .before .before .before .before .before .before .before .args .shape) .c) ds ((c .before .before .copy-in .last) .0)) (merge-start _ (withReply (stateOf ((c .before .before .before .before .before .before .before .before .before .before .args .shape)) ((c .before .before .before .before .before .before .before .before .before .before .args .state) .now)) ((c .before .before .before .before .before .before .before .before .before .before .args .from)) (items (entryAt ((c .before .before .before .before .before .before .before .before .before .before .args .message) .now)) 24 ((c .before .before .before .before .before .before .before .before .before .before .args .at)) ((c .before .before .before .before .before .before .before .before .before .before .args .count))))) (draft-copied ((c .before .before .before .before .before .before .before .before .before .before .pre) .0) _ _ _ _ ((c .before .before .before .before .before .before .places-of .ensures) .draft) ((c .before .before .before .before .before .before .places-of .ensures) .table) ((c .before .before .before .before .before .before .before .before .before .before .pre) .2) (c .before .before .copy-in .ensures)))
+loop-holds c = (omega arith, subst (λ (ds : List Entry). Holds ((c .before .before .before .before .before .before .before .before .before .before .args .shape) .c) ds ((c .before .before .copy-in .last) .0)) (merge-start _ (repliesWith (c .before .before .before .before .before .before .before .before .before .before .args .shape) ((c .before .before .before .before .before .before .before .before .before .before .args .state) .now) (c .before .before .before .before .before .before .before .before .before .before .args .from) ((c .before .before .before .before .before .before .before .before .before .before .args .message) .now) (c .before .before .before .before .before .before .before .before .before .before .args .at) (c .before .before .before .before .before .before .before .before .before .before .args .count))) (draft-copied ((c .before .before .before .before .before .before .before .before .before .before .pre) .0) _ _ _ _ ((c .before .before .before .before .before .before .places-of .ensures) .draft) ((c .before .before .before .before .before .before .places-of .ensures) .table) ((c .before .before .before .before .before .before .before .before .before .before .pre) .2) (c .before .before .copy-in .ensures)))
 
 take-reply-requires : tie.Need-take-reply-requires Inv-loop μ-loop
 take-reply-requires c κs = ((c .before .before .before .before .before .before .before .before .before .before .before .before .before .before .pre) .0, (c .before .if1 .taken), (c .before .before .before .before .before .before .before .before .before .before .before .before .before .before .pre) .1, is-table _ _ _ ((c .before .before .before .loop .inv) .1))
@@ -59,7 +57,7 @@ loop-less : tie.Need-loop-less Inv-loop μ-loop
 loop-less c = search needs
 
 loop-again : tie.Need-loop-again Inv-loop μ-loop
-loop-again c = (omega arith, merge-again _ (withReply (stateOf ((c .before .before .before .before .before .before .before .before .before .before .before .before .before .before .before .before .before .before .args .shape)) ((c .before .before .before .before .before .before .before .before .before .before .before .before .before .before .before .before .before .before .args .state) .now)) ((c .before .before .before .before .before .before .before .before .before .before .before .before .before .before .before .before .before .before .args .from)) (items (entryAt ((c .before .before .before .before .before .before .before .before .before .before .before .before .before .before .before .before .before .before .args .message) .now)) 24 ((c .before .before .before .before .before .before .before .before .before .before .before .before .before .before .before .before .before .before .args .at)) ((c .before .before .before .before .before .before .before .before .before .before .before .before .before .before .before .before .before .before .args .count)))) _ (replies-long ((c .before .before .before .before .before .before .before .before .before .before .before .before .before .before .before .before .before .before .pre) .0) _ _) _ _ _ ((c .before .before .before .before .before .before .before .loop .inv) .1) (c .before .before .before .before .before .if1 .taken) _ _ (c .before .before .before .take-reply .ensures) (not-false _ (c .if2 .left)))
+loop-again c = (omega arith, merge-again _ (repliesWith (c .before .before .before .before .before .before .before .before .before .before .before .before .before .before .before .before .before .before .args .shape) ((c .before .before .before .before .before .before .before .before .before .before .before .before .before .before .before .before .before .before .args .state) .now) (c .before .before .before .before .before .before .before .before .before .before .before .before .before .before .before .before .before .before .args .from) ((c .before .before .before .before .before .before .before .before .before .before .before .before .before .before .before .before .before .before .args .message) .now) (c .before .before .before .before .before .before .before .before .before .before .before .before .before .before .before .before .before .before .args .at) (c .before .before .before .before .before .before .before .before .before .before .before .before .before .before .before .before .before .before .args .count)) _ (replies-long ((c .before .before .before .before .before .before .before .before .before .before .before .before .before .before .before .before .before .before .pre) .0) _ _) _ _ _ ((c .before .before .before .before .before .before .before .loop .inv) .1) (c .before .before .before .before .before .if1 .taken) _ _ (c .before .before .before .take-reply .ensures) (not-false _ (c .if2 .left)))
 
 order-requires : tie.Need-order-requires Inv-loop μ-loop
 order-requires c κs = is-table _ _ _ ((c .before .before .before .loop .inv) .1)
