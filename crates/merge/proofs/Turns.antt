@@ -1,6 +1,6 @@
 -- The merge turn by turn: what each group's reply is, and what stands once the first j of them are taken in. Assumes nothing.
 use Prim.Native.Nat.{ℕ, _+_, _-_, _*_, _≤_, _<_, min}
-use mathlib.Core.Path.{_≡_, refl, sym, ap, subst, _∙_}
+use mathlib.Core.Path.{_≡_, refl, sym, ap, _∙_}
 use mathlib.Core.Bool.{Bool, true, false, true≢false}
 use mathlib.Core.Option.{Option, none, some}
 use mathlib.Core.List.{List, [], _∷_, _++_, append-nil}
@@ -20,7 +20,7 @@ use Rattle.rules.specs.Merge.{takeAll, entriesIn, merged}
 use Rattle.rules.specs.declared.Entry.{Entry}
 use Rattle.rules.specs.declared.Shape.{Shape}
 use Rattle.rules.proofs.Order.{ordered-length}
-use Rattle.entries.specs.Table.{Holds, Table}
+use Rattle.entries.specs.Table.{Holds}
 use Rattle.entries.proofs.Table.{decoded, and-then}
 use Rattle.places.specs.Layout.{startOf, PlaceAt, Stands}
 use Rattle.places.proofs.Sections.{stands-fits, stands-laid}

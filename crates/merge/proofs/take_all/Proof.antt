@@ -21,7 +21,7 @@ abbrev μ-loop : tie.MeasureT-loop
 μ-loop t₀ c src at count i₀ t i = count - i
 
 loop-holds : tie.Need-loop-holds Inv-loop μ-loop
-loop-holds c = (omega arith, refl, subst (λ (ds : List Entry). Holds ((c .before .before .args .c)) ds ((c .before .before .args .t) .now)) (row-start _ _ _) ((c .before .before .pre) .0))
+loop-holds c = (omega arith, refl, subst (λ (ds : List Entry). Holds (c .before .before .args .c) ds ((c .before .before .args .t) .now)) (row-start _ _ _) ((c .before .before .pre) .0))
 
 mul-entry-at : tie.Need-mul-entry-at Inv-loop μ-loop
 mul-entry-at c = search needs
