@@ -1,0 +1,3 @@
+-- Why the tests of a message are those of the rules.
+pub mod Ways
+pub mod Refuses
