@@ -1,0 +1,4 @@
+-- Why the tests of a message are those of the rules.
+pub mod Ways
+pub mod Refuses
+pub mod Steps

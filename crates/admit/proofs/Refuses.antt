@@ -1,0 +1,98 @@
+-- Which refusal each way through the tests gives. Assumes nothing.
+use Prim.Native.Nat.{ℕ}
+use mathlib.Core.Path.{_≡_, refl, sym, ap, _∙_}
+use mathlib.Core.Bool.{Bool, true, false, _||_, not, true≢false}
+use mathlib.Core.List.{List}
+use lib.Dec.{eqb}
+use Rattle.rules.specs.Choice.{pick}
+use Rattle.rules.specs.Wire.{known, toOutside, tagOf, headerIn}
+use Rattle.rules.specs.Read.{wireIn, decoded}
+use Rattle.rules.specs.Image.{stateOf}
+use Rattle.rules.specs.Step.{here, viewRight, statusRight, roleRight}
+use Rattle.rules.specs.declared.Shape.{Shape}
+use Rattle.rules.specs.declared.Message.{Message}
+use Rattle.rules.specs.declared.Message.the-variants as m
+use Rattle.wire.specs.Parts.{saidOf}
+use Rattle.wire.specs.declared.Said.{Said}
+use Rattle.handler.proofs.Told.{told, told-sender}
+use Rattle.admit.specs.Refusal.{refusalOf, Heads}
+
+-- a case that is a message has a known kind
+tag-known : (x : Message) → eqb (tagOf x) 0 ≡ false → known (tagOf x) ≡ true
+tag-known m.WrongSizes e = absurd (true≢false e)
+tag-known (m.Malformed at) e = absurd (true≢false e)
+tag-known (m.Transaction h sendTime bound) e = refl
+tag-known (m.Note h) e = refl
+tag-known (m.ReplicaSync h) e = refl
+tag-known (m.FastReply h placed position digest) e = refl
+tag-known (m.SlowReply h position) e = refl
+tag-known (m.ChangeView h) e = refl
+tag-known (m.Vote h normal sync) e = refl
+tag-known (m.StartView h) e = refl
+tag-known (m.SyncStatus h sync) e = refl
+tag-known (m.Commit h commit) e = refl
+tag-known (m.VerifyRequest h boundary) e = refl
+tag-known (m.VerifyReply h) e = refl
+tag-known (m.Tick h time) e = refl
+
+left-false : (a b : Bool) → (a || b) ≡ false → a ≡ false
+left-false true b e = absurd (true≢false e)
+left-false false b e = refl
+
+not-true : (a : Bool) → not a ≡ true → a ≡ false
+not-true true e = absurd (true≢false (sym e))
+not-true false e = refl
+
+not-false : (a : Bool) → not a ≡ false → a ≡ true
+not-false true e = refl
+not-false false e = absurd (true≢false e)
+
+module _ (sh : Shape) (msg : List ℕ) (x : Message) (u : Said) (d : x ≡ decoded (sh .n) (sh .s) msg) (e : u ≡ saidOf x) (o : Bool) (q : o ≡ toOutside (u .tag)) where
+  is-tag : u .tag ≡ tagOf x
+  is-tag = ap (λ (z : Said). z .tag) e
+
+  first : (eqb (u .tag) 0 || o) ≡ (eqb (tagOf x) 0 || toOutside (tagOf x))
+  first = rw (q, is-tag)
+
+  pub heads : (eqb (u .tag) 0 || o) ≡ false → Heads sh (u .tag) (u .header) msg
+  heads f =
+      let n : eqb (tagOf x) 0 ≡ false = left-false (eqb (tagOf x) 0) (toOutside (tagOf x)) (sym first ∙ f) in
+      let t = told (sh .n) (sh .s) x msg d (tag-known x n) in
+      let h : u .header ≡ headerIn x = ap (λ (z : Said). z .header) e in
+      record {
+        kind = t .kind ∙ sym is-tag;
+        header = t .header ∙ sym h;
+        sender = λ g. rw h (told-sender (sh .n) (sh .s) x msg t (rw is-tag at g));
+      }
+
+  module _ (b : List ℕ) where
+    abbrev Refuses : ℕ → Type 0
+    Refuses r = r ≡ refusalOf sh (stateOf sh b) (tagOf x) (wireIn (sh .s) msg)
+
+    pub two : (eqb (u .tag) 0 || o) ≡ true → Refuses 2
+    unfolding refusalOf pick
+    two f = rw (sym first ∙ f)
+
+    module _ (f : (eqb (u .tag) 0 || o) ≡ false) (y₁ : Bool) (e₁ : y₁ ≡ here (stateOf sh b) (wireIn (sh .s) msg)) where
+      pub three : not y₁ ≡ true → Refuses 3
+      unfolding refusalOf pick
+      three g = rw (sym first ∙ f, sym e₁ ∙ not-true y₁ g)
+
+      module _ (g₁ : not y₁ ≡ false) (y₂ : Bool) (e₂ : y₂ ≡ viewRight (u .tag) (stateOf sh b) (wireIn (sh .s) msg)) where
+        pub four : not y₂ ≡ true → Refuses 4
+        unfolding refusalOf pick
+        four g = rw (sym first ∙ f, sym e₁ ∙ not-false y₁ g₁, sym is-tag, sym e₂ ∙ not-true y₂ g)
+
+        module _ (g₂ : not y₂ ≡ false) (y₃ : Bool) (e₃ : y₃ ≡ statusRight (u .tag) (stateOf sh b) (wireIn (sh .s) msg)) where
+          pub five : not y₃ ≡ true → Refuses 5
+          unfolding refusalOf pick
+          five g = rw (sym first ∙ f, sym e₁ ∙ not-false y₁ g₁, sym is-tag, sym e₂ ∙ not-false y₂ g₂, sym e₃ ∙ not-true y₃ g)
+
+          module _ (g₃ : not y₃ ≡ false) (y₄ : Bool) (e₄ : y₄ ≡ roleRight (u .tag) sh (stateOf sh b) (wireIn (sh .s) msg)) where
+            pub six : not y₄ ≡ true → Refuses 6
+            unfolding refusalOf pick
+            six g = rw (sym first ∙ f, sym e₁ ∙ not-false y₁ g₁, sym is-tag, sym e₂ ∙ not-false y₂ g₂, sym e₃ ∙ not-false y₃ g₃, sym e₄ ∙ not-true y₄ g)
+
+            pub taken : not y₄ ≡ false → Refuses 0
+            unfolding refusalOf pick
+            taken g = rw (sym first ∙ f, sym e₁ ∙ not-false y₁ g₁, sym is-tag, sym e₂ ∙ not-false y₂ g₂, sym e₃ ∙ not-false y₃ g₃, sym e₄ ∙ not-false y₄ g)
