@@ -1,5 +1,5 @@
 // The messages of document 01: read from bytes, and written to bytes.
-mod decode;
+pub mod decode;
 mod fields;
 pub mod kinds;
 mod log;
