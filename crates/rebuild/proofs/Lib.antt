@@ -1,0 +1,2 @@
+-- Laws of the votes, and of the rebuild from them.
+pub mod Votes

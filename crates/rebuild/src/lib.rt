@@ -1,0 +1,82 @@
+// The rebuild of a log from the votes of a view change, into a table that the caller lends: no byte of the state changes.
+use rules::Entry;
+use rules::GroupSize;
+use rules::Shape;
+ghost use mathlib.Core.Path.{_≡_};
+ghost use mathlib.Core.Bool.{true, _&&_};
+ghost use mathlib.Core.Option.{none};
+ghost use mathlib.Core.List.{List, [], _∷_};
+ghost use Prim.Native.Nat.{ℕ, _+_, _*_, _≤_, _<_};
+ghost use lib.Dec.{eqb, ltb};
+ghost use lib.ListN.{length, take, getD};
+ghost use Rattle.rules.specs.Choice.{pick, any, keep, isSome};
+ghost use Rattle.rules.specs.Entry.{sameKey, among};
+ghost use Rattle.rules.specs.Image.{tableAt};
+ghost use Rattle.rules.specs.Rebuild.{topFrom, withNormal, prefix, holders, copies, isAdded};
+ghost use Rattle.entries.specs.Table.{Holds, Table};
+ghost use Rattle.rebuild.specs.Ballots.{votesIn, voteOf, countsAt, Sent, Given, Tells, Lists};
+ghost use Rattle.rebuild.specs.Rebuild.{BestTo, Based, Adds, Gives, lower, isNew};
+
+// The vote that a message brings: its sender, last normal gView and sync point, where the count of its entries stands, and whether it enters a greater view.
+pub struct Cast {
+    pub sender: u64,
+    pub normal: u64,
+    pub sync: u64,
+    pub at: usize,
+    pub entering: bool,
+}
+
+// Of a replica's vote: whether there is one, and its last normal gView and sync point.
+struct Ballot {
+    held: bool,
+    normal: u64,
+    sync: u64,
+}
+
+// A replica whose vote has the largest sync point so far.
+struct Best {
+    replica: u64,
+    sync: u64,
+}
+
+// What the rebuild starts from: the greatest last normal gView, the replica whose vote gives the prefix, the prefix's length, the boundary.
+struct Basis {
+    top: u64,
+    replica: u64,
+    length: usize,
+    boundary: u64,
+}
+
+// The rebuilt log's boundary, where the table has room for the log.
+pub enum Rebuilt {
+    TooLong,
+    Log(u64),
+}
+
+// ---- one vote
+
+// What the vote of replica r says: the sender's stands in the message, and where the step enters a greater view only the own one is kept beside it.
+fn ballot_of(shape: Shape, state: &[u8], cast: Cast, r: u64) -> Ballot
+    requires { ⌜ Sent shape (now state) cast × (r < shape .n) ⌝ }
+    ensures { λ t. ⌜ ((msg : List ℕ) → Tells (getD (votesIn shape (now (state .entry)) msg cast) r none) t) ⌝ }
+{
+    if r == cast.sender {
+        return Ballot {
+            held: true,
+            normal: cast.normal,
+            sync: cast.sync,
+        };
+    }
+    if cast.entering {
+        return Ballot {
+            held: r == places::get_replica(state),
+            normal: places::get_normal(state) as u64,
+            sync: places::get_sync(state),
+        };
+    }
+    Ballot {
+        held: places::vote_flag(shape, state, r),
+        normal: places::vote_normal(shape, state, r) as u64,
+        sync: places::vote_sync(shape, state, r),
+    }
+}
