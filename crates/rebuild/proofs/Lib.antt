@@ -1,2 +1,3 @@
 -- Laws of the votes, and of the rebuild from them.
 pub mod Votes
+pub mod Counting

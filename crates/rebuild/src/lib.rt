@@ -80,3 +80,68 @@ fn ballot_of(shape: Shape, state: &[u8], cast: Cast, r: u64) -> Ballot
         sync: places::vote_sync(shape, state, r),
     }
 }
+
+// Whether the vote of replica r counts: there is one, with the greatest last normal gView.
+fn counted(shape: Shape, state: &[u8], cast: Cast, top: u64, r: u64) -> bool
+    requires { ⌜ Sent shape (now state) cast × (r < shape .n) ⌝ }
+    ensures { λ t. ⌜ ((msg : List ℕ) → t ≡ countsAt top (getD (votesIn shape (now (state .entry)) msg cast) r none)) ⌝ }
+{
+    let ballot = ballot_of(shape, state, cast, r);
+    ballot.held & (ballot.normal == top)
+}
+
+// ---- the votes that count
+
+// The greater of a last normal gView and that of one vote more.
+fn raised(top: u64, ballot: Ballot) -> u64
+    ensures { λ t. ⌜ t ≡ pick (ballot .held && ltb top (ballot .normal)) (ballot .normal) top ⌝ }
+{
+    if ballot.held & (top < ballot.normal) {
+        return ballot.normal;
+    }
+    top
+}
+
+// The greatest last normal gView.
+fn top_normal(shape: Shape, state: &[u8], cast: Cast) -> u64
+    requires { ⌜ Sent shape (now state) cast ⌝ }
+    ensures { λ t. ⌜ ((msg : List ℕ) → t ≡ topFrom 0 (votesIn shape (now (state .entry)) msg cast)) ⌝ }
+{
+    let mut top = 0;
+    let mut r = 0;
+    while r < shape.n {
+        top = raised(top, ballot_of(shape, state, cast, r));
+        r += 1;
+    }
+    top
+}
+
+// The better of the best vote so far and that of replica r, which has to count and to have a larger sync point: so the lowest replica wins a tie.
+fn better(top: u64, best: Best, r: u64, ballot: Ballot) -> Best
+    ensures { λ b. ⌜ b ≡ pick (ballot .held && (eqb (ballot .normal) top && ltb (best .sync) (ballot .sync))) (record { replica = r; sync = ballot .sync }) best ⌝ }
+{
+    if ballot.held & ((ballot.normal == top) & (best.sync < ballot.sync)) {
+        return Best {
+            replica: r,
+            sync: ballot.sync,
+        };
+    }
+    best
+}
+
+// The vote that gives the prefix; n where no sync point is above 0.
+fn best_vote(shape: Shape, state: &[u8], cast: Cast, top: u64) -> Best
+    requires { ⌜ Sent shape (now state) cast ⌝ }
+    ensures { λ b. ⌜ ((msg : List ℕ) → BestTo (shape .n) (votesIn shape (now (state .entry)) msg cast) top (shape .n) b) ⌝ }
+{
+    let mut best = Best {
+        replica: shape.n,
+        sync: 0,
+    };
+    let mut r = 0;
+    while r < shape.n {
+        best = better(top, best, r, ballot_of(shape, state, cast, r));
+        r += 1;
+    }
+    best
+}
