@@ -1,3 +1,4 @@
 -- Laws of the votes, and of the rebuild from them.
 pub mod Votes
 pub mod Counting
+pub mod Listed

@@ -145,3 +145,32 @@ fn best_vote(shape: Shape, state: &[u8], cast: Cast, top: u64) -> Best
     }
     best
 }
+
+// ---- the logs of the votes
+
+// The log of replica r's vote, where it stands: a count, and entries behind it.
+fn log_of<'a>(
+    shape: Shape,
+    state: &'a [u8],
+    message: &'a [u8],
+    cast: Cast,
+    r: u64,
+) -> &'a [u8]
+    requires { ⌜ Given shape (now state) (now message) cast × (r < shape .n) × (isSome (getD (votesIn shape (now state) (now message) cast) r none) ≡ true) ⌝ }
+    ensures { λ t. ⌜ Lists (shape .c) (voteOf (getD (votesIn shape (now (state .entry)) (now (message .entry)) cast) r none) .log) (now t) ⌝ }
+{
+    if r == cast.sender {
+        let at = cast.at;
+        let end = message.len();
+        return &message[at..end];
+    }
+    let places = places::places_of(shape);
+    if cast.entering {
+        let at = places.log;
+        let end = at + places.table;
+        return &state[at..end];
+    }
+    let at = places::vote_place(shape, r) + 13;
+    let end = at + places.table;
+    &state[at..end]
+}
