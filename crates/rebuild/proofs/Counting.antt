@@ -27,7 +27,7 @@ next vs r h = rw add-one (take-suc vs r none h)
 
 -- a vote alone
 alone : (top : ℕ) (x : Option Vote) → withNormal top (x ∷ []) ≡ pick (countsAt top x) (voteOf x ∷ []) []
-unfolding withNormal pick
+unfolding withNormal pick countsAt voteOf
 alone top none = refl
 alone top (some v) = refl
 
@@ -42,6 +42,7 @@ lower-all top vs r h = ap (withNormal top) (take-all r vs h)
 
 -- whether a vote counts, by what is told of it
 pub counts-told : (top : ℕ) (x : Option Vote) (t : Ballot) → Tells x t → (t .held && eqb (t .normal) top) ≡ countsAt top x
+unfolding countsAt voteOf
 counts-told top none t h = rw (h .held)
 counts-told top (some v) t h = rw (h .held, h .normal refl)
 
@@ -58,7 +59,7 @@ unfolding topFrom
 top-start = refl
 
 top-told : (top : ℕ) (x : Option Vote) (t : Ballot) → Tells x t → pick (t .held && ltb top (t .normal)) (t .normal) top ≡ topFrom top (x ∷ [])
-unfolding topFrom
+unfolding topFrom voteOf
 top-told top none t h = rw (h .held) (pick-false false (t .normal) top refl)
 top-told top (some v) t h =
     let n : t .normal ≡ v .normal = h .normal refl in
@@ -81,7 +82,7 @@ best-append u [] ys = refl
 best-append u (v ∷ xs) ys = best-append (pick (ltb (u .sync) (v .sync)) v u) xs ys
 
 pub best-start : (vs : List (Option Vote)) (n top : ℕ) → length vs ≡ n → BestTo n vs top 0 (record { replica = n; sync = 0 })
-unfolding withNormal bestFrom
+unfolding withNormal bestFrom voteOf
 best-start vs n top l =
     let e : getD vs n none ≡ none = List·getD-eq-default vs none (omega arith) in
     record {
@@ -112,6 +113,7 @@ module _ (n : ℕ) (vs : List (Option Vote)) (top r : ℕ) (b : Best) (l : lengt
   none-best u = refl
 
   told : (x : Option Vote) (t : Ballot) → getD vs r none ≡ x → Tells x t → BestTo n vs top (r + 1) (pick (t .held && (eqb (t .normal) top && ltb (b .sync) (t .sync))) (record { replica = r; sync = t .sync }) b)
+  unfolding countsAt voteOf
   told none t e f =
       rw (f .held, pick-false false (record { replica = r; sync = t .sync }) b refl)
       (stays (best-is ∙ ap (λ (x : Option Vote). bestFrom (voteOf (getD vs (b .replica) none)) (pick (countsAt top x) (voteOf x ∷ []) [])) e ∙ ap (bestFrom _) (pick-false false _ [] refl) ∙ none-best _))

@@ -2,3 +2,6 @@
 pub mod Votes
 pub mod Counting
 pub mod Listed
+pub mod Sound
+pub mod Holders
+pub mod New

@@ -73,11 +73,12 @@ lists-sent c msg at end h r e =
 
 module _ (sh : Shape) (b msg : List ℕ) (k : Cast) (g : Given sh b msg k) (r : ℕ) (h : r < sh .n) where
   pub log-sent : (end : ℕ) → r ≡ k .sender → end ≡ length msg → Lists (sh .c) (voteOf (getD (votesIn sh b msg k) r none) .log) (take (end - k .at) (drop (k .at) msg))
+  unfolding voteOf
   log-sent end e q = rw (at-sender sh b msg k (g .sent) r e) (lists-sent (sh .c) msg (k .at) end (g .long) (g .room) q)
 
   module _ (s : isSome (getD (votesIn sh b msg k) r none) ≡ true) (d : r ≡ k .sender → ⊥) (a e : ℕ) where
     pub log-own : k .entering ≡ true → a ≡ startOf sh 3 → e ≡ a + tableLength (sh .c) → Lists (sh .c) (voteOf (getD (votesIn sh b msg k) r none) .log) (take (e - a) (drop a b))
-    unfolding pick
+    unfolding pick voteOf
     log-own y p q =
         let st = g .sent .stands in
         let v : getD (votesIn sh b msg k) r none ≡ some (ownVote (stateOf sh b)) = at-own sh b msg k (g .sent) r h d y ∙ go (eqb r (stateOf sh b .replica)) (rw (at-own sh b msg k (g .sent) r h d y) at s) in
@@ -88,6 +89,7 @@ module _ (sh : Shape) (b msg : List ℕ) (k : Cast) (g : Given sh b msg k) (r : 
         go false w = absurd (let z : _≡_ {A = ℕ} 0 1 = cc in omega arith)
 
     pub log-kept : k .entering ≡ false → (p : ℕ) → PlaceAt sh 7 (voteLength (sh .c)) r p → a ≡ p + 13 → e ≡ a + tableLength (sh .c) → Lists (sh .c) (voteOf (getD (votesIn sh b msg k) r none) .log) (take (e - a) (drop a b))
+    unfolding voteOf
     log-kept y p f i q =
         let o : getD (votesIn sh b msg k) r none ≡ getD (stateOf sh b .votes) r none = at-kept sh b msg k (g .sent) r d y in
         let v = is-some (getD (stateOf sh b .votes) r none) (rw o at s) in

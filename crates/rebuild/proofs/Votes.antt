@@ -78,10 +78,11 @@ module _ (sh : Shape) (b msg : List ℕ) (k : Cast) (g : Sent sh b k) where
 
   -- ---- what is told of each
   pub tells-sender : (r : ℕ) → r ≡ k .sender → Tells (getD (votesIn sh b msg k) r none) (record { held = true; normal = k .normal; sync = k .sync })
+  unfolding voteOf
   tells-sender r e = rw (at-sender r e) (record { held = refl; normal = λ h. refl; sync = λ h. refl })
 
   own-tells : (v : Vote) (t : Bool) → Tells (pick t (some v) none) (record { held = t; normal = v .normal; sync = v .sync })
-  unfolding pick
+  unfolding pick voteOf
   own-tells v true = record { held = refl; normal = λ h. refl; sync = λ h. refl }
   own-tells v false = record { held = refl; normal = λ h. absurd (let z : _≡_ {A = ℕ} 0 1 = cc in omega arith); sync = λ h. absurd (let z : _≡_ {A = ℕ} 0 1 = cc in omega arith) }
 
@@ -90,6 +91,7 @@ module _ (sh : Shape) (b msg : List ℕ) (k : Cast) (g : Sent sh b k) where
       rw (at-own r h d e, p ∙ replica-of (g .stands), q ∙ normal-of (g .stands), s ∙ sync-of (g .stands)) (own-tells (ownVote st) (eqb r (st .replica)))
 
   pub tells-kept : (r : ℕ) (held : Bool) (normal sync : ℕ) → r < sh .n → (r ≡ k .sender → ⊥) → k .entering ≡ false → held ≡ isSome (voteAt (sh .c) b (startOf sh 7 + voteLength (sh .c) * r)) → normal ≡ num b (startOf sh 7 + voteLength (sh .c) * r + 1) 4 → sync ≡ num b (startOf sh 7 + voteLength (sh .c) * r + 5) 8 → Tells (getD (votesIn sh b msg k) r none) (record { held = held; normal = normal; sync = sync })
+  unfolding voteOf
   tells-kept r held normal sync h d e p q s =
       rw (at-kept r d e)
       (record {

@@ -47,12 +47,12 @@ pub record Given (sh : Shape) (b msg : List ℕ) (k : Cast) : Type 0 where
 -- ---- one of them
 
 -- the vote, and an empty one where there is none
-abbrev pub voteOf : Option Vote → Vote
+unfoldable pub voteOf : Option Vote → Vote
 voteOf none = record { normal = 0; sync = 0; log = [] }
 voteOf (some v) = v
 
 -- it is there, with this last normal gView
-abbrev pub countsAt : ℕ → Option Vote → Bool
+unfoldable pub countsAt : ℕ → Option Vote → Bool
 countsAt top none = false
 countsAt top (some v) = eqb (v .normal) top
 

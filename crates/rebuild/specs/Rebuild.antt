@@ -6,13 +6,13 @@ use mathlib.Core.Option.{Option, none, some}
 use mathlib.Core.List.{List, [], _∷_}
 use lib.ListN.{length, take, getD}
 use lib.Dec.{eqb}
-use Rattle.rules.specs.Choice.{pick, keep, isSome}
-use Rattle.rules.specs.Entry.{placeAll}
+use Rattle.rules.specs.Choice.{pick, any, keep, isSome}
+use Rattle.rules.specs.Entry.{sameKey, placeAll}
 use Rattle.rules.specs.State.{Vote}
 use Rattle.rules.specs.Rebuild.{topFrom, withNormal, best, prefix, boundaryIn, holders, isAdded, rebuilt, boundaryOf}
 use Rattle.rules.specs.declared.Entry.{Entry}
 use Rattle.entries.specs.Table.{Holds}
-use Rattle.rebuild.specs.Ballots.{voteOf}
+use Rattle.rebuild.specs.Ballots.{voteOf, countsAt}
 use Rattle.rebuild.specs.declared.Best.{Best}
 use Rattle.rebuild.specs.declared.Basis.{Basis}
 use Rattle.rebuild.specs.declared.Rebuilt.{Rebuilt}
@@ -39,9 +39,17 @@ pub record Based (n : ℕ) (vs : List (Option Vote)) (b : Basis) : Type 0 where
 abbrev pub lower : ℕ → List (Option Vote) → ℕ → List Vote
 lower top vs r = withNormal top (take r vs)
 
+-- the vote counts and holds e
+unfoldable pub holdsAt : ℕ → Entry → Option Vote → Bool
+holdsAt top e x = countsAt top x && any (sameKey e) (voteOf x .log)
+
 -- e, in the vote of replica r, is to be added: no lower vote holds it
-abbrev pub isNew : ℕ → ℕ → List (Option Vote) → ℕ → Entry → Bool
+unfoldable pub isNew : ℕ → ℕ → List (Option Vote) → ℕ → Entry → Bool
 isNew n top vs r e = isAdded n (withNormal top vs) e && eqb (holders (lower top vs r) e) 0
+
+-- what the vote of replica r adds, where it counts
+unfoldable pub newFrom : ℕ → ℕ → List (Option Vote) → ℕ → List Entry
+newFrom n top vs r = pick (countsAt top (getD vs r none)) (keep (isNew n top vs r) (voteOf (getD vs r none) .log)) []
 
 -- all entries are put in order into the table, or there are too many for it
 abbrev pub Adds : ℕ → List Entry → List Entry → List ℕ → Bool → Type 0

@@ -15,7 +15,7 @@ ghost use Rattle.rules.specs.Image.{tableAt};
 ghost use Rattle.rules.specs.Rebuild.{topFrom, withNormal, prefix, holders, copies, isAdded};
 ghost use Rattle.entries.specs.Table.{Holds, Table};
 ghost use Rattle.rebuild.specs.Ballots.{votesIn, voteOf, countsAt, Sent, Given, Tells, Lists};
-ghost use Rattle.rebuild.specs.Rebuild.{BestTo, Based, Adds, Gives, lower, isNew};
+ghost use Rattle.rebuild.specs.Rebuild.{BestTo, Based, Adds, Gives, lower, holdsAt, isNew, newFrom};
 
 // The vote that a message brings: its sender, last normal gView and sync point, where the count of its entries stands, and whether it enters a greater view.
 pub struct Cast {
@@ -173,4 +173,116 @@ fn log_of<'a>(
     let at = places::vote_place(shape, r) + 13;
     let end = at + places.table;
     &state[at..end]
+}
+
+// Whether the log of replica r's vote has e, by timestamp and transaction. A good log has a transaction once, so the first that is found decides.
+fn log_holds<'a>(
+    shape: Shape,
+    state: &'a [u8],
+    message: &'a [u8],
+    cast: Cast,
+    r: u64,
+    e: Entry,
+) -> bool
+    requires { ⌜ Given shape (now state) (now message) cast × (r < shape .n) × (isSome (getD (votesIn shape (now state) (now message) cast) r none) ≡ true) ⌝ }
+    ensures { λ t. ⌜ t ≡ any (sameKey e) (voteOf (getD (votesIn shape (now (state .entry)) (now (message .entry)) cast) r none) .log) ⌝ }
+{
+    let log = log_of(shape, state, message, cast, r);
+    let count = entries::count(log);
+    let i = entries::find(log, 4, count, e.request, e.coordinator);
+    if count <= i {
+        return false;
+    }
+    let found = entries::entry_at(log, 4 + 24 * i);
+    e.stamp == found.stamp
+}
+
+// Whether the vote of replica r counts and holds e.
+fn holds_at<'a>(
+    shape: Shape,
+    state: &'a [u8],
+    message: &'a [u8],
+    cast: Cast,
+    top: u64,
+    r: u64,
+    e: Entry,
+) -> bool
+    requires { ⌜ Given shape (now state) (now message) cast × (r < shape .n) ⌝ }
+    ensures { λ t. ⌜ t ≡ holdsAt top e (getD (votesIn shape (now (state .entry)) (now (message .entry)) cast) r none) ⌝ }
+{
+    if !counted(shape, state, cast, top, r) {
+        return false;
+    }
+    log_holds(shape, state, message, cast, r, e)
+}
+
+// How many of the votes of replicas below `end` count and hold e.
+fn holders_below<'a>(
+    shape: Shape,
+    state: &'a [u8],
+    message: &'a [u8],
+    cast: Cast,
+    top: u64,
+    end: u64,
+    e: Entry,
+) -> u64
+    requires { ⌜ Given shape (now state) (now message) cast × (end ≤ shape .n) ⌝ }
+    ensures { λ k. ⌜ k ≡ holders (lower top (votesIn shape (now (state .entry)) (now (message .entry)) cast) end) e ⌝ }
+{
+    let mut sum = 0;
+    let mut r = 0;
+    while r < end {
+        if holds_at(shape, state, message, cast, top, r, e) {
+            sum += 1;
+        }
+        r += 1;
+    }
+    sum
+}
+
+// ---- what is added
+
+// Whether the transaction of e is in the prefix.
+fn in_prefix<'a>(
+    shape: Shape,
+    state: &'a [u8],
+    message: &'a [u8],
+    cast: Cast,
+    basis: Basis,
+    e: Entry,
+) -> bool
+    requires { ⌜ Given shape (now state) (now message) cast × Based (shape .n) (votesIn shape (now state) (now message) cast) basis ⌝ }
+    ensures { λ t. ⌜ t ≡ among (prefix (withNormal (basis .top) (votesIn shape (now (state .entry)) (now (message .entry)) cast))) e ⌝ }
+{
+    if shape.n <= basis.replica {
+        return false;
+    }
+    let log = log_of(shape, state, message, cast, basis.replica);
+    entries::find(log, 4, basis.length, e.request, e.coordinator) < basis.length
+}
+
+// Whether e, of replica r's vote, is to be added: it is later than the boundary, no lower vote holds it, it is not in the prefix, and R votes hold it.
+fn is_new<'a>(
+    shape: Shape,
+    state: &'a [u8],
+    message: &'a [u8],
+    cast: Cast,
+    basis: Basis,
+    r: u64,
+    e: Entry,
+) -> bool
+    requires { ⌜ Given shape (now state) (now message) cast × Based (shape .n) (votesIn shape (now state) (now message) cast) basis × (r < shape .n) ⌝ }
+    ensures { λ t. ⌜ t ≡ isNew (shape .n) (basis .top) (votesIn shape (now (state .entry)) (now (message .entry)) cast) r e ⌝ }
+{
+    if e.stamp <= basis.boundary {
+        return false;
+    }
+    if holders_below(shape, state, message, cast, basis.top, r, e) != 0 {
+        return false;
+    }
+    if in_prefix(shape, state, message, cast, basis, e) {
+        return false;
+    }
+    let all = holders_below(shape, state, message, cast, basis.top, shape.n, e);
+    GroupSize(shape.n).recovery() <= all
 }
