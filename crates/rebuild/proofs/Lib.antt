@@ -5,3 +5,4 @@ pub mod Listed
 pub mod Sound
 pub mod Holders
 pub mod New
+pub mod Added

@@ -52,11 +52,11 @@ unfoldable pub newFrom : ℕ → ℕ → List (Option Vote) → ℕ → List Ent
 newFrom n top vs r = pick (countsAt top (getD vs r none)) (keep (isNew n top vs r) (voteOf (getD vs r none) .log)) []
 
 -- all entries are put in order into the table, or there are too many for it
-abbrev pub Adds : ℕ → List Entry → List Entry → List ℕ → Bool → Type 0
+unfoldable pub Adds : ℕ → List Entry → List Entry → List ℕ → Bool → Type 0
 Adds c es xs t true = Holds c (placeAll es xs) t
 Adds c es xs t false = c < length es + length xs
 
 -- the rebuilt log stands in the table, beside its boundary, or it is too long for it
-abbrev pub Gives : ℕ → ℕ → List (Option Vote) → List ℕ → Rebuilt → Type 0
+unfoldable pub Gives : ℕ → ℕ → List (Option Vote) → List ℕ → Rebuilt → Type 0
 Gives c n vs t TooLong = c < length (rebuilt n vs)
 Gives c n vs t (Log boundary) = Holds c (rebuilt n vs) t × (boundary ≡ boundaryOf vs)

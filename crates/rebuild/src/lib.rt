@@ -286,3 +286,57 @@ fn is_new<'a>(
     let all = holders_below(shape, state, message, cast, basis.top, shape.n, e);
     GroupSize(shape.n).recovery() <= all
 }
+
+// Puts e, of replica r's vote, in order into the table if it is to be added; false where the table is full.
+fn add_entry<'a>(
+    shape: Shape,
+    state: &'a [u8],
+    message: &'a [u8],
+    cast: Cast,
+    basis: Basis,
+    r: u64,
+    e: Entry,
+    table: &mut [u8],
+) -> bool
+    requires { ⌜ Given shape (now state) (now message) cast × Based (shape .n) (votesIn shape (now state) (now message) cast) basis × (r < shape .n) × Table (shape .c) (now table) ⌝ }
+    ensures { λ t. ⌜ Adds (shape .c) (tableAt (shape .c) (now (table .entry)) 0) (pick (isNew (shape .n) (basis .top) (votesIn shape (now (state .entry)) (now (message .entry)) cast) r e) (e ∷ []) []) (now (table .exit)) t ⌝ }
+{
+    if !is_new(shape, state, message, cast, basis, r, e) {
+        return true;
+    }
+    let c = shape.c as usize;
+    if c <= entries::count(table) {
+        return false;
+    }
+    entries::insert_in_order(table, c, e);
+    true
+}
+
+// Adds what the vote of replica r has to add; false where the table is full.
+fn add_from<'a>(
+    shape: Shape,
+    state: &'a [u8],
+    message: &'a [u8],
+    cast: Cast,
+    basis: Basis,
+    r: u64,
+    table: &mut [u8],
+) -> bool
+    requires { ⌜ Given shape (now state) (now message) cast × Based (shape .n) (votesIn shape (now state) (now message) cast) basis × (r < shape .n) × Table (shape .c) (now table) ⌝ }
+    ensures { λ t. ⌜ Adds (shape .c) (tableAt (shape .c) (now (table .entry)) 0) (newFrom (shape .n) (basis .top) (votesIn shape (now (state .entry)) (now (message .entry)) cast) r) (now (table .exit)) t ⌝ }
+{
+    if !counted(shape, state, cast, basis.top, r) {
+        return true;
+    }
+    let log = log_of(shape, state, message, cast, r);
+    let count = entries::count(log);
+    let mut i = 0;
+    while i < count {
+        let e = entries::entry_at(log, 4 + 24 * i);
+        if !add_entry(shape, state, message, cast, basis, r, e, table) {
+            return false;
+        }
+        i += 1;
+    }
+    true
+}
