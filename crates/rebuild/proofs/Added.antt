@@ -68,7 +68,7 @@ module _ (c : ℕ) (es : List Entry) (p : Entry → Bool) (log : List Entry) whe
         let l : length (tableAt c t 0) ≡ length es + length (keep p (take i log)) = ap length (decoded c _ t k) ∙ length-placed es (keep p (take i log)) in
         let m : length (keep p (take (i + 1) log)) ≡ length (keep p (take i log)) + length (pick (p e) (e ∷ []) []) = ap length (one-more i e h q) ∙ length-append (keep p (take i log)) _ in
         let w : length (keep p log) ≡ length (keep p (take (i + 1) log)) + length (keep p (drop (i + 1) log)) =
-            ap (λ (x : List Entry). length (keep p x)) (sym (take-append-drop (i + 1) log)) ∙ ap length (keep-append p (take (i + 1) log) (drop (i + 1) log)) ∙ length-append (keep p (take (i + 1) log)) _ in
+        ap (λ (x : List Entry). length (keep p x)) (sym (take-append-drop (i + 1) log)) ∙ ap length (keep-append p (take (i + 1) log) (drop (i + 1) log)) ∙ length-append (keep p (take (i + 1) log)) _ in
         omega arith
 
   pub log-end : (i : ℕ) (t : List ℕ) → length log ≤ i → Holds c (placeAll es (keep p (take i log))) t → Holds c (placeAll es (keep p log)) t

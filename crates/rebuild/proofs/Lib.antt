@@ -6,3 +6,4 @@ pub mod Sound
 pub mod Holders
 pub mod New
 pub mod Added
+pub mod Whole

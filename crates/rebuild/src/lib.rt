@@ -149,13 +149,7 @@ fn best_vote(shape: Shape, state: &[u8], cast: Cast, top: u64) -> Best
 // ---- the logs of the votes
 
 // The log of replica r's vote, where it stands: a count, and entries behind it.
-fn log_of<'a>(
-    shape: Shape,
-    state: &'a [u8],
-    message: &'a [u8],
-    cast: Cast,
-    r: u64,
-) -> &'a [u8]
+fn log_of<'a>(shape: Shape, state: &'a [u8], message: &'a [u8], cast: Cast, r: u64) -> &'a [u8]
     requires { ⌜ Given shape (now state) (now message) cast × (r < shape .n) × (isSome (getD (votesIn shape (now state) (now message) cast) r none) ≡ true) ⌝ }
     ensures { λ t. ⌜ Lists (shape .c) (voteOf (getD (votesIn shape (now (state .entry)) (now (message .entry)) cast) r none) .log) (now t) ⌝ }
 {
@@ -339,4 +333,63 @@ fn add_from<'a>(
         i += 1;
     }
     true
+}
+
+// ---- the rebuilt log
+
+// Makes the table one of the prefix, and tells what the rebuild starts from.
+fn take_prefix<'a>(
+    shape: Shape,
+    state: &'a [u8],
+    message: &'a [u8],
+    cast: Cast,
+    table: &mut [u8],
+) -> Basis
+    requires { ⌜ Given shape (now state) (now message) cast × (length (now table) ≡ 4 + 24 * shape .c) ⌝ }
+    ensures { λ b. ⌜ Based (shape .n) (votesIn shape (now (state .entry)) (now (message .entry)) cast) b × Holds (shape .c) (prefix (withNormal (b .top) (votesIn shape (now (state .entry)) (now (message .entry)) cast))) (now (table .exit)) ⌝ }
+{
+    let top = top_normal(shape, state, cast);
+    let best = best_vote(shape, state, cast, top);
+    let c = shape.c as usize;
+    if shape.n <= best.replica {
+        entries::clear(table, c);
+        return Basis {
+            top,
+            replica: best.replica,
+            length: 0,
+            boundary: 0,
+        };
+    }
+    let log = log_of(shape, state, message, cast, best.replica);
+    let length = best.sync as usize;
+    entries::take_over(table, c, log, 4, length);
+    let last = entries::entry_at(log, 4 + 24 * (length - 1));
+    Basis {
+        top,
+        replica: best.replica,
+        length,
+        boundary: last.stamp,
+    }
+}
+
+// The log that the votes of the state and of the message give, put into the table, whose old bytes are not read.
+pub fn rebuild<'a>(
+    shape: Shape,
+    state: &'a [u8],
+    message: &'a [u8],
+    cast: Cast,
+    table: &mut [u8],
+) -> Rebuilt
+    requires { ⌜ Given shape (now state) (now message) cast × (length (now table) ≡ 4 + 24 * shape .c) ⌝ }
+    ensures { λ r. ⌜ Gives (shape .c) (shape .n) (votesIn shape (now (state .entry)) (now (message .entry)) cast) (now (table .exit)) r ⌝ }
+{
+    let basis = take_prefix(shape, state, message, cast, table);
+    let mut r = 0;
+    while r < shape.n {
+        if !add_from(shape, state, message, cast, basis, r, table) {
+            return Rebuilt::TooLong;
+        }
+        r += 1;
+    }
+    Rebuilt::Log(basis.boundary)
 }

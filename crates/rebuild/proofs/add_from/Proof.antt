@@ -30,7 +30,6 @@ below i m n h e = omega arith
 ended : (i m n : ℕ) → m ≤ i → m ≡ n → n ≤ i
 ended i m n h e = omega arith
 
-
 abbrev Inv-loop : tie.InvT-loop
 Inv-loop shape state message cast basis r table₀ log count i₀ table i = (i ≤ count) × (count ≡ length (voteOf (getD (votesIn shape state message cast) r none) .log)) × Holds (shape .c) (placeAll (tableAt (shape .c) table₀ 0) (keep (isNew (shape .n) (basis .top) (votesIn shape state message cast) r) (take i (voteOf (getD (votesIn shape state message cast) r none) .log)))) table
 

@@ -59,4 +59,3 @@ ballot-of-spec =
     cast-t12
     vote-sync-requires
     returns-3)
-

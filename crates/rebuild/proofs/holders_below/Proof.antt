@@ -17,7 +17,6 @@ use Rattle.rebuild.proofs.Holders.{holders-start, holders-more, holders
 lt-le : (a b c : ℕ) → a < b → b ≤ c → a < c
 lt-le a b c h k = omega arith
 
-
 abbrev Inv-loop : tie.InvT-loop
 Inv-loop shape state message cast top end e sum₀ r₀ sum r = (r ≤ end) × (sum ≤ r) × (sum ≡ holders (lower top (votesIn shape state message cast) r) e)
 
