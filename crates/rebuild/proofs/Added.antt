@@ -1,8 +1,8 @@
 -- Entries put in order into the table, one after the other. Assumes nothing.
-use Prim.Native.Nat.{ℕ, _+_, _*_, _≤_, _<_}
+use Prim.Native.Nat.{ℕ, _+_, _≤_, _<_}
 use mathlib.Core.Path.{_≡_, refl, sym, ap, subst, _∙_}
 use mathlib.Core.Bool.{Bool, true, false, not}
-use mathlib.Core.Option.{Option, none, some}
+use mathlib.Core.Option.{Option, none}
 use mathlib.Core.List.{List, [], _∷_, _++_}
 use native.Mathlib.Omega.{arith}
 use native.Mathlib.Numerals.{add-one}
@@ -17,7 +17,7 @@ use Rattle.rules.specs.State.{Vote}
 use Rattle.rules.specs.declared.Entry.{Entry}
 use Rattle.rules.proofs.Choice.{pick-true, pick-false, keep-append}
 use Rattle.entries.specs.Table.{Holds, Table}
-use Rattle.entries.proofs.Table.{decoded, is-table}
+use Rattle.entries.proofs.Table.{decoded}
 use Rattle.entries.proofs.Sorting.{length-placed}
 use Rattle.entries.proofs.Sifting.{keep-last}
 use Rattle.rebuild.specs.Ballots.{voteOf, countsAt}

@@ -1,7 +1,7 @@
 -- The votes that count, one replica more at a time: the greatest last normal gView and the best vote. Assumes nothing.
 use Prim.Native.Nat.{ℕ, _+_, _≤_, _<_, max}
 use mathlib.Core.Path.{_≡_, refl, sym, ap, _∙_}
-use mathlib.Core.Bool.{Bool, true, false, _&&_}
+use mathlib.Core.Bool.{true, false, _&&_}
 use mathlib.Core.Option.{Option, none, some}
 use mathlib.Core.List.{List, [], _∷_, _++_}
 use native.Mathlib.Omega.{arith}
@@ -13,7 +13,7 @@ use borrow.Author.Tests.{ltb-true, ltb-false}
 use Rattle.rules.specs.Choice.{pick, isSome}
 use Rattle.rules.specs.State.{Vote}
 use Rattle.rules.specs.Rebuild.{topFrom, withNormal, bestFrom, best}
-use Rattle.rules.proofs.Choice.{by-test, by-cases, pick-true, pick-false, and-left, and-right}
+use Rattle.rules.proofs.Choice.{by-test, by-cases, pick-true, pick-false}
 use Rattle.rules.proofs.Rebuilt.{counting-rising}
 use Rattle.rebuild.specs.Ballots.{voteOf, countsAt, Tells}
 use Rattle.rebuild.specs.Rebuild.{BestTo}

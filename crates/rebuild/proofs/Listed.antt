@@ -1,19 +1,18 @@
 -- The log of a vote as it stands in the state or in the message. Assumes nothing.
 use Prim.Native.Nat.{ℕ, zero, suc, _+_, _*_, _-_, _≤_, _<_, min}
-use mathlib.Core.Path.{_≡_, refl, sym, ap, subst, _∙_}
+use mathlib.Core.Path.{_≡_, refl, sym, ap, _∙_}
 use mathlib.Core.Bool.{Bool, true, false}
-use mathlib.Core.Option.{Option, none, some}
-use mathlib.Core.List.{List, [], _∷_}
+use mathlib.Core.Option.{none, some}
+use mathlib.Core.List.{List}
 use native.Mathlib.Omega.{arith}
 use native.Mathlib.Nat.{add-assoc, add-zero}
 use lib.ListN.{length, getD, take, drop, length-drop}
 use lib.Seq.{take-all, drop-drop}
 use lib.Dec.{eqb}
 use Rattle.octets.specs.Bytes.{unle, part, num, items}
-use Rattle.octets.proofs.Codecs.{length-items, getD-items}
+use Rattle.octets.proofs.Codecs.{length-items}
 use Rattle.rules.specs.Choice.{pick, isSome}
 use Rattle.rules.specs.Read.{entryAt}
-use Rattle.rules.specs.State.{Vote, State}
 use Rattle.rules.specs.Image.{tableLength, voteLength, tableAt, stateOf}
 use Rattle.rules.specs.Step.{ownVote}
 use Rattle.rules.specs.declared.Entry.{Entry}

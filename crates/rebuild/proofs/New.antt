@@ -2,15 +2,14 @@
 use Prim.Native.Nat.{ℕ, _+_, _*_, _≤_, _<_}
 use mathlib.Core.Path.{_≡_, refl, sym, ap, _∙_}
 use mathlib.Core.Bool.{Bool, true, false, _&&_, not}
-use mathlib.Core.Option.{Option, none, some}
-use mathlib.Core.List.{List, [], _∷_, _++_}
+use mathlib.Core.Option.{Option, none}
+use mathlib.Core.List.{List, []}
 use native.Mathlib.Omega.{arith}
 use lib.ListN.{length, getD, take, List·getD-eq-default}
 use lib.Seq.{take-nil}
 use lib.Dec.{eqb, ltb, leb}
 use borrow.Author.Tests.{le-ltb, lt-ltb, eq-eqb, ne-eqb}
-use Rattle.octets.specs.Bytes.{items}
-use Rattle.rules.specs.Choice.{any, isSome}
+use Rattle.rules.specs.Choice.{any}
 use Rattle.rules.specs.Group.{recovery}
 use Rattle.rules.specs.Entry.{among, later}
 use Rattle.rules.specs.Read.{entryAt}
@@ -31,16 +30,24 @@ use Rattle.rebuild.proofs.Holders.{listed-take}
 
 -- ---- the prefix
 
+pub prefix-by : (vs : List Vote) (v : Vote) (m : ℕ) → best vs ≡ v → m ≡ v .sync → prefix vs ≡ take m (v .log)
+unfolding prefix
+prefix-by vs v m e q = ap (λ (u : Vote). take (u .sync) (u .log)) e ∙ ap (λ (i : ℕ). take i (v .log)) (sym q)
+
+-- past the last replica there is no vote
+pub none-past : (vs : List (Option Vote)) (n r : ℕ) → length vs ≡ n → n ≤ r → getD vs r none ≡ none
+none-past vs n r l h = List·getD-eq-default vs none (omega arith)
+
+pub none-taken : (vs : List (Option Vote)) (n r m : ℕ) → length vs ≡ n → n ≤ r → take m (voteOf (getD vs r none) .log) ≡ []
+unfolding voteOf
+none-taken vs n r m l h = ap (λ (x : Option Vote). take m (voteOf x .log)) (none-past vs n r l h) ∙ take-nil m
+
 module _ (n : ℕ) (vs : List (Option Vote)) (b : Basis) (k : Based n vs b) where
   pub prefix-is : prefix (withNormal (b .top) vs) ≡ take (b .length) (voteOf (getD vs (b .replica) none) .log)
-  unfolding prefix
-  prefix-is = ap (λ (v : Vote). take (v .sync) (v .log)) (k .best) ∙ ap (λ (m : ℕ). take m (voteOf (getD vs (b .replica) none) .log)) (sym (k .length))
+  prefix-is = prefix-by (withNormal (b .top) vs) (voteOf (getD vs (b .replica) none)) (b .length) (k .best) (k .length)
 
   pub prefix-none : length vs ≡ n → n ≤ b .replica → prefix (withNormal (b .top) vs) ≡ []
-  unfolding voteOf
-  prefix-none l h =
-      let e : getD vs (b .replica) none ≡ none = List·getD-eq-default vs none (omega arith) in
-      prefix-is ∙ ap (λ (x : Option Vote). take (b .length) (voteOf x .log)) e ∙ take-nil (b .length)
+  prefix-none l h = prefix-is ∙ none-taken vs n (b .replica) (b .length) l h
 
 module _ (sh : Shape) (s msg : List ℕ) (a : Cast) (g : Given sh s msg a) (b : Basis) (k : Based (sh .n) (votesIn sh s msg a) b) where
   pub prefix-missing : (e : Entry) → sh .n ≤ b .replica → false ≡ among (prefix (withNormal (b .top) (votesIn sh s msg a))) e

@@ -1,9 +1,9 @@
 -- The vote of each replica: the sender's, the own one, or the one kept. Assumes nothing.
-use Prim.Native.Nat.{ℕ, _+_, _*_, _≤_, _<_}
+use Prim.Native.Nat.{ℕ, _+_, _*_, _<_}
 use mathlib.Core.Path.{_≡_, refl, sym, ap, _∙_}
 use mathlib.Core.Bool.{Bool, true, false}
 use mathlib.Core.Option.{Option, none, some}
-use mathlib.Core.List.{List, [], _∷_}
+use mathlib.Core.List.{List}
 use native.Mathlib.Omega.{arith}
 use lib.ListN.{length, getD, set, replicate, length-set, length-replicate, getD-replicate}
 use lib.Seq.{getD-set-same, getD-set-other}
@@ -16,13 +16,24 @@ use Rattle.rules.specs.Image.{voteLength, voteAt, stateOf}
 use Rattle.rules.specs.Step.{ownVote}
 use Rattle.rules.specs.declared.Shape.{Shape}
 use Rattle.rules.proofs.Choice.{by-cases, pick-true, pick-false}
-use Rattle.places.specs.Layout.{startOf, Stands}
+use Rattle.places.specs.Layout.{startOf}
 use Rattle.places.proofs.Sections.{stands-fits}
 use Rattle.places.proofs.Head.{replica-of, normal-of, sync-of}
 use Rattle.places.proofs.Kept.{vote-at, vote-normal, vote-sync}
 use Rattle.rebuild.specs.Ballots.{ballots, sentLog, votesIn, voteOf, Sent, Tells}
 use Rattle.rebuild.specs.declared.Cast.{Cast}
-use Rattle.rebuild.specs.declared.Ballot.{Ballot}
+
+-- ---- the votes that count, as the rules of the step say them
+
+pub ballots-kept : (sh : Shape) (st : State) (r : ℕ) (v : Vote) → ballots sh st false r v ≡ set (st .votes) r (some v)
+unfolding ballots pick
+ballots-kept sh st r v = refl
+
+pub ballots-entering : (sh : Shape) (st : State) (r : ℕ) (v : Vote) → ballots sh st true r v ≡ set (set (replicate (sh .n) none) (st .replica) (some (ownVote st))) r (some v)
+unfolding ballots pick
+ballots-entering sh st r v = refl
+
+-- ---- each of them
 
 -- a vote that is there
 pub is-some : {A : Type 0} (x : Option A) → isSome x ≡ true → (a : A) × (x ≡ some a)

@@ -1,14 +1,13 @@
 -- The prefix, and what every vote adds to it, is the rebuilt log. Assumes nothing.
 use Prim.Native.Nat.{ℕ, suc, _+_, _*_, _-_, _≤_, _<_}
-use mathlib.Core.Path.{_≡_, refl, sym, ap, ap₂, subst, _∙_}
-use mathlib.Core.Bool.{Bool, true, false, _&&_, _||_, not}
+use mathlib.Core.Path.{_≡_, refl, sym, ap, subst, _∙_}
+use mathlib.Core.Bool.{Bool, true, false, _&&_, not}
 use mathlib.Core.Option.{Option, none, some}
 use mathlib.Core.List.{List, [], _∷_, _++_, append-assoc, append-nil}
 use native.Mathlib.Omega.{arith}
-use native.Mathlib.Numerals.{add-one}
-use lib.ListN.{length, getD, take, drop, length-append, take-append-drop, List·getD-eq-default}
-use lib.Seq.{take-all, length-take-le, getD-take}
-use lib.Dec.{eqb, ltb}
+use lib.ListN.{length, getD, take, drop, length-append, take-append-drop}
+use lib.Seq.{length-take-le, getD-take}
+use lib.Dec.{eqb}
 use borrow.Author.Tests.{lt-ltb, ltb-true, not-true, not-false}
 use Rattle.octets.specs.Bytes.{items}
 use Rattle.octets.proofs.Codecs.{All}
@@ -17,15 +16,15 @@ use Rattle.rules.specs.Entry.{noEntry, entryOf, before, place, placeAll, ordere
 use Rattle.rules.specs.Log.{goodLog}
 use Rattle.rules.specs.Read.{entryAt}
 use Rattle.rules.specs.State.{Vote}
-use Rattle.rules.specs.Image.{tableBytes, tableAt, stateOf}
-use Rattle.rules.specs.Rebuild.{topFrom, withNormal, counting, best, prefix, boundaryIn, holders, isAdded, copies, added, rebuilt, boundaryOf}
+use Rattle.rules.specs.Image.{tableBytes, tableAt}
+use Rattle.rules.specs.Rebuild.{topFrom, withNormal, best, prefix, boundaryIn, holders, isAdded, copies, added, rebuilt, boundaryOf}
 use Rattle.rules.specs.declared.Entry.{Entry}
 use Rattle.rules.specs.declared.Shape.{Shape}
 use Rattle.rules.proofs.Choice.{pick-true, pick-false, and-left, all-map, kept-passes, keep-append}
 use Rattle.rules.proofs.Order.{before-asym, ordered-length}
 use Rattle.rules.proofs.Logs.{good-parts, last-greatest}
 use Rattle.rules.proofs.Rebuilt.{counting-rising, prefix-good}
-use Rattle.entries.specs.Table.{Holds, Table}
+use Rattle.entries.specs.Table.{Holds}
 use Rattle.entries.proofs.Table.{decoded, empty}
 use Rattle.entries.proofs.Sorting.{length-placed}
 use Rattle.rebuild.specs.Ballots.{votesIn, voteOf, countsAt, Given, Lists}
@@ -34,11 +33,10 @@ use Rattle.rebuild.specs.declared.Best.{Best}
 use Rattle.rebuild.specs.declared.Basis.{Basis}
 use Rattle.rebuild.specs.declared.Cast.{Cast}
 use Rattle.rebuild.specs.declared.Rebuilt.the-variants.{TooLong, Log}
-use Rattle.rebuild.proofs.Votes.{votes-long}
 use Rattle.rebuild.proofs.Counting.{lower-next, lower-all}
-use Rattle.rebuild.proofs.Sound.{lower-good, vote-synced}
-use Rattle.rebuild.proofs.Holders.{listed-at, listed-take}
-use Rattle.rebuild.proofs.New.{prefix-is, prefix-none, prefix-within}
+use Rattle.rebuild.proofs.Sound.{vote-synced}
+use Rattle.rebuild.proofs.Holders.{listed-take}
+use Rattle.rebuild.proofs.New.{prefix-by, none-past, none-taken}
 use Rattle.rebuild.proofs.Added.{placed-append}
 
 -- ---- what it starts from
@@ -47,15 +45,14 @@ module _ (n : ℕ) (vs : List (Option Vote)) (top : ℕ) (b : Best) (l : length 
   is-best : best (withNormal top vs) ≡ voteOf (getD vs (b .replica) none)
   is-best = ap best (sym (lower-all top vs n (omega arith))) ∙ k .is
 
-  pub prefix-of : prefix (withNormal top vs) ≡ take (b .sync) (voteOf (getD vs (b .replica) none) .log)
-  unfolding prefix
-  prefix-of = ap (λ (v : Vote). take (v .sync) (v .log)) is-best ∙ ap (λ (m : ℕ). take m (voteOf (getD vs (b .replica) none) .log)) (sym (k .sync))
+  prefix-of : prefix (withNormal top vs) ≡ take (b .sync) (voteOf (getD vs (b .replica) none) .log)
+  prefix-of = prefix-by (withNormal top vs) (voteOf (getD vs (b .replica) none)) (b .sync) is-best (k .sync)
+
+  prefix-empty : n ≤ b .replica → prefix (withNormal top vs) ≡ []
+  prefix-empty h = prefix-of ∙ none-taken vs n (b .replica) (b .sync) l h
 
   pub takes-none : (c : ℕ) (u : List ℕ) → n ≤ b .replica → c ≤ 4096 → u ≡ tableBytes c [] → Holds c (prefix (withNormal top vs)) u
-  unfolding voteOf
-  takes-none c u h w q =
-      let e : getD vs (b .replica) none ≡ none = List·getD-eq-default vs none (omega arith) in
-      rw (prefix-of ∙ ap (λ (x : Option Vote). take (b .sync) (voteOf x .log)) e ∙ take-all (b .sync) [] (omega arith)) (empty c u q w)
+  takes-none c u h w q = rw (prefix-empty h) (empty c u q w)
 
   pub takes-some : (c : ℕ) (log u : List ℕ) → Lists c (voteOf (getD vs (b .replica) none) .log) log → b .sync ≤ length (voteOf (getD vs (b .replica) none) .log) → Holds c (items (entryAt log) 24 4 (b .sync)) u → Holds c (prefix (withNormal top vs)) u
   takes-some c log u f w h = subst (λ (x : List Entry). Holds c x u) (listed-take c _ log f (b .sync) w ∙ sym prefix-of) h
@@ -63,15 +60,13 @@ module _ (n : ℕ) (vs : List (Option Vote)) (top : ℕ) (b : Best) (l : length 
   pub based-none : n ≤ b .replica → Based n vs (record { top = top; replica = b .replica; length = 0; boundary = 0 })
   unfolding voteOf stampBefore
   based-none h =
-      let e : getD vs (b .replica) none ≡ none = List·getD-eq-default vs none (omega arith) in
-      let p : prefix (withNormal top vs) ≡ [] = prefix-of ∙ ap (λ (x : Option Vote). take (b .sync) (voteOf x .log)) e ∙ take-all (b .sync) [] (omega arith) in
       record {
         top = t;
         best = is-best;
-        length = ap (λ (x : Option Vote). voteOf x .sync) (sym e);
+        length = ap (λ (x : Option Vote). voteOf x .sync) (sym (none-past vs n (b .replica) l h));
         within = k .within;
         held = k .held;
-        boundary = ap lastStamp (sym p);
+        boundary = ap lastStamp (sym (prefix-empty h));
       }
 
   last-of : (es : List Entry) (m : ℕ) → m ≤ length es → 0 < m → entryOf es (m - 1) .stamp ≡ lastStamp (take m es)

@@ -3,13 +3,13 @@ use Prim.Native.Nat.{ℕ, _+_, _≤_, _<_}
 use mathlib.Core.Path.{_≡_}
 use mathlib.Core.Bool.{Bool, true, false, _&&_}
 use mathlib.Core.Option.{Option, none, some}
-use mathlib.Core.List.{List, [], _∷_}
+use mathlib.Core.List.{List, []}
 use lib.ListN.{length, take, getD}
 use lib.Dec.{eqb}
 use Rattle.rules.specs.Choice.{pick, any, keep, isSome}
 use Rattle.rules.specs.Entry.{sameKey, placeAll}
 use Rattle.rules.specs.State.{Vote}
-use Rattle.rules.specs.Rebuild.{topFrom, withNormal, best, prefix, boundaryIn, holders, isAdded, rebuilt, boundaryOf}
+use Rattle.rules.specs.Rebuild.{topFrom, withNormal, best, boundaryIn, holders, isAdded, rebuilt, boundaryOf}
 use Rattle.rules.specs.declared.Entry.{Entry}
 use Rattle.entries.specs.Table.{Holds}
 use Rattle.rebuild.specs.Ballots.{voteOf, countsAt}

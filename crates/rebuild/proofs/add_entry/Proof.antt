@@ -1,11 +1,7 @@
+-- `rebuild::add_entry` meets its contract: one law for each way out. Assumes nothing.
 use borrow.Author.Needs.{needs}
 use Rattle.rebuild.proofs.add_entry.Statement.{statement}
 use Rattle.rebuild.proofs.add_entry.Tie as tie
-use Rattle.rebuild.proofs.add_entry.Reads as reads
-use Rattle.rebuild.proofs.add_entry.Lts as lts
-use Rattle.entries.proofs.count.Reads as count-reads
-use Rattle.entries.proofs.insert_in_order.Reads as insert-in-order-reads
-use Rattle.rebuild.proofs.is_new.Reads as is-new-reads
 use Rattle.rebuild.proofs.Added.{entry-passed, entry-full, entry-added}
 
 is-new-requires : tie.Need-is-new-requires

@@ -1,13 +1,6 @@
+-- `rebuild::add_from` meets its contract. The invariant: the table holds what it held, and in order those of the entries passed that are to be added. Assumes nothing.
 use Rattle.rebuild.proofs.add_from.Statement.{statement}
 use Rattle.rebuild.proofs.add_from.Tie as tie
-use Rattle.rebuild.proofs.add_from.Reads as reads
-use Rattle.rebuild.proofs.add_from.Lts as lts
-use Rattle.entries.proofs.count.Reads as count-reads
-use Rattle.entries.proofs.entry_at.Reads as entry-at-reads
-use Rattle.rebuild.proofs.add_entry.Reads as add-entry-reads
-use Rattle.rebuild.proofs.counted.Reads as counted-reads
-use Rattle.rebuild.proofs.log_of.Reads as log-of-reads
-use borrow.Author.Needs.{needs}
 use borrow.Author.Tests.{not-false}
 use Prim.Native.Nat.{ℕ, _≤_, _<_, _-_}
 use mathlib.Core.Path.{_≡_, _∙_}

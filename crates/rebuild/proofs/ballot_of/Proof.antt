@@ -1,14 +1,7 @@
+-- `rebuild::ballot_of` meets its contract: one law for each way through it. Assumes nothing.
 use borrow.Author.Needs.{needs}
 use Rattle.rebuild.proofs.ballot_of.Statement.{statement}
 use Rattle.rebuild.proofs.ballot_of.Tie as tie
-use Rattle.rebuild.proofs.ballot_of.Reads as reads
-use Rattle.rebuild.proofs.ballot_of.Lts as lts
-use Rattle.places.proofs.get_normal.Reads as get-normal-reads
-use Rattle.places.proofs.get_replica.Reads as get-replica-reads
-use Rattle.places.proofs.get_sync.Reads as get-sync-reads
-use Rattle.places.proofs.vote_flag.Reads as vote-flag-reads
-use Rattle.places.proofs.vote_normal.Reads as vote-normal-reads
-use Rattle.places.proofs.vote_sync.Reads as vote-sync-reads
 use Rattle.rebuild.proofs.Votes.{tells-sender, tells-own, tells-kept}
 
 returns : tie.Need-returns

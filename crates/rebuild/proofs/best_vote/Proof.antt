@@ -1,9 +1,6 @@
+-- `rebuild::best_vote` meets its contract. The invariant: `best` is the best of the votes passed that count. Assumes nothing.
 use Rattle.rebuild.proofs.best_vote.Statement.{statement}
 use Rattle.rebuild.proofs.best_vote.Tie as tie
-use Rattle.rebuild.proofs.best_vote.Reads as reads
-use Rattle.rebuild.proofs.best_vote.Lts as lts
-use Rattle.rebuild.proofs.ballot_of.Reads as ballot-of-reads
-use Rattle.rebuild.proofs.better.Reads as better-reads
 use borrow.Author.Needs.{needs}
 use Prim.Native.Nat.{ℕ, _≤_, _-_}
 use mathlib.Core.List.{List}

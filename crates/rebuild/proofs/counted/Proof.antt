@@ -1,9 +1,7 @@
+-- `rebuild::counted` meets its contract: what is told of the vote decides. Assumes nothing.
 use borrow.Author.Needs.{needs}
 use Rattle.rebuild.proofs.counted.Statement.{statement}
 use Rattle.rebuild.proofs.counted.Tie as tie
-use Rattle.rebuild.proofs.counted.Reads as reads
-use Rattle.rebuild.proofs.counted.Lts as lts
-use Rattle.rebuild.proofs.ballot_of.Reads as ballot-of-reads
 use Rattle.rebuild.proofs.Counting.{counts-told}
 
 ballot-of-requires : tie.Need-ballot-of-requires

@@ -1,9 +1,6 @@
+-- `rebuild::holders_below` meets its contract. The invariant: `sum` of the votes passed count and hold the entry. Assumes nothing.
 use Rattle.rebuild.proofs.holders_below.Statement.{statement}
 use Rattle.rebuild.proofs.holders_below.Tie as tie
-use Rattle.rebuild.proofs.holders_below.Reads as reads
-use Rattle.rebuild.proofs.holders_below.Lts as lts
-use Rattle.rebuild.proofs.holds_at.Reads as holds-at-reads
-use borrow.Author.Needs.{needs}
 use Prim.Native.Nat.{ℕ, _≤_, _<_, _-_}
 use mathlib.Core.Path.{_≡_}
 use mathlib.Core.Logic.{⊎-elim}

@@ -1,10 +1,7 @@
+-- `rebuild::holds_at` meets its contract: a vote that counts is there. Assumes nothing.
 use borrow.Author.Needs.{needs}
 use Rattle.rebuild.proofs.holds_at.Statement.{statement}
 use Rattle.rebuild.proofs.holds_at.Tie as tie
-use Rattle.rebuild.proofs.holds_at.Reads as reads
-use Rattle.rebuild.proofs.holds_at.Lts as lts
-use Rattle.rebuild.proofs.counted.Reads as counted-reads
-use Rattle.rebuild.proofs.log_holds.Reads as log-holds-reads
 use mathlib.Core.Option.{none}
 use lib.ListN.{getD}
 use Rattle.rebuild.specs.Ballots.{votesIn}

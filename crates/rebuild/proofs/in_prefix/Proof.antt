@@ -1,9 +1,6 @@
+-- `rebuild::in_prefix` meets its contract: the prefix are the first entries of the best vote's log. Assumes nothing.
 use Rattle.rebuild.proofs.in_prefix.Statement.{statement}
 use Rattle.rebuild.proofs.in_prefix.Tie as tie
-use Rattle.rebuild.proofs.in_prefix.Reads as reads
-use Rattle.rebuild.proofs.in_prefix.Lts as lts
-use Rattle.entries.proofs.find.Reads as find-reads
-use Rattle.rebuild.proofs.log_of.Reads as log-of-reads
 use Rattle.rebuild.proofs.New.{prefix-missing, prefix-long, prefix-found}
 
 returns : tie.Need-returns

@@ -1,11 +1,7 @@
+-- `rebuild::is_new` meets its contract: one law for each test. Assumes nothing.
 use borrow.Author.Needs.{needs}
 use Rattle.rebuild.proofs.is_new.Statement.{statement}
 use Rattle.rebuild.proofs.is_new.Tie as tie
-use Rattle.rebuild.proofs.is_new.Reads as reads
-use Rattle.rebuild.proofs.is_new.Lts as lts
-use Rattle.rebuild.proofs.holders_below.Reads as holders-below-reads
-use Rattle.rebuild.proofs.in_prefix.Reads as in-prefix-reads
-use Rattle.rules.proofs.GroupSize.recovery.Reads as recovery-reads
 use Rattle.rebuild.proofs.Votes.{votes-long}
 use Rattle.rebuild.proofs.New.{new-late, new-lower, new-prefix, new-held}
 

@@ -1,12 +1,7 @@
+-- `rebuild::log_holds` meets its contract: the first entry of the transaction decides. Assumes nothing.
 use borrow.Author.Needs.{needs}
 use Rattle.rebuild.proofs.log_holds.Statement.{statement}
 use Rattle.rebuild.proofs.log_holds.Tie as tie
-use Rattle.rebuild.proofs.log_holds.Reads as reads
-use Rattle.rebuild.proofs.log_holds.Lts as lts
-use Rattle.entries.proofs.count.Reads as count-reads
-use Rattle.entries.proofs.entry_at.Reads as entry-at-reads
-use Rattle.entries.proofs.find.Reads as find-reads
-use Rattle.rebuild.proofs.log_of.Reads as log-of-reads
 use Rattle.rebuild.proofs.Sound.{vote-good}
 use Rattle.rebuild.proofs.Holders.{key-missing, key-found}
 

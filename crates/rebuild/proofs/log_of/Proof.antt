@@ -1,11 +1,8 @@
+-- `rebuild::log_of` meets its contract: one law for each place where the log may stand. Assumes nothing.
 use mathlib.Core.Path.{refl}
 use borrow.Author.Needs.{needs}
 use Rattle.rebuild.proofs.log_of.Statement.{statement}
 use Rattle.rebuild.proofs.log_of.Tie as tie
-use Rattle.rebuild.proofs.log_of.Reads as reads
-use Rattle.rebuild.proofs.log_of.Lts as lts
-use Rattle.places.proofs.places_of.Reads as places-of-reads
-use Rattle.places.proofs.vote_place.Reads as vote-place-reads
 use Rattle.rebuild.proofs.Listed.{log-sent, log-own, log-kept}
 
 sub-result : tie.Need-sub-result

@@ -1,9 +1,6 @@
+-- `rebuild::rebuild` meets its contract. The invariant: the table holds the prefix, and in order what the votes of the replicas passed add. Assumes nothing.
 use Rattle.rebuild.proofs.rebuild.Statement.{statement}
 use Rattle.rebuild.proofs.rebuild.Tie as tie
-use Rattle.rebuild.proofs.rebuild.Reads as reads
-use Rattle.rebuild.proofs.rebuild.Lts as lts
-use Rattle.rebuild.proofs.add_from.Reads as add-from-reads
-use Rattle.rebuild.proofs.take_prefix.Reads as take-prefix-reads
 use Prim.Native.Nat.{_≤_, _-_}
 use native.Mathlib.Omega.{arith}
 use Rattle.rules.specs.Entry.{placeAll}

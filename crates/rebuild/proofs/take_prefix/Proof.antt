@@ -1,14 +1,7 @@
+-- `rebuild::take_prefix` meets its contract: with no best vote the prefix is empty, else it is the first entries of that vote's log. Assumes nothing.
 use borrow.Author.Needs.{needs}
 use Rattle.rebuild.proofs.take_prefix.Statement.{statement}
 use Rattle.rebuild.proofs.take_prefix.Tie as tie
-use Rattle.rebuild.proofs.take_prefix.Reads as reads
-use Rattle.rebuild.proofs.take_prefix.Lts as lts
-use Rattle.entries.proofs.clear.Reads as clear-reads
-use Rattle.entries.proofs.entry_at.Reads as entry-at-reads
-use Rattle.entries.proofs.take_over.Reads as take-over-reads
-use Rattle.rebuild.proofs.best_vote.Reads as best-vote-reads
-use Rattle.rebuild.proofs.log_of.Reads as log-of-reads
-use Rattle.rebuild.proofs.top_normal.Reads as top-normal-reads
 use mathlib.Core.Path.{refl, _∙_}
 use native.Mathlib.Omega.{arith}
 use Rattle.rebuild.proofs.Votes.{votes-long}

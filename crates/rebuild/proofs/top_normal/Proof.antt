@@ -1,9 +1,6 @@
+-- `rebuild::top_normal` meets its contract. The invariant: `top` is the greatest last normal gView of the replicas passed. Assumes nothing.
 use Rattle.rebuild.proofs.top_normal.Statement.{statement}
 use Rattle.rebuild.proofs.top_normal.Tie as tie
-use Rattle.rebuild.proofs.top_normal.Reads as reads
-use Rattle.rebuild.proofs.top_normal.Lts as lts
-use Rattle.rebuild.proofs.ballot_of.Reads as ballot-of-reads
-use Rattle.rebuild.proofs.raised.Reads as raised-reads
 use borrow.Author.Needs.{needs}
 use Prim.Native.Nat.{ℕ, _≤_, _-_}
 use mathlib.Core.Path.{_≡_}
