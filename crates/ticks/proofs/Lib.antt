@@ -1,0 +1,3 @@
+-- The laws of a tick: the run of those agreed (Run), a state on the way (Way).
+pub mod Run
+pub mod Way

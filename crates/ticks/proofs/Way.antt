@@ -1,0 +1,1 @@
+-- A state on the way: from a good state, and from one to the next. Assumes nothing.
