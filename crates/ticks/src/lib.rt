@@ -11,7 +11,7 @@ ghost use Rattle.rules.specs.Log.{distinct};
 ghost use Rattle.rules.specs.State.{agreed, notesDistinct};
 ghost use Rattle.rules.specs.Image.{tableAt, stateOf};
 ghost use Rattle.rules.specs.Step.{dueBy, notesWithout, released};
-ghost use Rattle.rules.specs.Entry.{entryOf};
+ghost use Rattle.rules.specs.Entry.{entryOf, without};
 ghost use Rattle.entries.specs.Table.{Table};
 ghost use Rattle.notes.specs.Notes.{sized, notesAt, NotesHold, Notes};
 ghost use Rattle.places.specs.Layout.{Stands};
@@ -41,4 +41,64 @@ fn run_of(early: &[u8], notes: &[u8], c: usize, s: usize, time: u64, due: usize)
         i += 1;
     }
     due
+}
+
+// How many of those due by a time a leader may release: those before the first that is not agreed.
+fn run_length(shape: Shape, state: &[u8], time: u64, due: usize) -> usize
+    requires { ⌜ Midway shape (now state) × (due ≡ length (dueBy time (stateOf shape (now state) .early))) ⌝ }
+    ensures { λ r. ⌜ r ≡ length (leading (agreed shape (stateOf shape (now (state .entry)) .notes)) (dueBy time (stateOf shape (now (state .entry)) .early))) ⌝ }
+{
+    let layout = places::places_of(shape);
+    let early = layout.early;
+    let late = layout.late;
+    let notes = layout.notes;
+    let votes = layout.votes;
+    run_of(&state[early..late], &state[notes..votes], shape.c as usize, shape.s as usize, time, due)
+}
+
+// ---- one release
+
+// Takes out the note of e's transaction, where there is one. The others keep their order.
+fn forget(t: &mut [u8], c: usize, s: usize, e: Entry)
+    requires { ⌜ Notes c s (now t) × (notesDistinct (notesAt c s (now t)) ≡ true) ⌝ }
+    ensures { λ _. ⌜ NotesHold c s (notesWithout (e ∷ []) (notesAt c s (now (t .entry)))) (now (t .exit)) ⌝ }
+{
+    let i = notes::find(t, c, s, e.request, e.coordinator);
+    if notes::count(t) <= i {
+        return;
+    }
+    notes::remove_at(t, c, s, i);
+}
+
+// Appends e to the log.
+fn log_takes(shape: Shape, state: &mut [u8], e: Entry)
+    requires { ⌜ Midway shape (now state) × (length (stateOf shape (now state) .log) < shape .c) ⌝ }
+    ensures { λ _. ⌜ Reaches shape (withLog (stateOf shape (now (state .entry))) (stateOf shape (now (state .entry)) .log ++ (e ∷ []))) (now (state .exit)) ⌝ }
+{
+    let layout = places::places_of(shape);
+    let start = layout.log;
+    let end = layout.early;
+    entries::append(&mut state[start..end], shape.c as usize, e);
+}
+
+// Early entry i leaves.
+fn early_leaves(shape: Shape, state: &mut [u8], i: usize)
+    requires { ⌜ Midway shape (now state) × (i < length (stateOf shape (now state) .early)) ⌝ }
+    ensures { λ _. ⌜ Reaches shape (withEarly (stateOf shape (now (state .entry))) (without (entryOf (stateOf shape (now (state .entry)) .early) i ∷ []) (stateOf shape (now (state .entry)) .early))) (now (state .exit)) ⌝ }
+{
+    let layout = places::places_of(shape);
+    let start = layout.early;
+    let end = layout.late;
+    entries::remove_at(&mut state[start..end], shape.c as usize, i);
+}
+
+// The note of e's transaction leaves.
+fn note_leaves(shape: Shape, state: &mut [u8], e: Entry)
+    requires { ⌜ Midway shape (now state) ⌝ }
+    ensures { λ _. ⌜ Reaches shape (withNotes (stateOf shape (now (state .entry))) (notesWithout (e ∷ []) (stateOf shape (now (state .entry)) .notes))) (now (state .exit)) ⌝ }
+{
+    let layout = places::places_of(shape);
+    let start = layout.notes;
+    let end = layout.votes;
+    forget(&mut state[start..end], shape.c as usize, shape.s as usize, e);
 }
