@@ -4,17 +4,18 @@ use rules::Shape;
 ghost use mathlib.Core.Path.{_≡_};
 ghost use mathlib.Core.Bool.{true};
 ghost use mathlib.Core.List.{[], _∷_, _++_};
-ghost use Prim.Native.Nat.{_+_, _<_, _≤_};
-ghost use lib.ListN.{length, take, drop};
+ghost use Prim.Native.Nat.{_+_, _*_, _<_, _≤_};
+ghost use lib.ListN.{length};
 ghost use Rattle.rules.specs.Choice.{leading};
 ghost use Rattle.rules.specs.Log.{distinct};
 ghost use Rattle.rules.specs.State.{agreed, notesDistinct};
-ghost use Rattle.rules.specs.Image.{tableAt, stateOf};
+ghost use Rattle.rules.specs.Image.{stateLength, tableAt, stateOf};
+ghost use Rattle.rules.specs.Digest.{digest};
 ghost use Rattle.rules.specs.Step.{dueBy, notesWithout, released};
 ghost use Rattle.rules.specs.Entry.{entryOf, without};
 ghost use Rattle.entries.specs.Table.{Table};
 ghost use Rattle.notes.specs.Notes.{sized, notesAt, NotesHold, Notes};
-ghost use Rattle.places.specs.Layout.{Stands};
+ghost use Rattle.places.specs.Layout.{startOf, Fits};
 ghost use Rattle.places.specs.With.{withLog, withEarly, withNotes};
 ghost use Rattle.ticks.specs.Midway.{Midway, Reaches};
 
@@ -101,4 +102,88 @@ fn note_leaves(shape: Shape, state: &mut [u8], e: Entry)
     let start = layout.notes;
     let end = layout.votes;
     forget(&mut state[start..end], shape.c as usize, shape.s as usize, e);
+}
+
+// The place in early of the first entry due by a time.
+fn first_due(shape: Shape, state: &[u8], time: u64) -> usize
+    requires { ⌜ Midway shape (now state) × (0 < length (dueBy time (stateOf shape (now state) .early))) ⌝ }
+    ensures { λ r. ⌜ (r < length (stateOf shape (now (state .entry)) .early)) × (entryOf (stateOf shape (now (state .entry)) .early) r ≡ entryOf (dueBy time (stateOf shape (now (state .entry)) .early)) 0) ⌝ }
+{
+    let layout = places::places_of(shape);
+    let start = layout.early;
+    let end = layout.late;
+    let none = Entry {
+        stamp: 0,
+        command: 0,
+        request: 0,
+        coordinator: 0,
+        mask: 0,
+    };
+    due::due_at(&state[start..end], shape.c as usize, time, 0, none)
+}
+
+// Early entry i.
+fn early_entry(shape: Shape, state: &[u8], i: usize) -> Entry
+    requires { ⌜ Midway shape (now state) × (i < length (stateOf shape (now state) .early)) ⌝ }
+    ensures { λ r. ⌜ r ≡ entryOf (stateOf shape (now (state .entry)) .early) i ⌝ }
+{
+    let layout = places::places_of(shape);
+    let start = layout.early;
+    let end = layout.late;
+    entries::entry_of(&state[start..end], shape.c as usize, i)
+}
+
+// Releases the first entry due by a time: it goes to the log, and its early place and its note's are free again.
+fn release_next(shape: Shape, state: &mut [u8], time: u64)
+    requires { ⌜ Midway shape (now state) × (length (stateOf shape (now state) .log) < shape .c) × (0 < length (dueBy time (stateOf shape (now state) .early))) ⌝ }
+    ensures { λ _. ⌜ Reaches shape (released (stateOf shape (now (state .entry))) (stateOf shape (now (state .entry)) .clock) (stateOf shape (now (state .entry)) .sync) (entryOf (dueBy time (stateOf shape (now (state .entry)) .early)) 0 ∷ [])) (now (state .exit)) ⌝ }
+{
+    let i = first_due(shape, state, time);
+    let e = early_entry(shape, state, i);
+    log_takes(shape, state, e);
+    early_leaves(shape, state, i);
+    note_leaves(shape, state, e);
+}
+
+// ---- the log's bytes
+
+// How many entries the log has.
+fn log_length(shape: Shape, state: &[u8]) -> usize
+    requires { ⌜ Midway shape (now state) ⌝ }
+    ensures { λ r. ⌜ (r ≡ length (stateOf shape (now (state .entry)) .log)) × (r ≤ shape .c) × (r ≤ 4096) ⌝ }
+{
+    let layout = places::places_of(shape);
+    let start = layout.log;
+    let end = layout.early;
+    entries::count(&state[start..end])
+}
+
+// Where entry i of the log stands.
+fn log_place(shape: Shape, i: usize) -> usize
+    requires { ⌜ Fits shape × (i < shape .c) ⌝ }
+    ensures { λ r. ⌜ (r ≡ startOf shape 3 + (4 + 24 * i)) × (r + 24 ≤ stateLength shape) × (r ≤ 2187586) ⌝ }
+{
+    places::places_of(shape).log + (4 + 24 * i)
+}
+
+// The digest of the log.
+fn log_digest(shape: Shape, state: &[u8]) -> u64
+    requires { ⌜ Midway shape (now state) ⌝ }
+    ensures { λ r. ⌜ r ≡ digest (stateOf shape (now (state .entry)) .log) ⌝ }
+{
+    let n = log_length(shape, state);
+    let start = places::places_of(shape).log + 4;
+    let end = start + 24 * n;
+    digest::digest_of(&state[start..end])
+}
+
+// Releases the first entry due by a time to place n, the end of the log, and runs the log's digest on over it.
+fn release_one(shape: Shape, state: &mut [u8], time: u64, n: usize, sum: u64) -> u64
+    requires { ⌜ Midway shape (now state) × (n ≡ length (stateOf shape (now state) .log)) × (n < shape .c) × (0 < length (dueBy time (stateOf shape (now state) .early))) × (sum ≡ digest (stateOf shape (now state) .log)) ⌝ }
+    ensures { λ r. ⌜ Reaches shape (released (stateOf shape (now (state .entry))) (stateOf shape (now (state .entry)) .clock) (stateOf shape (now (state .entry)) .sync) (entryOf (dueBy time (stateOf shape (now (state .entry)) .early)) 0 ∷ [])) (now (state .exit)) × (r ≡ digest (stateOf shape (now (state .entry)) .log ++ (entryOf (dueBy time (stateOf shape (now (state .entry)) .early)) 0 ∷ []))) ⌝ }
+{
+    release_next(shape, state, time);
+    let at = log_place(shape, n);
+    let end = at + 24;
+    digest::digest_on(sum, &state[at..end])
 }
