@@ -1,5 +1,6 @@
--- The laws of a tick: the run of those agreed (Run), a state on the way (Way), one release (Next), the log's bytes and their digest (LogBytes).
+-- The laws of a tick: the run of those agreed (Run), a state on the way (Way), one release (Next), the log's bytes and their digest (LogBytes), what is sent (Telling).
 pub mod Run
 pub mod Way
 pub mod Next
 pub mod LogBytes
+pub mod Telling

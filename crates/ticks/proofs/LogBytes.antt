@@ -3,7 +3,7 @@ use Prim.Native.Nat.{ℕ, _+_, _*_, _-_, _≤_, _<_}
 use mathlib.Core.Path.{_≡_, refl, sym, ap, _∙_}
 use mathlib.Core.List.{List, [], _∷_, _++_}
 use native.Mathlib.Omega.{arith}
-use lib.ListN.{length, take, drop, length-append}
+use lib.ListN.{length, take, drop, getD, length-append}
 use lib.Seq.{getD-append-add}
 use lib.Dec.{lit<, lit≤}
 use Rattle.octets.specs.Bytes.{le, num, part, flat}
@@ -12,7 +12,7 @@ use Rattle.octets.proofs.Sections.{part-whole}
 use Rattle.rules.specs.Entry.{noEntry, entryOf}
 use Rattle.rules.specs.Wire.{entryBytes}
 use Rattle.rules.specs.State.{State}
-use Rattle.rules.specs.Image.{tableLength, stateLength, tableBytes, stateOf}
+use Rattle.rules.specs.Image.{tableLength, lengths, stateLength, tableBytes, sections, stateOf}
 use Rattle.rules.specs.Digest.{basis, digestFrom, digest}
 use Rattle.rules.specs.Step.{released}
 use Rattle.rules.specs.declared.Entry.{Entry}
@@ -52,23 +52,35 @@ module _ (c : ℕ) (es : List Entry) where
 
 -- ---- in a state
 
-module _ {sh : Shape} {st : State} {b : List ℕ} (l : Laid sh st b) (r : length (st .log) ≤ sh .c) where
-  pub log-bytes : (at end : ℕ) → at ≡ startOf sh 3 + 4 → end ≡ at + 24 * length (st .log) → take (end - at) (drop at b) ≡ flat entryBytes (st .log)
+module _ {sh : Shape} {st : State} {b : List ℕ} (l : Laid sh st b) where
+  -- in the table of section k
+  in-section : (k at end i : ℕ) (es : List Entry) → k < 10 → getD (sections sh st) k [] ≡ tableBytes (sh .c) es → getD (lengths sh) k 0 ≡ tableLength (sh .c) → length es ≤ sh .c
+      → at ≡ startOf sh k + (4 + 24 * i) → end ≡ at + 24 → i < length es → take (end - at) (drop at b) ≡ entryBytes (entryOf es i)
   unfolding part
-  log-bytes at end e q = let z : end - at ≡ 24 * length (st .log) = omega arith in rw z (get-in l 3 4 at (24 * length (st .log)) (lit< tt) e (omega arith) ∙ used-in (sh .c) (st .log))
-
-  pub entry-bytes : (at end i : ℕ) → at ≡ startOf sh 3 + (4 + 24 * i) → end ≡ at + 24 → i < length (st .log) → take (end - at) (drop at b) ≡ entryBytes (entryOf (st .log) i)
-  unfolding part
-  entry-bytes at end i e q h =
+  in-section k at end i es hk hs hl r e q h =
       let z : end - at ≡ 24 = omega arith in
-      let w : 24 * i + 24 ≤ 24 * length (st .log) = within 24 i (length (st .log)) h in
-      rw z (get-in l 3 (4 + 24 * i) at 24 (lit< tt) e (omega arith) ∙ entry-in (sh .c) (st .log) i h)
+      let w : 24 * i + 24 ≤ 24 * length es = within 24 i (length es) h in
+      rw z (get-in l k (4 + 24 * i) at 24 hk e (omega arith) ∙ ap (λ (x : List ℕ). part x (4 + 24 * i) 24) hs ∙ entry-in (sh .c) es i h)
 
--- where an entry stands
-pub place-within : (sh : Shape) (p r i : ℕ) → p ≡ startOf sh 3 → i < sh .c → r ≡ p + (4 + 24 * i) → stateLength sh ≤ 2187586 → (r ≡ startOf sh 3 + (4 + 24 * i)) × (r + 24 ≤ stateLength sh) × (r ≤ 2187586)
-place-within sh p r i e l q s =
-    let w : 24 * i + 24 ≤ 24 * sh .c = within 24 i (sh .c) l in
-    (omega arith, omega arith, omega arith)
+  pub log-entry : length (st .log) ≤ sh .c → (at end i : ℕ) → at ≡ startOf sh 3 + (4 + 24 * i) → end ≡ at + 24 → i < length (st .log) → take (end - at) (drop at b) ≡ entryBytes (entryOf (st .log) i)
+  log-entry r at end i = in-section 3 at end i (st .log) (lit< tt) refl refl r
+
+  pub early-entry : length (st .early) ≤ sh .c → (at end i : ℕ) → at ≡ startOf sh 4 + (4 + 24 * i) → end ≡ at + 24 → i < length (st .early) → take (end - at) (drop at b) ≡ entryBytes (entryOf (st .early) i)
+  early-entry r at end i = in-section 4 at end i (st .early) (lit< tt) refl refl r
+
+  -- all of the log
+  pub log-bytes : length (st .log) ≤ sh .c → (at end : ℕ) → at ≡ startOf sh 3 + 4 → end ≡ at + 24 * length (st .log) → take (end - at) (drop at b) ≡ flat entryBytes (st .log)
+  unfolding part
+  log-bytes r at end e q =
+      let z : end - at ≡ 24 * length (st .log) = omega arith in
+      rw z (get-in l 3 4 at (24 * length (st .log)) (lit< tt) e (omega arith) ∙ used-in (sh .c) (st .log))
+
+-- where an entry of log or early stands
+pub log-within : (sh : Shape) (p i : ℕ) → p ≡ startOf sh 3 → i < sh .c → stateLength sh ≤ 2187586 → (p + (4 + 24 * i) ≡ startOf sh 3 + (4 + 24 * i)) × (p + (4 + 24 * i) + 24 ≤ stateLength sh) × (p + (4 + 24 * i) ≤ 2187586)
+log-within sh p i e l s = let w : 24 * i + 24 ≤ 24 * sh .c = within 24 i (sh .c) l in (omega arith, omega arith, omega arith)
+
+pub early-within : (sh : Shape) (p i : ℕ) → p ≡ startOf sh 4 → i < sh .c → stateLength sh ≤ 2187586 → (p + (4 + 24 * i) ≡ startOf sh 4 + (4 + 24 * i)) × (p + (4 + 24 * i) + 24 ≤ stateLength sh) × (p + (4 + 24 * i) ≤ 2187586)
+early-within sh p i e l s = let w : 24 * i + 24 ≤ 24 * sh .c = within 24 i (sh .c) l in (omega arith, omega arith, omega arith)
 
 -- ---- the digest
 
@@ -85,7 +97,7 @@ module _ {sh : Shape} {b : List ℕ} (m : Midway sh b) where
       let y : stateOf sh b′ .log ≡ log ++ (d ∷ []) = ap (λ (x : State). x .log) (w .is) in
       let long : length (stateOf sh b′ .log) ≡ length log + 1 = ap length y ∙ simp length-append in
       let last : entryOf (stateOf sh b′ .log) i ≡ d = ap (λ (es : List Entry). entryOf es i) y ∙ last-of log d i hi in
-      q ∙ ap (digestFrom sum) (entry-bytes (w .midway .laid) (w .midway .state .log .room) at end i e z (omega arith) ∙ ap entryBytes last) ∙ ap (λ (h : ℕ). digestFrom h (entryBytes d)) hs ∙ sym (digest-next log d)
+      q ∙ ap (digestFrom sum) (log-entry (w .midway .laid) (w .midway .state .log .room) at end i e z (omega arith) ∙ ap entryBytes last) ∙ ap (λ (h : ℕ). digestFrom h (entryBytes d)) hs ∙ sym (digest-next log d)
     where
       last-of : (log : List Entry) (d : Entry) (i : ℕ) → i ≡ length log → entryOf (log ++ (d ∷ [])) i ≡ d
       last-of log d i h = let z : i ≡ length log + 0 = omega arith in rw z (getD-append-add log (d ∷ []) 0 noEntry)

@@ -4,14 +4,13 @@ use mathlib.Core.Path.{_≡_, refl, sym, ap, subst, _∙_}
 use mathlib.Core.Bool.{true}
 use mathlib.Core.List.{List, [], _∷_, _++_}
 use native.Mathlib.Omega.{arith}
-use lib.ListN.{length, take, drop, set}
-use lib.Dec.{lit<}
+use lib.ListN.{length, take, drop}
 use Rattle.octets.specs.Bytes.{num}
 use Rattle.rules.specs.Choice.{leading}
 use Rattle.rules.specs.Entry.{entryOf, without}
 use Rattle.rules.specs.Log.{distinct}
 use Rattle.rules.specs.State.{Note, State, agreed, notesDistinct, buffersGood, rangesGood, good}
-use Rattle.rules.specs.Image.{tableLength, noteLength, headSection, sections, tableAt, stateOf}
+use Rattle.rules.specs.Image.{tableLength, noteLength, tableAt, stateOf}
 use Rattle.rules.specs.Step.{dueBy, notesWithout}
 use Rattle.rules.specs.declared.Entry.{Entry}
 use Rattle.rules.specs.declared.Shape.{Shape}
@@ -30,8 +29,10 @@ use Rattle.due.proofs.Kept.{without-at, keep-distinct}
 use Rattle.places.specs.Layout.{Marks, Fits, Laid, Stands}
 use Rattle.places.specs.declared.Places.{Places}
 use Rattle.places.specs.With.{withLog, withEarly, withNotes}
-use Rattle.places.proofs.Sections.{stands-fits, stands-laid, lent, home}
+use Rattle.places.proofs.Sections.{stands-fits, stands-laid}
 use Rattle.places.proofs.Lent.{holds-fits, log-lent, early-lent, log-home, early-home}
+use Rattle.handler.proofs.Own.{group-below, replica-below}
+use Rattle.handler.proofs.NotesLent.{notes-lent, notes-home}
 use Rattle.ticks.specs.Midway.{Midway, Reaches}
 
 -- ---- a good state is on the way
@@ -50,12 +51,12 @@ pub on-way : {sh : Shape} {b : List ℕ} → Stands sh (stateOf sh b) b → Midw
 unfolding good
 on-way {sh} {b} s =
     let h = split _ (s .good) in
-    record { fits = s .fits; laid = stands-laid s; size = s .size; state = stands-fits s; early = early-once (stateOf sh b) (h 8); notes = notes-once sh (stateOf sh b) (h 10) }
+    record { fits = s .fits; laid = stands-laid s; size = s .size; state = stands-fits s; group = group-below s; replica = replica-below s; early = early-once (stateOf sh b) (h 8); notes = notes-once sh (stateOf sh b) (h 10) }
 
 -- ---- a state that is reached
 
-pub arrive : {sh : Shape} {st : State} {b : List ℕ} → Fits sh → StateFits sh st → Laid sh st b → distinct (st .early) ≡ true → notesDistinct (st .notes) ≡ true → Reaches sh st b
-arrive {sh} {st} {b} f g l d n =
+pub arrive : {sh : Shape} {st : State} {b : List ℕ} → Fits sh → StateFits sh st → Laid sh st b → st .group < sh .s → st .replica < sh .n → distinct (st .early) ≡ true → notesDistinct (st .notes) ≡ true → Reaches sh st b
+arrive {sh} {st} {b} f g l hg hr d n =
     let e : stateOf sh b ≡ st = ap (stateOf sh) (l .bytes) ∙ state-back sh st g in
     record {
       is = e;
@@ -65,6 +66,8 @@ arrive {sh} {st} {b} f g l d n =
             laid = subst (λ (x : State). Laid sh x b) (sym e) l;
             size = l .size;
             state = subst (StateFits sh) (sym e) g;
+            group = rw e hg;
+            replica = rw e hr;
             early = ap (λ (x : State). distinct (x .early)) e ∙ d;
             notes = ap (λ (x : State). notesDistinct (x .notes)) e ∙ n;
           };
@@ -130,8 +133,7 @@ module _ {sh : Shape} {b : List ℕ} (m : Midway sh b) (p : Places) (k : Marks s
   early-is = early-lent (m .laid) (p .early) (p .late - p .early) (m .fits) (m .state .early) (k .early) early-long
 
   pub notes-are : NotesHold (sh .c) (sh .s) (stateOf sh b .notes) notesIn
-  notes-are =
-      noted.hold-section sh (stateOf sh b .notes) notesIn (lent (m .laid) 6 (p .notes) (p .votes - p .notes) (lit< tt) (k .notes) notes-long) (m .state .notes) (m .fits .small) (m .fits .few)
+  notes-are = notes-lent (m .laid) (p .notes) (p .votes - p .notes) (m .fits) (m .state .notes) (k .notes) notes-long
 
   -- what is read there
   pub early-read : tableAt (sh .c) earlyIn 0 ≡ stateOf sh b .early
@@ -170,7 +172,7 @@ module _ {sh : Shape} {b : List ℕ} (m : Midway sh b) (p : Places) (k : Marks s
       let st = stateOf sh b in
       let j : Holds (sh .c) (st .log ++ (e ∷ [])) x = and-then (sh .c) (st .log) logIn log-is (λ es. es ++ (e ∷ [])) x h in
       arrive (m .fits) (fits-moving (m .state) (st .log ++ (e ∷ [])) (st .early) (st .notes) (holds-fits j) (m .state .early) (m .state .notes))
-      (log-home (m .laid) (p .log) (p .early - p .log) (st .log ++ (e ∷ [])) j (k .log) log-long w) (m .early) (m .notes)
+      (log-home (m .laid) (p .log) (p .early - p .log) (st .log ++ (e ∷ [])) j (k .log) log-long w) (m .group) (m .replica) (m .early) (m .notes)
 
   -- an entry leaves early
   pub early-left : {b′ x : List ℕ} (i : ℕ) → i < length (stateOf sh b .early)
@@ -183,20 +185,18 @@ module _ {sh : Shape} {b : List ℕ} (m : Midway sh b) (p : Places) (k : Marks s
       let j : Holds (sh .c) (take i (st .early) ++ drop (i + 1) (st .early)) x = and-then (sh .c) (st .early) earlyIn early-is (λ es. take i es ++ drop (i + 1) es) x h in
       let g : Holds (sh .c) left x = subst (λ (es : List Entry). Holds (sh .c) es x) (sym (without-at (st .early) e (m .early) i l (txn-same e))) j in
       arrive (m .fits) (fits-moving (m .state) (st .log) left (st .notes) (m .state .log) (holds-fits g) (m .state .notes))
-      (early-home (m .laid) (p .early) (p .late - p .early) left g (k .early) early-long w) (keep-distinct _ (st .early) (m .early)) (m .notes)
+      (early-home (m .laid) (p .early) (p .late - p .early) left g (k .early) early-long w) (m .group) (m .replica) (keep-distinct _ (st .early) (m .early)) (m .notes)
 
   -- a note leaves
   pub note-left : {b′ x : List ℕ} (e : Entry) → NotesHold (sh .c) (sh .s) (notesWithout (e ∷ []) (notesAt (sh .c) (sh .s) notesIn)) x
       → b′ ≡ take (p .notes) b ++ (x ++ drop (p .votes - p .notes) (drop (p .notes) b)) → Reaches sh (withNotes (stateOf sh b) (notesWithout (e ∷ []) (stateOf sh b .notes))) b′
-  unfolding headSection
   note-left {x = x} e h w =
       let st = stateOf sh b in
       let left = notesWithout (e ∷ []) (st .notes) in
       let j : NotesHold (sh .c) (sh .s) left x = noted.and-then (sh .c) (sh .s) (st .notes) notesIn notes-are (notesWithout (e ∷ [])) x h in
       let f : NotesFit sh left = record { room = j .room; counted = omega (arith, j .small); each = j .fit } in
-      let l : Laid sh (withNotes st left) _
-      = home (m .laid) (withNotes st left) 6 (p .notes) (p .votes - p .notes) x (lit< tt) (k .notes) notes-long (j .size ∙ sym notes-long) (ap (set (sections sh st) 6) (noted.held-section sh left x j)) w in
-      arrive (m .fits) (fits-moving (m .state) (st .log) (st .early) left (m .state .log) (m .state .early) f) l (m .early) (distinct-without (e ∷ []) (st .notes) (m .notes))
+      let l : Laid sh (withNotes st left) _ = notes-home (m .laid) (p .notes) (p .votes - p .notes) left j (k .notes) notes-long w in
+      arrive (m .fits) (fits-moving (m .state) (st .log) (st .early) left (m .state .log) (m .state .early) f) l (m .group) (m .replica) (m .early) (distinct-without (e ∷ []) (st .notes) (m .notes))
 
 -- ---- a note by its transaction
 

@@ -1,5 +1,5 @@
 -- A state on the way from one good state to the next, as its bytes hold it.
-use Prim.Native.Nat.{ℕ}
+use Prim.Native.Nat.{ℕ, _<_}
 use mathlib.Core.Path.{_≡_}
 use mathlib.Core.Bool.{true}
 use mathlib.Core.List.{List}
@@ -11,12 +11,14 @@ use Rattle.rules.specs.declared.Shape.{Shape}
 use Rattle.rules.proofs.Image.{StateFits}
 use Rattle.places.specs.Layout.{Fits, Laid}
 
--- the bytes are those of the state in them, whose parts fit; neither early nor the notes have a transaction twice
+-- the bytes are those of the state in them, whose parts fit and whose own site is one of the shape; neither early nor the notes have a transaction twice
 pub record Midway (sh : Shape) (b : List ℕ) : Type 0 where
   pub fits : Fits sh
   pub laid : Laid sh (stateOf sh b) b
   pub size : length b ≡ stateLength sh
   pub state : StateFits sh (stateOf sh b)
+  pub group : stateOf sh b .group < sh .s
+  pub replica : stateOf sh b .replica < sh .n
   pub early : distinct (stateOf sh b .early) ≡ true
   pub notes : notesDistinct (stateOf sh b .notes) ≡ true
 

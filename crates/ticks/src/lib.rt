@@ -1,17 +1,21 @@
 // Kind 23, the tick: early entries that are due are released to the log, each with its reply, and the group hears of them.
 use rules::Entry;
+use rules::Message;
 use rules::Shape;
 ghost use mathlib.Core.Path.{_≡_};
 ghost use mathlib.Core.Bool.{true};
 ghost use mathlib.Core.List.{[], _∷_, _++_};
 ghost use Prim.Native.Nat.{_+_, _*_, _<_, _≤_};
 ghost use lib.ListN.{length};
+ghost use Rattle.octets.specs.Bytes.{splice};
 ghost use Rattle.rules.specs.Choice.{leading};
 ghost use Rattle.rules.specs.Log.{distinct};
+ghost use Rattle.rules.specs.Wire.{wireBytes};
+ghost use Rattle.rules.specs.Read.{lengthFor};
 ghost use Rattle.rules.specs.State.{agreed, notesDistinct};
 ghost use Rattle.rules.specs.Image.{stateLength, tableAt, stateOf};
 ghost use Rattle.rules.specs.Digest.{digest};
-ghost use Rattle.rules.specs.Step.{dueBy, notesWithout, released};
+ghost use Rattle.rules.specs.Step.{sendOut, sendLeader, sendFollowers, dueBy, notesWithout, released, unplacedReply};
 ghost use Rattle.rules.specs.Entry.{entryOf, without};
 ghost use Rattle.entries.specs.Table.{Table};
 ghost use Rattle.notes.specs.Notes.{sized, notesAt, NotesHold, Notes};
@@ -145,7 +149,7 @@ fn release_next(shape: Shape, state: &mut [u8], time: u64)
     note_leaves(shape, state, e);
 }
 
-// ---- the log's bytes
+// ---- the bytes of the log and of early
 
 // How many entries the log has.
 fn log_length(shape: Shape, state: &[u8]) -> usize
@@ -164,6 +168,14 @@ fn log_place(shape: Shape, i: usize) -> usize
     ensures { λ r. ⌜ (r ≡ startOf shape 3 + (4 + 24 * i)) × (r + 24 ≤ stateLength shape) × (r ≤ 2187586) ⌝ }
 {
     places::places_of(shape).log + (4 + 24 * i)
+}
+
+// Where entry i of early stands.
+fn early_place(shape: Shape, i: usize) -> usize
+    requires { ⌜ Fits shape × (i < shape .c) ⌝ }
+    ensures { λ r. ⌜ (r ≡ startOf shape 4 + (4 + 24 * i)) × (r + 24 ≤ stateLength shape) × (r ≤ 2187586) ⌝ }
+{
+    places::places_of(shape).early + (4 + 24 * i)
 }
 
 // The digest of the log.
@@ -186,4 +198,53 @@ fn release_one(shape: Shape, state: &mut [u8], time: u64, n: usize, sum: u64) ->
     let at = log_place(shape, n);
     let end = at + 24;
     digest::digest_on(sum, &state[at..end])
+}
+
+// ---- what is sent
+
+// Writes at `at` that entry n of the log is placed: its position, and the digest of the log up to it. Says where the message ends.
+fn tell_placed(shape: Shape, state: &[u8], out: &mut [u8], at: usize, n: usize, sum: u64) -> usize
+    requires { ⌜ Midway shape (now state) × (n < length (stateOf shape (now state) .log)) × (at + lengthFor (shape .s) 5 1 ≤ length (now out)) ⌝ }
+    ensures { λ r. ⌜ (r ≡ at + lengthFor (shape .s) 5 1) × (now (out .exit) ≡ splice (now (out .entry)) at (wireBytes (sendOut (stateOf shape (now (state .entry))) 5 (1 ∷ (n + 1) ∷ sum ∷ []) (entryOf (stateOf shape (now (state .entry)) .log) n)))) ⌝ }
+{
+    let from = log_place(shape, n);
+    let end = from + 24;
+    let m = Message::FastReply(handler::headed(state, 5, 255, 1), 1, (n + 1) as u64, sum);
+    handler::tell(shape, state, out, at, m, &state[from..end])
+}
+
+// Writes from the start of the outgoing buffer on that the first entry due by a time is not placed, with the digest of the log. Says where the message ends.
+fn tell_unplaced(shape: Shape, state: &[u8], out: &mut [u8], time: u64) -> usize
+    requires { ⌜ Midway shape (now state) × (0 < length (dueBy time (stateOf shape (now state) .early))) × (lengthFor (shape .s) 5 1 ≤ length (now out)) ⌝ }
+    ensures { λ r. ⌜ (r ≡ lengthFor (shape .s) 5 1) × (now (out .exit) ≡ splice (now (out .entry)) 0 (wireBytes (unplacedReply (stateOf shape (now (state .entry))) (entryOf (dueBy time (stateOf shape (now (state .entry)) .early)) 0)))) ⌝ }
+{
+    let from = early_place(shape, first_due(shape, state, time));
+    let end = from + 24;
+    let sum = log_digest(shape, state);
+    let m = Message::FastReply(handler::headed(state, 5, 255, 1), 0, 0, sum);
+    handler::tell(shape, state, out, 0, m, &state[from..end])
+}
+
+// Writes the log at `at`, to all followers. Says where the message ends.
+fn tell_log(shape: Shape, state: &[u8], out: &mut [u8], at: usize) -> usize
+    requires { ⌜ Midway shape (now state) × (at + lengthFor (shape .s) 4 (length (stateOf shape (now state) .log)) ≤ length (now out)) ⌝ }
+    ensures { λ r. ⌜ (r ≡ at + lengthFor (shape .s) 4 (length (stateOf shape (now (state .entry)) .log))) × (now (out .exit) ≡ splice (now (out .entry)) at (wireBytes (sendFollowers shape (stateOf shape (now (state .entry))) 4 (stateOf shape (now (state .entry)) .log)))) ⌝ }
+{
+    let from = places::places_of(shape).log + 4;
+    let end = from + 24 * log_length(shape, state);
+    let others = group::others(shape.n, places::get_replica(state));
+    let m = Message::ReplicaSync(handler::headed(state, 4, octets::get8(state, 0), others));
+    handler::tell(shape, state, out, at, m, &state[from..end])
+}
+
+// Writes the sync point at `at`, to the leader of the own group. Says where the message ends.
+fn tell_status(shape: Shape, state: &[u8], out: &mut [u8], at: usize) -> usize
+    requires { ⌜ Midway shape (now state) × (at + lengthFor (shape .s) 10 0 ≤ length (now out)) ⌝ }
+    ensures { λ r. ⌜ (r ≡ at + lengthFor (shape .s) 10 0) × (now (out .exit) ≡ splice (now (out .entry)) at (wireBytes (sendLeader shape (stateOf shape (now (state .entry))) 10 (stateOf shape (now (state .entry)) .group) (stateOf shape (now (state .entry)) .sync ∷ []) []))) ⌝ }
+{
+    let view = places::view_at(shape, state, places::get_group(state));
+    let leader = group::only(view as u64 % shape.n);
+    let header = handler::headed(state, 10, octets::get8(state, 0), leader);
+    let m = Message::SyncStatus(header, places::get_sync(state));
+    handler::tell(shape, state, out, at, m, &state[0..0])
 }
