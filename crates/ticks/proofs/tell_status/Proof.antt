@@ -2,6 +2,8 @@ use borrow.Author.Needs.{needs}
 use Rattle.ticks.proofs.tell_status.Statement.{statement}
 use Rattle.ticks.proofs.tell_status.Tie as tie
 use native.Mathlib.Omega.{arith}
+use native.Mathlib.Nat.{mod-lt}
+use Prim.Native.Nat.{_%_, _<_}
 use Rattle.handler.proofs.Sends.{sender, own-group}
 use Rattle.ticks.proofs.Telling.{sized, status-room, status-told}
 
@@ -18,7 +20,10 @@ rem-only : tie.Need-rem-only
 rem-only c = search needs
 
 only-requires : tie.Need-only-requires
-only-requires c κs = search needs
+only-requires c κs =
+    let h : 0 < (c .before .before .before .before .before .args .shape .n) = omega (arith, (c .before .before .before .before .before .pre .0 .fits .least)) in
+    let m : (c .before .view-at .result) % (c .before .before .before .before .before .args .shape .n) < (c .before .before .before .before .before .args .shape .n) = mod-lt (c .before .view-at .result) h in
+    omega (arith, (c .before .before .before .before .before .pre .0 .fits .most))
 
 get8-requires : tie.Need-get8-requires
 get8-requires c κs = search needs
