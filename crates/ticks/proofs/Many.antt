@@ -88,10 +88,10 @@ module _ (st : State) (ds : List Entry) where
 
   -- how long they are
   pub replies-length : (s : ℕ) → length (st .gVec) ≡ s → (i : ℕ) → i ≤ length ds → length (flat wireBytes (placedReplies st (take i ds))) ≡ lengthFor s 5 1 * i
+  unfolding placedReply pick
   replies-length s e i l = ap (λ (ws : List Wire). length (flat wireBytes ws)) (replies-are i l) ∙ sends-below (reply i) (lengthFor s 5 1) i (λ j h. long j)
     where
       long : (j : ℕ) → length (wireBytes (reply i j)) ≡ lengthFor s 5 1
-      unfolding placedReply pick
       long j = sent-length s st 5 255 1 _ _ e refl refl
 
 -- ---- the states
@@ -112,7 +112,7 @@ module _ (st : State) (time : ℕ) where
     pub after-due : dueBy time (after i .early) ≡ drop i dues
     after-due = due-rest time (st .early) d i
 
-    after-first : entryOf (dueBy time (after i .early)) 0 ≡ entryOf dues i
+    pub after-first : entryOf (dueBy time (after i .early)) 0 ≡ entryOf dues i
     after-first = ap (λ (es : List Entry). entryOf es 0) after-due ∙ rw getD-drop (ap (entryOf dues) (omega arith))
 
     pub after-log : (e : Entry) → e ≡ entryOf dues i → (st .log ++ take i dues) ++ (e ∷ []) ≡ st .log ++ take (i + 1) dues

@@ -4,7 +4,7 @@ use mathlib.Core.Path.{_≡_, refl, sym, ap, _∙_}
 use mathlib.Core.Bool.{false}
 use mathlib.Core.List.{List, [], _∷_, append-nil}
 use native.Mathlib.Omega.{arith}
-use native.Mathlib.Nat.{mul-div-cancel-left}
+use native.Mathlib.Nat.{mul-div-cancel-left, mul-le-mul}
 use lib.ListN.{length, take, drop, getD}
 use lib.Dec.{lit<, lit≤}
 use Rattle.octets.specs.Bytes.{num, flat, splice}
@@ -40,6 +40,9 @@ long-is s k j b = let v : pick (bare k) 0 s ≡ s = pick-false (bare k) 0 s b in
 pub placed-long : (s : ℕ) → lengthFor s 5 1 ≡ 72 + 4 * s
 unfolding pick
 placed-long s = omega arith
+
+pub replies-small : (s k : ℕ) → s ≤ 8 → k ≤ 4096 → lengthFor s 5 1 * k ≤ 425984
+replies-small s k a b = mul-le-mul (let z : lengthFor s 5 1 ≤ 104 = omega (arith, placed-long s) in z) b
 
 pub log-long : (s n : ℕ) → lengthFor s 4 n ≡ 24 + 4 * s + 24 * n
 unfolding pick

@@ -1,11 +1,12 @@
 // Kind 23, the tick: early entries that are due are released to the log, each with its reply, and the group hears of them.
+use rules::Answer;
 use rules::Entry;
 use rules::Message;
 use rules::Shape;
 ghost use mathlib.Core.Path.{_≡_};
 ghost use mathlib.Core.Bool.{true};
 ghost use mathlib.Core.List.{[], _∷_, _++_};
-ghost use Prim.Native.Nat.{_+_, _*_, _<_, _≤_};
+ghost use Prim.Native.Nat.{_+_, _-_, _*_, _<_, _≤_, min};
 ghost use lib.ListN.{length};
 ghost use Rattle.octets.specs.Bytes.{splice};
 ghost use Rattle.rules.specs.Choice.{leading};
@@ -13,15 +14,17 @@ ghost use Rattle.rules.specs.Log.{distinct};
 ghost use Rattle.rules.specs.Wire.{wireBytes};
 ghost use Rattle.rules.specs.Read.{lengthFor};
 ghost use Rattle.rules.specs.State.{agreed, notesDistinct};
-ghost use Rattle.rules.specs.Image.{stateLength, tableAt, stateOf};
+ghost use Rattle.rules.specs.Image.{stateLength, image, tableAt, stateOf};
 ghost use Rattle.rules.specs.Digest.{digest};
-ghost use Rattle.rules.specs.Step.{sendOut, sendLeader, sendFollowers, dueBy, notesWithout, released, unplacedReply};
+ghost use Rattle.rules.specs.Step.{sendOut, sendLeader, sendFollowers, dueBy, notesWithout, released, unplacedReply, leaderReleases, followerReleases, onTick};
+ghost use Rattle.rules.specs.Bytes.{left, closes};
 ghost use Rattle.rules.specs.Entry.{entryOf, without};
 ghost use Rattle.entries.specs.Table.{Table};
 ghost use Rattle.notes.specs.Notes.{sized, notesAt, NotesHold, Notes};
 ghost use Rattle.places.specs.Layout.{startOf, Fits};
-ghost use Rattle.places.specs.With.{withLog, withEarly, withNotes};
-ghost use Rattle.ticks.specs.Midway.{Midway, Reaches};
+ghost use Rattle.places.specs.With.{withClock, withSync, withLog, withEarly, withNotes};
+ghost use Rattle.handler.specs.Handler.{Ready, handled};
+ghost use Rattle.ticks.specs.Midway.{Midway, Reaches, Released};
 
 // ---- the run of a leader
 
@@ -247,4 +250,151 @@ fn tell_status(shape: Shape, state: &[u8], out: &mut [u8], at: usize) -> usize
     let header = handler::headed(state, 10, octets::get8(state, 0), leader);
     let m = Message::SyncStatus(header, places::get_sync(state));
     handler::tell(shape, state, out, at, m, &state[0..0])
+}
+
+// ---- the release
+
+// Releases the first k entries due by a time, each with its reply, from the start of the outgoing buffer on. Says where the last reply ends. n is the log's length.
+fn release(shape: Shape, state: &mut [u8], out: &mut [u8], time: u64, n: usize, k: usize) -> usize
+    requires { ⌜ Midway shape (now state) × (n ≡ length (stateOf shape (now state) .log)) × (k ≤ length (dueBy time (stateOf shape (now state) .early))) × (n + k ≤ shape .c) × (lengthFor (shape .s) 5 1 * k ≤ length (now out)) ⌝ }
+    ensures { λ r. ⌜ Released shape (now (state .entry)) (now (out .entry)) time k r (now (state .exit)) (now (out .exit)) ⌝ }
+{
+    if k == 0 {
+        return 0;
+    }
+    let mut sum = log_digest(shape, state);
+    let mut at = 0;
+    let mut i = 0;
+    while i < k {
+        sum = release_one(shape, state, time, n + i, sum);
+        at = tell_placed(shape, state, out, at, n + i, sum);
+        i += 1;
+    }
+    at
+}
+
+// How many entries are due by a time.
+fn due_count(shape: Shape, state: &[u8], time: u64) -> usize
+    requires { ⌜ Midway shape (now state) ⌝ }
+    ensures { λ r. ⌜ r ≡ length (dueBy time (stateOf shape (now (state .entry)) .early)) ⌝ }
+{
+    let layout = places::places_of(shape);
+    let start = layout.early;
+    let end = layout.late;
+    due::count_due(&state[start..end], shape.c as usize, time)
+}
+
+// Of a run, as many entries as a log of n entries still holds.
+fn fitting(c: usize, n: usize, run: usize) -> usize
+    requires { ⌜ n ≤ c ⌝ }
+    ensures { λ r. ⌜ r ≡ min run (c - n) ⌝ }
+{
+    if run <= c - n {
+        return run;
+    }
+    c - n
+}
+
+// How long k replies are.
+fn replies_length(s: u64, k: usize) -> usize
+    requires { ⌜ (s ≤ 8) × (k ≤ 4096) ⌝ }
+    ensures { λ r. ⌜ (r ≡ lengthFor s 5 1 * k) × (r ≤ 425984) ⌝ }
+{
+    wire::kinds::length_for(s, 5, 1) * k
+}
+
+// Puts the clock and the sync point.
+fn settle(shape: Shape, state: &mut [u8], time: u64, sync: u64)
+    requires { ⌜ Midway shape (now state) ⌝ }
+    ensures { λ _. ⌜ now (state .exit) ≡ image shape (withSync (withClock (stateOf shape (now (state .entry))) time) sync) ⌝ }
+{
+    places::put_clock(state, time);
+    places::put_sync(state, sync);
+}
+
+// ---- the tick
+
+// A leader whose run is empty tells of the first due entry, where there is one.
+fn leader_waits(shape: Shape, state: &mut [u8], out: &mut [u8], time: u64, n: usize, due: usize) -> Answer
+    requires { ⌜ Midway shape (now state) × (n ≡ length (stateOf shape (now state) .log)) × (due ≡ length (dueBy time (stateOf shape (now state) .early))) ⌝ }
+    ensures { λ r. ⌜ left r (now (state .exit)) (now (out .exit)) ≡ closes shape (now (state .entry)) (now (out .entry)) (leaderReleases shape (stateOf shape (now (state .entry))) time (dueBy time (stateOf shape (now (state .entry)) .early)) []) ⌝ }
+{
+    if due == 0 {
+        settle(shape, state, time, n as u64);
+        return Answer::Done(0);
+    }
+    if out.len() < wire::kinds::length_for(shape.s, 5, 1) {
+        return Answer::Refused(9);
+    }
+    let end = tell_unplaced(shape, state, out, time);
+    settle(shape, state, time, n as u64);
+    Answer::Done(end)
+}
+
+// A leader releases the run that is agreed, as far as the log holds it, and sends the log to its followers.
+fn leader_releases(shape: Shape, state: &mut [u8], out: &mut [u8], time: u64) -> Answer
+    requires { ⌜ Midway shape (now state) ⌝ }
+    ensures { λ r. ⌜ left r (now (state .exit)) (now (out .exit)) ≡ closes shape (now (state .entry)) (now (out .entry)) (leaderReleases shape (stateOf shape (now (state .entry))) time (dueBy time (stateOf shape (now (state .entry)) .early)) (leading (agreed shape (stateOf shape (now (state .entry)) .notes)) (dueBy time (stateOf shape (now (state .entry)) .early)))) ⌝ }
+{
+    let n = log_length(shape, state);
+    let due = due_count(shape, state, time);
+    let run = run_length(shape, state, time, due);
+    if run == 0 {
+        return leader_waits(shape, state, out, time, n, due);
+    }
+    if shape.c as usize <= n {
+        return Answer::Refused(8);
+    }
+    let k = fitting(shape.c as usize, n, run);
+    if out.len() < replies_length(shape.s, k) + wire::kinds::length_for(shape.s, 4, n + k) {
+        return Answer::Refused(9);
+    }
+    let at = release(shape, state, out, time, n, k);
+    let end = tell_log(shape, state, out, at);
+    settle(shape, state, time, (n + k) as u64);
+    Answer::Done(end)
+}
+
+// A follower releases all that is due, as far as the log holds it, and tells the leader its sync point.
+fn follower_releases(shape: Shape, state: &mut [u8], out: &mut [u8], time: u64) -> Answer
+    requires { ⌜ Midway shape (now state) ⌝ }
+    ensures { λ r. ⌜ left r (now (state .exit)) (now (out .exit)) ≡ closes shape (now (state .entry)) (now (out .entry)) (followerReleases shape (stateOf shape (now (state .entry))) time (dueBy time (stateOf shape (now (state .entry)) .early))) ⌝ }
+{
+    let n = log_length(shape, state);
+    let due = due_count(shape, state, time);
+    if (shape.c as usize <= n) & (due != 0) {
+        return Answer::Refused(8);
+    }
+    let k = fitting(shape.c as usize, n, due);
+    if out.len() < replies_length(shape.s, k) + wire::kinds::length_for(shape.s, 10, 0) {
+        return Answer::Refused(9);
+    }
+    let at = release(shape, state, out, time, n, k);
+    let end = tell_status(shape, state, out, at);
+    let sync = places::get_sync(state);
+    settle(shape, state, time, sync);
+    Answer::Done(end)
+}
+
+// Kind 23: time passes, and what is due by it is released.
+pub fn on_tick(
+    shape: Shape,
+    state: &mut [u8],
+    m: Message,
+    message: &[u8],
+    out: &mut [u8],
+) -> Answer
+    requires { ⌜ Ready shape (now state) m (now message) ⌝ }
+    ensures { λ r. ⌜ left r (now (state .exit)) (now (out .exit)) ≡ handled 23 onTick shape m (now (state .entry)) (now (message .entry)) (now (out .entry)) ⌝ }
+{
+    let Message::Tick(_, time) = m else {
+        return Answer::Refused(2);
+    };
+    if time < places::get_clock(state) {
+        return Answer::Refused(7);
+    }
+    if handler::leads(shape, state) {
+        return leader_releases(shape, state, out, time);
+    }
+    follower_releases(shape, state, out, time)
 }
