@@ -1,0 +1,116 @@
+-- The loop of releases, a turn at a time. Assumes nothing.
+use Prim.Native.Nat.{ℕ, _+_, _-_, _*_, _≤_, _<_}
+use mathlib.Core.Path.{_≡_, refl, sym, ap, subst, _∙_}
+use mathlib.Core.List.{List, [], _∷_, _++_, append-nil}
+use native.Mathlib.Omega.{arith}
+use native.Mathlib.Nat.{mul-add, mul-one}
+use lib.ListN.{length, take, drop, length-append, length-drop}
+use lib.Seq.{getD-append-add, getD-take, length-take-le}
+use Rattle.octets.specs.Bytes.{flat, splice}
+use Rattle.octets.proofs.Laws.{length-splice, splice-none, splice-next}
+use Rattle.rules.specs.Choice.{below}
+use Rattle.rules.specs.Entry.{noEntry, entryOf}
+use Rattle.rules.specs.Wire.{wireBytes}
+use Rattle.rules.specs.Read.{lengthFor}
+use Rattle.rules.specs.Digest.{digest}
+use Rattle.rules.specs.State.{State}
+use Rattle.rules.specs.Image.{stateOf}
+use Rattle.rules.specs.Step.{sends, sendOut, dueBy, released, placedReplies}
+use Rattle.rules.specs.declared.Entry.{Entry}
+use Rattle.rules.specs.declared.Shape.{Shape}
+use Rattle.places.proofs.Rows.{within}
+use Rattle.ticks.specs.Midway.{Midway, Reaches, Released}
+use Rattle.ticks.proofs.Many.{dues, after, after-start, after-due, after-log, after-first, after-next, replies-more, replies-length}
+
+module _ {sh : Shape} {b₀ : List ℕ} (m : Midway sh b₀) (out₀ : List ℕ) (time : ℕ) where
+  abbrev st : State
+  st = stateOf sh b₀
+
+  abbrev ds : List Entry
+  ds = dues st time
+
+  -- none is released yet
+  pub turn-start : Released sh b₀ out₀ time 0 0 b₀ out₀
+  unfolding flat sends below
+  turn-start =
+      record {
+        reached = record { is = sym (after-start st time); midway = m };
+        end = omega arith;
+        replies = sym (splice-none out₀ 0);
+        long = refl;
+      }
+
+  pub sum-start : (sum : ℕ) → sum ≡ digest (st .log) → sum ≡ digest (st .log ++ take 0 ds)
+  sum-start sum e = e ∙ ap digest (sym (append-nil (st .log)))
+
+  module _ (n k : ℕ) (hn : n ≡ length (st .log)) (hk : k ≤ length ds) (hc : n + k ≤ sh .c) (ho : lengthFor (sh .s) 5 1 * k ≤ length out₀)
+      (i at sum : ℕ) {b out : List ℕ} (l : i < k) (r : Released sh b₀ out₀ time i at b out) (hs : sum ≡ digest (st .log ++ take i ds)) where
+    less : i < length ds
+    less = omega arith
+
+    long-log : (j : ℕ) → j ≤ length ds → length (st .log ++ take j ds) ≡ n + j
+    long-log j h = length-append (st .log) (take j ds) ∙ ap (λ (x : ℕ). length (st .log) + x) (length-take-le j ds h) ∙ ap (λ (x : ℕ). x + j) (sym hn)
+
+    -- what the next release asks for
+    pub turn-asks : Midway sh b × (n + i ≡ length (stateOf sh b .log)) × (n + i < sh .c) × (0 < length (dueBy time (stateOf sh b .early))) × (sum ≡ digest (stateOf sh b .log))
+    turn-asks =
+        let e : stateOf sh b ≡ after st time i = r .reached .is in
+        let a : length (stateOf sh b .log) ≡ n + i = ap (λ (x : State). length (x .log)) e ∙ long-log i (omega (arith, less)) in
+        let d : length (dueBy time (stateOf sh b .early)) ≡ length (drop i ds) = ap (λ (x : State). length (dueBy time (x .early))) e ∙ ap length (after-due st time (m .early) i less) in
+        let z : length (drop i ds) ≡ length ds - i = length-drop i ds in
+        (r .reached .midway, sym a, omega arith, omega (arith, less), hs ∙ ap (λ (x : State). digest (x .log)) (sym e))
+
+    module _ (sum₁ : ℕ) {b₁ : List ℕ}
+        (w : Reaches sh (released (stateOf sh b) (stateOf sh b .clock) (stateOf sh b .sync) (entryOf (dueBy time (stateOf sh b .early)) 0 ∷ [])) b₁)
+        (hs₁ : sum₁ ≡ digest (stateOf sh b .log ++ (entryOf (dueBy time (stateOf sh b .early)) 0 ∷ []))) where
+      -- the state once it is released
+      next-is : stateOf sh b₁ ≡ after st time (i + 1)
+      next-is = w .is ∙ ap (λ (x : State). released x (x .clock) (x .sync) (entryOf (dueBy time (x .early)) 0 ∷ [])) (r .reached .is) ∙ after-next st time (m .early) i less
+
+      next-log : stateOf sh b₁ .log ≡ st .log ++ take (i + 1) ds
+      next-log = ap (λ (x : State). x .log) next-is
+
+      next-sum : sum₁ ≡ digest (st .log ++ take (i + 1) ds)
+      next-sum = hs₁ ∙ ap (λ (x : State). digest (x .log ++ (entryOf (dueBy time (x .early)) 0 ∷ []))) (r .reached .is) ∙ ap digest (after-log st time (m .early) i less _ (after-first st time (m .early) i less))
+
+      next-entry : entryOf (stateOf sh b₁ .log) (n + i) ≡ entryOf ds i
+      next-entry = ap (λ (es : List Entry). entryOf es (n + i)) next-log ∙ rw hn (getD-append-add (st .log) (take (i + 1) ds) i noEntry) ∙ taken-at i
+        where
+          taken-at : (j : ℕ) → entryOf (take (j + 1) ds) j ≡ entryOf ds j
+          taken-at j = let z : j < j + 1 = omega arith in rw getD-take
+
+      -- what its reply asks for
+      pub turn-tells : Midway sh b₁ × (n + i < length (stateOf sh b₁ .log)) × (at + lengthFor (sh .s) 5 1 ≤ length out)
+      turn-tells =
+          let a : length (stateOf sh b₁ .log) ≡ n + (i + 1) = ap length next-log ∙ long-log (i + 1) (omega (arith, less)) in
+          (w .midway, omega arith, omega (arith, within (lengthFor (sh .s) 5 1) i k l, r .end, r .long))
+
+      -- one more is released
+      pub turn-next : (at₁ : ℕ) (out₁ : List ℕ)
+          → (at₁ ≡ at + lengthFor (sh .s) 5 1) × (out₁ ≡ splice out at (wireBytes (sendOut (stateOf sh b₁) 5 (1 ∷ (n + i + 1) ∷ sum₁ ∷ []) (entryOf (stateOf sh b₁ .log) (n + i)))))
+          → Released sh b₀ out₀ time (i + 1) at₁ b₁ out₁ × (sum₁ ≡ digest (st .log ++ take (i + 1) ds))
+      turn-next at₁ out₁ (p, q) =
+          let L = lengthFor (sh .s) 5 1 in
+          let x = flat wireBytes (placedReplies st (take i ds)) in
+          let y = wireBytes (sendOut st 5 (1 ∷ (length (st .log) + i + 1) ∷ digest (st .log ++ take (i + 1) ds) ∷ []) (entryOf ds i)) in
+          let s : wireBytes (sendOut (stateOf sh b₁) 5 (1 ∷ (n + i + 1) ∷ sum₁ ∷ []) (entryOf (stateOf sh b₁ .log) (n + i))) ≡ y = rw (next-entry, next-sum, next-is, hn) in
+          let lx : length x ≡ L * i = replies-length st ds (sh .s) (m .state .gVecPlaces) i (omega (arith, less)) in
+          let ln : length (flat wireBytes (placedReplies st (take (i + 1) ds))) ≡ L * (i + 1) = replies-length st ds (sh .s) (m .state .gVecPlaces) (i + 1) (omega (arith, less)) in
+          let g : L * i + L ≤ L * k = within L i k l in
+          let more : L * (i + 1) ≡ L * i + L = mul-add L i 1 ∙ ap (λ (z : ℕ). L * i + z) (mul-one L) in
+          let o : out₁ ≡ splice out (0 + L * i) y = q ∙ ap (splice out at) s ∙ ap (λ (z : ℕ). splice out z y) (omega (arith, r .end)) in
+          let h : out₁ ≡ splice out₀ 0 (flat wireBytes (placedReplies st (take (i + 1) ds))) = splice-next out₀ 0 (L * i) x y out out₁ (omega arith) lx (r .replies) o ∙ ap (splice out₀ 0) (sym (replies-more st ds i less)) in
+          (record {
+            reached = record { is = next-is; midway = w .midway };
+            end = omega (arith, r .end);
+            replies = h;
+            long = ap length h ∙ length-splice out₀ 0 (flat wireBytes (placedReplies st (take (i + 1) ds))) (omega arith);
+          }, next-sum)
+
+  -- all are released
+  pub turn-end : (k i at : ℕ) {b out : List ℕ} → i ≤ k → k ≤ i → Released sh b₀ out₀ time i at b out → Released sh b₀ out₀ time k at b out
+  turn-end k i at {b} {out} l h r = let e : i ≡ k = omega arith in subst (λ (j : ℕ). Released sh b₀ out₀ time j at b out) e r
+
+  -- or there is none to release
+  pub none-end : (k : ℕ) → k ≡ 0 → Released sh b₀ out₀ time k 0 b₀ out₀
+  none-end k e = subst (λ (j : ℕ). Released sh b₀ out₀ time j 0 b₀ out₀) (sym e) turn-start

@@ -1,0 +1,80 @@
+use borrow.Author.Needs.{needs}
+use Rattle.ticks.proofs.release.Statement.{statement}
+use Rattle.ticks.proofs.release.Tie as tie
+use Prim.Native.Nat.{_≤_, _+_, _-_}
+use mathlib.Core.Path.{_≡_, sym, ap, _∙_}
+use mathlib.Core.List.{_++_}
+use native.Mathlib.Omega.{arith}
+use lib.ListN.{length, take}
+use Rattle.rules.specs.Digest.{digest}
+use Rattle.rules.specs.Image.{stateOf}
+use Rattle.rules.specs.Step.{dueBy}
+use Rattle.ticks.specs.Midway.{Released}
+use Rattle.ticks.proofs.Turns.{turn-start, sum-start, turn-asks, turn-tells, turn-next, turn-end, none-end}
+
+abbrev Inv-loop : tie.InvT-loop
+Inv-loop  shape state₀ out₀ time n k sum₀ at₀ i₀ state out sum at i = (i ≤ k) × Released shape state₀ out₀ time i at state out × (sum ≡ digest (stateOf shape state₀ .log ++ take i (dueBy time (stateOf shape state₀ .early))))
+
+abbrev μ-loop : tie.MeasureT-loop
+μ-loop  shape state₀ out₀ time n k sum₀ at₀ i₀ state out sum at i = k - i
+
+returns : tie.Need-returns Inv-loop μ-loop
+returns c = none-end (c .before .before .before .pre .0) _ _ _ (c .if1 .taken)
+
+log-digest-requires : tie.Need-log-digest-requires Inv-loop μ-loop
+log-digest-requires c κs = search needs
+
+loop-holds : tie.Need-loop-holds Inv-loop μ-loop
+loop-holds c = (omega arith, turn-start (c .before .before .before .before .before .pre .0) _ _, sum-start (c .before .before .before .before .before .pre .0) (c .before .before .before .before .before .args .out .now) (c .before .before .before .before .before .args .time) _ (c .log-digest .ensures))
+
+add-release-one : tie.Need-add-release-one Inv-loop μ-loop
+add-release-one c = search needs
+
+release-one-requires : tie.Need-release-one-requires Inv-loop μ-loop
+release-one-requires c κs = turn-asks (c .before .before .before .before .before .before .before .before .pre .0) _ _ _ _ (c .before .before .before .before .before .before .before .before .pre .1) (c .before .before .before .before .before .before .before .before .pre .2) (c .before .before .before .before .before .before .before .before .pre .3) (c .before .before .before .before .before .before .before .before .pre .4) _ _ _ (c .before .loop-test .taken) (c .before .before .loop .inv .1) (c .before .before .loop .inv .2)
+
+add-tell-placed : tie.Need-add-tell-placed Inv-loop μ-loop
+add-tell-placed c = search needs
+
+tell-placed-requires : tie.Need-tell-placed-requires Inv-loop μ-loop
+tell-placed-requires c κs = turn-tells (c .before .before .before .before .before .before .before .before .before .before .before .before .before .pre .0) _ _ _ _ (c .before .before .before .before .before .before .before .before .before .before .before .before .before .pre .1) (c .before .before .before .before .before .before .before .before .before .before .before .before .before .pre .2) (c .before .before .before .before .before .before .before .before .before .before .before .before .before .pre .3) (c .before .before .before .before .before .before .before .before .before .before .before .before .before .pre .4) _ _ _ (c .before .before .before .before .before .before .loop-test .taken) (c .before .before .before .before .before .before .before .loop .inv .1) (c .before .before .before .before .before .before .before .loop .inv .2) _ (c .before .before .before .before .release-one .ensures .0) (c .before .before .before .before .release-one .ensures .1)
+
+add-i : tie.Need-add-i Inv-loop μ-loop
+add-i c = search needs
+
+loop-less : tie.Need-loop-less Inv-loop μ-loop
+loop-less c = search needs
+
+loop-again : tie.Need-loop-again Inv-loop μ-loop
+loop-again c =
+    let t = turn-next (c .before .before .before .before .before .before .before .before .before .before .before .before .before .before .before .before .pre .0) _ _ _ _ (c .before .before .before .before .before .before .before .before .before .before .before .before .before .before .before .before .pre .1) (c .before .before .before .before .before .before .before .before .before .before .before .before .before .before .before .before .pre .2) (c .before .before .before .before .before .before .before .before .before .before .before .before .before .before .before .before .pre .3) (c .before .before .before .before .before .before .before .before .before .before .before .before .before .before .before .before .pre .4) _ _ _ (c .before .before .before .before .before .before .before .before .before .loop-test .taken) (c .before .before .before .before .before .before .before .before .before .before .loop .inv .1) (c .before .before .before .before .before .before .before .before .before .before .loop .inv .2) _ (c .before .before .before .before .before .before .before .release-one .ensures .0) (c .before .before .before .before .before .before .before .release-one .ensures .1) _ _ (c .before .before .tell-placed .ensures) in
+    (omega arith, t .0, t .1)
+
+same-length : tie.Need-same-length Inv-loop μ-loop
+same-length c = (c .before .loop .inv .1 .reached .midway .size) ∙ sym (c .before .before .before .before .before .before .before .pre .0 .size)
+
+same-length-2 : tie.Need-same-length-2 Inv-loop μ-loop
+same-length-2 c = (c .before .loop .inv .1 .long)
+
+returns-2 : tie.Need-returns-2 Inv-loop μ-loop
+returns-2 c = turn-end (c .before .before .before .before .before .before .before .pre .0) _ _ _ _ _ (c .before .loop .inv .0) (c .loop-test .left) (c .before .loop .inv .1)
+
+pub release-spec : {M : Type 1} → statement M
+release-spec =
+    tie.close
+    (tie.spec
+    Inv-loop
+    μ-loop
+    returns
+    log-digest-requires
+    loop-holds
+    add-release-one
+    release-one-requires
+    add-tell-placed
+    tell-placed-requires
+    add-i
+    loop-less
+    loop-again
+    same-length
+    same-length-2
+    returns-2)
