@@ -6,7 +6,7 @@ use native.Mathlib.Omega.{arith}
 use lib.ListN.{length, take, drop, getD, length-append}
 use lib.Seq.{getD-append-add}
 use lib.Dec.{lit<, lit≤}
-use Rattle.octets.specs.Bytes.{le, num, part, flat}
+use Rattle.octets.specs.Bytes.{le, part, flat}
 use Rattle.octets.proofs.Laws.{length-le, part-past, part-front}
 use Rattle.octets.proofs.Sections.{part-whole}
 use Rattle.rules.specs.Entry.{noEntry, entryOf}
@@ -21,7 +21,7 @@ use Rattle.rules.proofs.Entries.{long-entry}
 use Rattle.rules.proofs.Tables.{flat-long}
 use Rattle.rules.proofs.Digest.{digest-next}
 use Rattle.rules.proofs.Tests.{at-all}
-use Rattle.places.specs.Layout.{startOf, Fits, Laid}
+use Rattle.places.specs.Layout.{startOf, Laid}
 use Rattle.places.proofs.Sections.{get-in}
 use Rattle.places.proofs.Rows.{within, get-row}
 use Rattle.ticks.specs.Midway.{Midway, Reaches}

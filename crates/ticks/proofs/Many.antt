@@ -1,33 +1,27 @@
 -- Releases one after the other, each with its reply. Assumes nothing.
-use Prim.Native.Nat.{ℕ, zero, suc, _+_, _*_, _≤_, _<_}
+use Prim.Native.Nat.{ℕ, suc, _+_, _*_, _≤_, _<_}
 use mathlib.Core.Path.{_≡_, refl, sym, ap, ap₂, _∙_}
 use mathlib.Core.Bool.{Bool, true, false, _&&_, _||_, not}
 use mathlib.Core.List.{List, [], _∷_, _++_, append-assoc, append-nil}
 use native.Mathlib.Omega.{arith}
 use native.Mathlib.Numerals.{add-one}
-use native.Mathlib.Nat.{zero-add}
-use lib.ListN.{length, take, drop, length-append, length-drop, List·getD-append}
+use lib.ListN.{length, take, drop, length-append, List·getD-append}
 use lib.Seq.{take-suc, take-all, take-append-le, getD-drop, getD-take, getD-append-add, length-take-le}
-use Rattle.octets.specs.Bytes.{flat, splice}
-use Rattle.octets.proofs.Laws.{length-splice, splice-none, splice-next}
+use Rattle.octets.specs.Bytes.{flat}
 use Rattle.rules.specs.Choice.{pick, any, below}
-use Rattle.rules.specs.Entry.{noEntry, entryOf, without}
+use Rattle.rules.specs.Entry.{noEntry, entryOf}
 use Rattle.rules.specs.Log.{distinct}
 use Rattle.rules.specs.Wire.{Wire, wireBytes}
 use Rattle.rules.specs.Read.{lengthFor}
 use Rattle.rules.specs.Digest.{digest}
 use Rattle.rules.specs.State.{Note, State, noteOf}
-use Rattle.rules.specs.Image.{stateOf}
 use Rattle.rules.specs.Step.{sends, sendOut, dueBy, notesWithout, released, placedReply, placedReplies}
 use Rattle.rules.specs.declared.Entry.{Entry}
-use Rattle.rules.specs.declared.Shape.{Shape}
 use Rattle.rules.proofs.Choice.{any-append, all-map}
 use Rattle.due.proofs.Kept.{keep-ext, keep-keep, without-none, without-next, due-rest}
 use Rattle.notes.proofs.Leaving as notes
-use Rattle.places.proofs.Rows.{within}
-use Rattle.handler.proofs.Rows.{length-below, all-below, flat-ext, sends-flat, sends-below, sends-more}
+use Rattle.handler.proofs.Rows.{all-below, flat-ext, sends-flat, sends-below, sends-more}
 use Rattle.handler.proofs.Sends.{sent-length}
-use Rattle.ticks.specs.Midway.{Midway, Reaches}
 
 -- ---- the notes of one transaction more leave
 

@@ -1,19 +1,15 @@
 -- One release, step by step, and many of them one after the other. Assumes nothing.
-use Prim.Native.Nat.{ℕ, _+_, _-_, _≤_, _<_}
-use mathlib.Core.Path.{_≡_, refl, sym, ap, ap₂, subst, _∙_}
-use mathlib.Core.Bool.{Bool, true, false, _&&_, _||_, not}
-use mathlib.Core.List.{List, [], _∷_, _++_, append-assoc}
-use native.Mathlib.Omega.{arith}
+use Prim.Native.Nat.{ℕ, _-_, _<_}
+use mathlib.Core.Path.{_≡_, ap, subst, _∙_}
+use mathlib.Core.List.{List, [], _∷_, _++_}
 use lib.ListN.{length, take, drop}
 use Rattle.rules.specs.Entry.{entryOf, without}
-use Rattle.rules.specs.State.{Note, State}
+use Rattle.rules.specs.State.{State}
 use Rattle.rules.specs.Image.{stateOf, tableAt}
 use Rattle.rules.specs.Step.{dueBy, notesWithout, released}
 use Rattle.rules.specs.declared.Entry.{Entry}
 use Rattle.rules.specs.declared.Shape.{Shape}
-use Rattle.entries.specs.Table.{Table}
-use Rattle.due.specs.Due.{Reached, DueAt}
-use Rattle.due.proofs.Search.{reached-none}
+use Rattle.due.specs.Due.{DueAt}
 use Rattle.places.specs.Layout.{Marks}
 use Rattle.places.specs.declared.Places.{Places}
 use Rattle.places.specs.With.{withLog, withEarly, withNotes}

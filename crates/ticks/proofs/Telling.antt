@@ -23,10 +23,10 @@ use Rattle.rules.specs.declared.Header.{Header}
 use Rattle.rules.specs.declared.Shape.{Shape}
 use Rattle.rules.specs.declared.Message.{Message}
 use Rattle.rules.specs.declared.Message.the-variants.{FastReply, ReplicaSync, SyncStatus}
-use Rattle.rules.proofs.Choice.{pick-false, all-at}
+use Rattle.rules.proofs.Choice.{all-at}
 use Rattle.rules.proofs.Entries.{EntryFits, long-entry}
 use Rattle.rules.proofs.Tables.{flat-long}
-use Rattle.places.specs.Layout.{startOf, Fits, Sized}
+use Rattle.places.specs.Layout.{startOf, Sized}
 use Rattle.places.proofs.Head.{get-head}
 use Rattle.handler.specs.Sending.{messageBytes, headedIn}
 use Rattle.handler.proofs.Sends.{sender, sent-length, message-sent, own-group, own-replica, view-in}
@@ -34,9 +34,6 @@ use Rattle.ticks.specs.Midway.{Midway}
 use Rattle.ticks.proofs.LogBytes.{log-bytes, log-entry, early-entry}
 
 -- how long a message is
-pub long-is : (s k j : ℕ) → bare k ≡ false → lengthFor s k j ≡ 24 + 4 * s + 8 * numbersIn k + 24 * j
-long-is s k j b = let v : pick (bare k) 0 s ≡ s = pick-false (bare k) 0 s b in rw v (omega arith)
-
 pub placed-long : (s : ℕ) → lengthFor s 5 1 ≡ 72 + 4 * s
 unfolding pick
 placed-long s = omega arith

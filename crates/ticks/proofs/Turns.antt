@@ -99,13 +99,15 @@ module _ {sh : Shape} {b₀ : List ℕ} (m : Midway sh b₀) (out₀ : List ℕ)
           let g : L * i + L ≤ L * k = within L i k l in
           let more : L * (i + 1) ≡ L * i + L = mul-add L i 1 ∙ ap (λ (z : ℕ). L * i + z) (mul-one L) in
           let o : out₁ ≡ splice out (0 + L * i) y = q ∙ ap (splice out at) s ∙ ap (λ (z : ℕ). splice out z y) (omega (arith, r .end)) in
-          let h : out₁ ≡ splice out₀ 0 (flat wireBytes (placedReplies st (take (i + 1) ds))) = splice-next out₀ 0 (L * i) x y out out₁ (omega arith) lx (r .replies) o ∙ ap (splice out₀ 0) (sym (replies-more st ds i less)) in
-          (record {
-            reached = record { is = next-is; midway = w .midway };
-            end = omega (arith, r .end);
-            replies = h;
-            long = ap length h ∙ length-splice out₀ 0 (flat wireBytes (placedReplies st (take (i + 1) ds))) (omega arith);
-          }, next-sum)
+          let h : out₁ ≡ splice out₀ 0 (flat wireBytes (placedReplies st (take (i + 1) ds))) = splice-next out₀ 0 (L * i) x y out out₁ (omega arith) lx (r .replies) o ∙ ap (splice out₀ 0) (sym (replies-more st ds i less)) in (
+            record {
+              reached = record { is = next-is; midway = w .midway };
+              end = omega (arith, r .end);
+              replies = h;
+              long = ap length h ∙ length-splice out₀ 0 (flat wireBytes (placedReplies st (take (i + 1) ds))) (omega arith);
+            },
+            next-sum,
+          )
 
   -- all are released
   pub turn-end : (k i at : ℕ) {b out : List ℕ} → i ≤ k → k ≤ i → Released sh b₀ out₀ time i at b out → Released sh b₀ out₀ time k at b out

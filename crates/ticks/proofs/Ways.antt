@@ -8,7 +8,7 @@ use native.Mathlib.Decide.{decLe}
 use lib.ListN.{length, take, length-append, length-take}
 use lib.Seq.{take-all, take-nil, take-take, length-take-le}
 use lib.Dec.{eqb, leb}
-use borrow.Author.Tests.{le-leb, lt-leb, eq-eqb, ne-eqb}
+use borrow.Author.Tests.{le-leb, lt-leb, ne-eqb}
 use Rattle.octets.specs.Bytes.{num, flat, splice}
 use Rattle.octets.proofs.Laws.{splice-next}
 use Rattle.rules.specs.Choice.{pick, leading, below}
@@ -17,7 +17,7 @@ use Rattle.rules.specs.Wire.{Wire, wireBytes}
 use Rattle.rules.specs.Read.{lengthFor}
 use Rattle.rules.specs.State.{State, agreed}
 use Rattle.rules.specs.Image.{image, stateOf}
-use Rattle.rules.specs.Step.{Outcome, refused, done, sends, sendLeader, sendFollowers, dueBy, fitting, released, placedReplies, unplacedReply, leaderTells, leaderReleases, followerReleases}
+use Rattle.rules.specs.Step.{refused, done, sends, sendLeader, sendFollowers, dueBy, fitting, released, placedReplies, unplacedReply, leaderTells, leaderReleases, followerReleases}
 use Rattle.rules.specs.Bytes.{Left, left, leaves, closes}
 use Rattle.rules.specs.declared.Entry.{Entry}
 use Rattle.rules.specs.declared.Shape.{Shape}

@@ -61,7 +61,14 @@ fn run_length(shape: Shape, state: &[u8], time: u64, due: usize) -> usize
     let late = layout.late;
     let notes = layout.notes;
     let votes = layout.votes;
-    run_of(&state[early..late], &state[notes..votes], shape.c as usize, shape.s as usize, time, due)
+    run_of(
+        &state[early..late],
+        &state[notes..votes],
+        shape.c as usize,
+        shape.s as usize,
+        time,
+        due,
+    )
 }
 
 // ---- one release
@@ -108,7 +115,12 @@ fn note_leaves(shape: Shape, state: &mut [u8], e: Entry)
     let layout = places::places_of(shape);
     let start = layout.notes;
     let end = layout.votes;
-    forget(&mut state[start..end], shape.c as usize, shape.s as usize, e);
+    forget(
+        &mut state[start..end],
+        shape.c as usize,
+        shape.s as usize,
+        e,
+    );
 }
 
 // The place in early of the first entry due by a time.
@@ -315,7 +327,14 @@ fn settle(shape: Shape, state: &mut [u8], time: u64, sync: u64)
 // ---- the tick
 
 // A leader whose run is empty tells of the first due entry, where there is one.
-fn leader_waits(shape: Shape, state: &mut [u8], out: &mut [u8], time: u64, n: usize, due: usize) -> Answer
+fn leader_waits(
+    shape: Shape,
+    state: &mut [u8],
+    out: &mut [u8],
+    time: u64,
+    n: usize,
+    due: usize,
+) -> Answer
     requires { ⌜ Midway shape (now state) × (n ≡ length (stateOf shape (now state) .log)) × (due ≡ length (dueBy time (stateOf shape (now state) .early))) ⌝ }
     ensures { λ r. ⌜ left r (now (state .exit)) (now (out .exit)) ≡ closes shape (now (state .entry)) (now (out .entry)) (leaderReleases shape (stateOf shape (now (state .entry))) time (dueBy time (stateOf shape (now (state .entry)) .early)) []) ⌝ }
 {
@@ -377,13 +396,7 @@ fn follower_releases(shape: Shape, state: &mut [u8], out: &mut [u8], time: u64) 
 }
 
 // Kind 23: time passes, and what is due by it is released.
-pub fn on_tick(
-    shape: Shape,
-    state: &mut [u8],
-    m: Message,
-    message: &[u8],
-    out: &mut [u8],
-) -> Answer
+pub fn on_tick(shape: Shape, state: &mut [u8], m: Message, message: &[u8], out: &mut [u8]) -> Answer
     requires { ⌜ Ready shape (now state) m (now message) ⌝ }
     ensures { λ r. ⌜ left r (now (state .exit)) (now (out .exit)) ≡ handled 23 onTick shape m (now (state .entry)) (now (message .entry)) (now (out .entry)) ⌝ }
 {

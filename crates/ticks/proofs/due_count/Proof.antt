@@ -1,3 +1,4 @@
+-- `ticks::due_count` meets its contract: the early entries that are counted are the state's. Assumes nothing.
 use borrow.Author.Needs.{needs}
 use Rattle.ticks.proofs.due_count.Statement.{statement}
 use Rattle.ticks.proofs.due_count.Tie as tie

@@ -1,3 +1,4 @@
+-- `ticks::early_entry` meets its contract: the table lent is early. Assumes nothing.
 use borrow.Author.Needs.{needs}
 use Rattle.ticks.proofs.early_entry.Statement.{statement}
 use Rattle.ticks.proofs.early_entry.Tie as tie

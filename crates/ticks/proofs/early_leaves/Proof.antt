@@ -1,10 +1,7 @@
+-- `ticks::early_leaves` meets its contract: early without the entry comes home. Assumes nothing.
 use borrow.Author.Needs.{needs}
 use Rattle.ticks.proofs.early_leaves.Statement.{statement}
 use Rattle.ticks.proofs.early_leaves.Tie as tie
-use Rattle.ticks.proofs.early_leaves.Reads as reads
-use Rattle.ticks.proofs.early_leaves.Lts as lts
-use Rattle.entries.proofs.remove_at.Reads as remove-at-reads
-use Rattle.places.proofs.places_of.Reads as places-of-reads
 use mathlib.Core.Path.{refl}
 use Rattle.ticks.proofs.Way.{early-open, early-left}
 

@@ -1,7 +1,7 @@
+-- `ticks::first_due` meets its contract: the first that the search finds in early is the first due. Assumes nothing.
 use borrow.Author.Needs.{needs}
 use Rattle.ticks.proofs.first_due.Statement.{statement}
 use Rattle.ticks.proofs.first_due.Tie as tie
-use Prim.Native.Nat.{_-_}
 use Rattle.due.proofs.Search.{reached-none}
 use Rattle.ticks.proofs.Way.{early-once-in}
 use Rattle.ticks.proofs.Next.{due-found}

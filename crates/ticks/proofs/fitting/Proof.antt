@@ -1,3 +1,4 @@
+-- `ticks::fitting` meets its contract: it is the smaller of two. Assumes nothing.
 use borrow.Author.Needs.{needs}
 use Rattle.ticks.proofs.fitting.Statement.{statement}
 use Rattle.ticks.proofs.fitting.Tie as tie

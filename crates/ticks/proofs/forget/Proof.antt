@@ -1,11 +1,7 @@
+-- `ticks::forget` meets its contract: where the search finds no note all stay, and else the one that it finds leaves. Assumes nothing.
 use borrow.Author.Needs.{needs}
 use Rattle.ticks.proofs.forget.Statement.{statement}
 use Rattle.ticks.proofs.forget.Tie as tie
-use Rattle.ticks.proofs.forget.Reads as reads
-use Rattle.ticks.proofs.forget.Lts as lts
-use Rattle.notes.proofs.count.Reads as count-reads
-use Rattle.notes.proofs.find.Reads as find-reads
-use Rattle.notes.proofs.remove_at.Reads as remove-at-reads
 use Rattle.ticks.proofs.Way.{forget-missing, forget-within, forget-found}
 
 find-requires : tie.Need-find-requires

@@ -1,3 +1,4 @@
+-- `ticks::leader_releases` meets its contract: one law for each way through it. Assumes nothing.
 use borrow.Author.Needs.{needs}
 use Rattle.ticks.proofs.leader_releases.Statement.{statement}
 use Rattle.ticks.proofs.leader_releases.Tie as tie

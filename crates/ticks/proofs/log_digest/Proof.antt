@@ -1,3 +1,4 @@
+-- `ticks::log_digest` meets its contract: the bytes lent are those of the log's entries. Assumes nothing.
 use borrow.Author.Needs.{needs}
 use Rattle.ticks.proofs.log_digest.Statement.{statement}
 use Rattle.ticks.proofs.log_digest.Tie as tie

@@ -1,3 +1,4 @@
+-- `ticks::log_length` meets its contract: the table lent is the log. Assumes nothing.
 use borrow.Author.Needs.{needs}
 use Rattle.ticks.proofs.log_length.Statement.{statement}
 use Rattle.ticks.proofs.log_length.Tie as tie

@@ -1,3 +1,4 @@
+-- `ticks::log_place` meets its contract: the place lies within the state. Assumes nothing.
 use borrow.Author.Needs.{needs}
 use Rattle.ticks.proofs.log_place.Statement.{statement}
 use Rattle.ticks.proofs.log_place.Tie as tie

@@ -1,10 +1,7 @@
+-- `ticks::log_takes` meets its contract: the log with the entry comes home. Assumes nothing.
 use borrow.Author.Needs.{needs}
 use Rattle.ticks.proofs.log_takes.Statement.{statement}
 use Rattle.ticks.proofs.log_takes.Tie as tie
-use Rattle.ticks.proofs.log_takes.Reads as reads
-use Rattle.ticks.proofs.log_takes.Lts as lts
-use Rattle.entries.proofs.append.Reads as append-reads
-use Rattle.places.proofs.places_of.Reads as places-of-reads
 use mathlib.Core.Path.{refl}
 use Rattle.ticks.proofs.Way.{log-open, log-taken}
 

@@ -1,10 +1,7 @@
+-- `ticks::note_leaves` meets its contract: the notes without the transaction's come home. Assumes nothing.
 use borrow.Author.Needs.{needs}
 use Rattle.ticks.proofs.note_leaves.Statement.{statement}
 use Rattle.ticks.proofs.note_leaves.Tie as tie
-use Rattle.ticks.proofs.note_leaves.Reads as reads
-use Rattle.ticks.proofs.note_leaves.Lts as lts
-use Rattle.places.proofs.places_of.Reads as places-of-reads
-use Rattle.ticks.proofs.forget.Reads as forget-reads
 use mathlib.Core.Path.{refl}
 use Rattle.ticks.proofs.Way.{notes-open, note-left}
 

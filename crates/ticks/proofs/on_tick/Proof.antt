@@ -1,3 +1,4 @@
+-- `ticks::on_tick` meets its contract: one law for each way through it. Assumes nothing.
 use borrow.Author.Needs.{needs}
 use Rattle.ticks.proofs.on_tick.Statement.{statement}
 use Rattle.ticks.proofs.on_tick.Tie as tie

@@ -1,11 +1,12 @@
+-- `ticks::release` meets its contract. The invariant: the first i entries due are released, their replies are written, and `sum` is the digest of the log. Assumes nothing.
 use borrow.Author.Needs.{needs}
 use Rattle.ticks.proofs.release.Statement.{statement}
 use Rattle.ticks.proofs.release.Tie as tie
-use Prim.Native.Nat.{_≤_, _+_, _-_}
-use mathlib.Core.Path.{_≡_, sym, ap, _∙_}
+use Prim.Native.Nat.{_≤_, _-_}
+use mathlib.Core.Path.{_≡_, sym, _∙_}
 use mathlib.Core.List.{_++_}
 use native.Mathlib.Omega.{arith}
-use lib.ListN.{length, take}
+use lib.ListN.{take}
 use Rattle.rules.specs.Digest.{digest}
 use Rattle.rules.specs.Image.{stateOf}
 use Rattle.rules.specs.Step.{dueBy}
@@ -13,10 +14,10 @@ use Rattle.ticks.specs.Midway.{Released}
 use Rattle.ticks.proofs.Turns.{turn-start, sum-start, turn-asks, turn-tells, turn-next, turn-end, none-end}
 
 abbrev Inv-loop : tie.InvT-loop
-Inv-loop  shape state₀ out₀ time n k sum₀ at₀ i₀ state out sum at i = (i ≤ k) × Released shape state₀ out₀ time i at state out × (sum ≡ digest (stateOf shape state₀ .log ++ take i (dueBy time (stateOf shape state₀ .early))))
+Inv-loop shape state₀ out₀ time n k sum₀ at₀ i₀ state out sum at i = (i ≤ k) × Released shape state₀ out₀ time i at state out × (sum ≡ digest (stateOf shape state₀ .log ++ take i (dueBy time (stateOf shape state₀ .early))))
 
 abbrev μ-loop : tie.MeasureT-loop
-μ-loop  shape state₀ out₀ time n k sum₀ at₀ i₀ state out sum at i = k - i
+μ-loop shape state₀ out₀ time n k sum₀ at₀ i₀ state out sum at i = k - i
 
 returns : tie.Need-returns Inv-loop μ-loop
 returns c = none-end (c .before .before .before .pre .0) _ _ _ (c .if1 .taken)

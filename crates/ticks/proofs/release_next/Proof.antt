@@ -1,3 +1,4 @@
+-- `ticks::release_next` meets its contract: the three writes make one release. Assumes nothing.
 use borrow.Author.Needs.{needs}
 use Rattle.ticks.proofs.release_next.Statement.{statement}
 use Rattle.ticks.proofs.release_next.Tie as tie

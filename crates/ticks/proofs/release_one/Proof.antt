@@ -1,3 +1,4 @@
+-- `ticks::release_one` meets its contract: the bytes lent are those of the entry that was appended. Assumes nothing.
 use borrow.Author.Needs.{needs}
 use Rattle.ticks.proofs.release_one.Statement.{statement}
 use Rattle.ticks.proofs.release_one.Tie as tie

@@ -1,7 +1,8 @@
+-- `ticks::replies_length` meets its contract: the product is small. Assumes nothing.
 use borrow.Author.Needs.{needs}
 use Rattle.ticks.proofs.replies_length.Statement.{statement}
 use Rattle.ticks.proofs.replies_length.Tie as tie
-use Prim.Native.Nat.{ℕ, _*_, _≤_}
+use Prim.Native.Nat.{ℕ, _*_}
 use mathlib.Core.Path.{_≡_, ap}
 use native.Mathlib.Omega.{arith}
 use Rattle.rules.specs.Read.{lengthFor}

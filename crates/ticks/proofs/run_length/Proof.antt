@@ -1,11 +1,7 @@
+-- `ticks::run_length` meets its contract: early and the notes are lent. Assumes nothing.
 use borrow.Author.Needs.{needs}
 use Rattle.ticks.proofs.run_length.Statement.{statement}
 use Rattle.ticks.proofs.run_length.Tie as tie
-use Rattle.ticks.proofs.run_length.Reads as reads
-use Rattle.ticks.proofs.run_length.Lts as lts
-use Rattle.places.proofs.places_of.Reads as places-of-reads
-use Rattle.ticks.proofs.run_of.Reads as run-of-reads
-use mathlib.Core.Path.{ap, _∙_}
 use Rattle.ticks.proofs.Way.{run-open, run-read}
 
 places-of-requires : tie.Need-places-of-requires

@@ -1,18 +1,11 @@
+-- `ticks::run_of` meets its contract. The invariant: i entries due are found, and each is agreed. Assumes nothing.
 use Rattle.ticks.proofs.run_of.Statement.{statement}
 use Rattle.ticks.proofs.run_of.Tie as tie
-use Rattle.ticks.proofs.run_of.Reads as reads
-use Rattle.ticks.proofs.run_of.Lts as lts
-use Rattle.due.proofs.due_at.Reads as due-at-reads
-use Rattle.entries.proofs.entry_of.Reads as entry-of-reads
-use Rattle.notes.proofs.agreed.Reads as agreed-reads
 use borrow.Author.Needs.{needs}
 use Prim.Native.Nat.{_≤_, _-_}
-use mathlib.Core.Path.{_≡_}
 use native.Mathlib.Omega.{arith}
-use lib.ListN.{length}
 use Rattle.rules.specs.State.{agreed}
 use Rattle.rules.specs.Image.{tableAt}
-use Rattle.rules.specs.Step.{dueBy}
 use Rattle.repeats.proofs.Laws.{first-start}
 use Rattle.notes.specs.Notes.{sized, notesAt}
 use Rattle.due.specs.Due.{Reached}

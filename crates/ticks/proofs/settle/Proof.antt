@@ -1,3 +1,4 @@
+-- `ticks::settle` meets its contract: the two fields are written. Assumes nothing.
 use borrow.Author.Needs.{needs}
 use Rattle.ticks.proofs.settle.Statement.{statement}
 use Rattle.ticks.proofs.settle.Tie as tie

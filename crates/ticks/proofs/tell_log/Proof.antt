@@ -1,8 +1,8 @@
+-- `ticks::tell_log` meets its contract: the bytes lent are those of the log's entries. Assumes nothing.
 use borrow.Author.Needs.{needs}
 use Rattle.ticks.proofs.tell_log.Statement.{statement}
 use Rattle.ticks.proofs.tell_log.Tie as tie
 use Prim.Native.Nat.{_+_, _*_}
-use mathlib.Core.Path.{_≡_, refl, _∙_}
 use native.Mathlib.Omega.{arith}
 use Rattle.handler.proofs.Sends.{sender, own-replica}
 use Rattle.ticks.proofs.Telling.{log-room, log-told}

@@ -1,3 +1,4 @@
+-- `ticks::tell_placed` meets its contract: the bytes lent are those of the entry. Assumes nothing.
 use borrow.Author.Needs.{needs}
 use Rattle.ticks.proofs.tell_placed.Statement.{statement}
 use Rattle.ticks.proofs.tell_placed.Tie as tie

@@ -1,3 +1,4 @@
+-- `ticks::tell_status` meets its contract: no entries are lent. Assumes nothing.
 use borrow.Author.Needs.{needs}
 use Rattle.ticks.proofs.tell_status.Statement.{statement}
 use Rattle.ticks.proofs.tell_status.Tie as tie

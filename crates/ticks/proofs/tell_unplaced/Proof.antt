@@ -1,3 +1,4 @@
+-- `ticks::tell_unplaced` meets its contract: the bytes lent are those of the first entry due. Assumes nothing.
 use borrow.Author.Needs.{needs}
 use Rattle.ticks.proofs.tell_unplaced.Statement.{statement}
 use Rattle.ticks.proofs.tell_unplaced.Tie as tie
