@@ -174,9 +174,9 @@ pub fn begin(
 {
     take_view(shape, state, view, message);
     begin_head(state, view, number as u64);
-    places::clear_heard(shape, state);
-    let log = places::places_of(shape).log;
-    places::put_table(shape, state, log, src, at, number);
+    let layout = places::places_of(shape);
+    octets::fill_zero(state, layout.heard, layout.log - layout.heard);
+    places::put_table(shape, state, layout.log, src, at, number);
     empty_tables(shape, state);
 }
 

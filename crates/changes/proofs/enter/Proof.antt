@@ -1,9 +1,9 @@
 -- `changes::enter` meets its contract. Assumes nothing.
+use Rattle.octets.proofs.Laws.{bytes-known}
+use Rattle.changes.proofs.Entered.{entered-follower, entered-own, entered-leader}
 use borrow.Author.Needs.{needs}
 use Rattle.changes.proofs.enter.Statement.{statement}
 use Rattle.changes.proofs.enter.Tie as tie
-use Rattle.octets.proofs.Laws.{bytes-known}
-use Rattle.changes.proofs.Entered.{entered-follower, entered-own, entered-leader}
 
 take-view-requires : tie.Need-take-view-requires
 take-view-requires c κs = search needs

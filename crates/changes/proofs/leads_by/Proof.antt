@@ -1,9 +1,9 @@
 -- `changes::leads_by` meets its contract. Assumes nothing.
+use Rattle.handler.proofs.Own.{own-below}
+use Rattle.changes.proofs.Entered.{leads-with}
 use borrow.Author.Needs.{needs}
 use Rattle.changes.proofs.leads_by.Statement.{statement}
 use Rattle.changes.proofs.leads_by.Tie as tie
-use Rattle.handler.proofs.Own.{own-below}
-use Rattle.changes.proofs.Entered.{leads-with}
 
 get-group-requires : tie.Need-get-group-requires
 get-group-requires c κs = search needs

@@ -1,10 +1,10 @@
 -- `changes::log_count` meets its contract. Assumes nothing.
-use borrow.Author.Needs.{needs}
-use Rattle.changes.proofs.log_count.Statement.{statement}
-use Rattle.changes.proofs.log_count.Tie as tie
 use mathlib.Core.Path.{_∙_, ap}
 use Prim.Native.Nat.{ℕ}
 use Rattle.octets.specs.Bytes.{num}
+use borrow.Author.Needs.{needs}
+use Rattle.changes.proofs.log_count.Statement.{statement}
+use Rattle.changes.proofs.log_count.Tie as tie
 
 places-of-requires : tie.Need-places-of-requires
 places-of-requires c κs = search needs

@@ -1,12 +1,12 @@
 -- `changes::on_start_view` meets its contract. Assumes nothing.
-use borrow.Author.Needs.{needs}
-use Rattle.changes.proofs.on_start_view.Statement.{statement}
-use Rattle.changes.proofs.on_start_view.Tie as tie
 use mathlib.Core.Path.{refl}
 use Rattle.rules.specs.Step.{onStartView}
 use Rattle.handler.proofs.Closes.{handled-other}
 use Rattle.handler.proofs.OtherKind.{not-tag}
 use Rattle.changes.proofs.StartWays.{start-views, start-counted, start-stands, start-past, start-done}
+use borrow.Author.Needs.{needs}
+use Rattle.changes.proofs.on_start_view.Statement.{statement}
+use Rattle.changes.proofs.on_start_view.Tie as tie
 
 enum-known-m : tie.Need-enum-known-m
 enum-known-m c = search needs

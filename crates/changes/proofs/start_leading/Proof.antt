@@ -1,11 +1,11 @@
 -- `changes::start_leading` meets its contract. Assumes nothing.
-use borrow.Author.Needs.{needs}
-use Rattle.changes.proofs.start_leading.Statement.{statement}
-use Rattle.changes.proofs.start_leading.Tie as tie
 use Prim.Native.Nat.{_^_, _<_}
 use native.Mathlib.Omega.{arith}
 use Rattle.octets.proofs.Laws.{bytes-known}
 use Rattle.changes.proofs.LeadWays.{lead-short, lead-tells, lead-sent}
+use borrow.Author.Needs.{needs}
+use Rattle.changes.proofs.start_leading.Statement.{statement}
+use Rattle.changes.proofs.start_leading.Tie as tie
 
 count-requires : tie.Need-count-requires
 count-requires c κs = search needs

@@ -1,8 +1,8 @@
 -- `changes::tell_start` meets its contract. Assumes nothing.
+use Rattle.changes.proofs.Logged.{start-case}
 use borrow.Author.Needs.{needs}
 use Rattle.changes.proofs.tell_start.Statement.{statement}
 use Rattle.changes.proofs.tell_start.Tie as tie
-use Rattle.changes.proofs.Logged.{start-case}
 
 get8-requires : tie.Need-get8-requires
 get8-requires c κs = search needs

@@ -1,11 +1,11 @@
 -- `changes::tell_vote` meets its contract. Assumes nothing.
-use borrow.Author.Needs.{needs}
-use Rattle.changes.proofs.tell_vote.Statement.{statement}
-use Rattle.changes.proofs.tell_vote.Tie as tie
 use Prim.Native.Nat.{_%_, _<_}
 use native.Mathlib.Omega.{arith}
 use native.Mathlib.Nat.{mod-lt}
 use Rattle.changes.proofs.Logged.{vote-case}
+use borrow.Author.Needs.{needs}
+use Rattle.changes.proofs.tell_vote.Statement.{statement}
+use Rattle.changes.proofs.tell_vote.Tie as tie
 
 get8-requires : tie.Need-get8-requires
 get8-requires c κs = search needs
