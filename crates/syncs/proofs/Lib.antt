@@ -1,0 +1,2 @@
+-- What the functions of kind 4 make of the log that it brings and of the state.
+mod Lookup
