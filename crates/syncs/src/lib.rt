@@ -5,9 +5,9 @@ ghost use mathlib.Core.Path.{_≡_};
 ghost use mathlib.Core.Bool.{true, false, not};
 ghost use mathlib.Core.List.{_∷_, [], _++_};
 ghost use Prim.Native.Nat.{_+_, _*_, _<_, _≤_};
-ghost use lib.ListN.{length, set};
-ghost use Rattle.rules.specs.Choice.{pick, any, keep};
-ghost use Rattle.rules.specs.Entry.{entryOf};
+ghost use lib.ListN.{length};
+ghost use Rattle.rules.specs.Choice.{any, keep};
+ghost use Rattle.rules.specs.Entry.{noEntry};
 ghost use Rattle.rules.specs.Image.{tableAt};
 ghost use Rattle.repeats.specs.Rows.{countOf, keyOf};
 ghost use Rattle.repeats.specs.Table.{Filled};
@@ -15,6 +15,7 @@ ghost use Rattle.entries.specs.First.{isOf};
 ghost use Rattle.entries.specs.Table.{Holds, Table};
 ghost use Rattle.syncs.specs.Synced as synced;
 ghost use Rattle.syncs.specs.Synced.{spotsOf, logIn, Lookup};
+ghost use Rattle.syncs.specs.Moved.{moved, movedTo};
 
 // The log that the message brings: where its entries stand, how many there are, and whether the table beside it has a row for each.
 pub struct NewLog {
@@ -55,4 +56,97 @@ fn is_synced(
         return repeats::find(message, spots_of(log), table, key) < log.count;
     }
     entries::find(message, log.at, log.count, request, coordinator) < log.count
+}
+
+// Whether an entry is not synced and its timestamp is below a bound, or, where `below` is false, from it on. The bound is tested first: it costs less.
+fn chosen(
+    message: &[u8],
+    log: NewLog,
+    table: &[u16],
+    below: bool,
+    bound: u64,
+    e: Entry,
+) -> bool
+    requires { ⌜ Lookup (now message) log (now table) ⌝ }
+    ensures { λ r. ⌜ r ≡ synced.chosen (logIn (now (message .entry)) log) below bound e ⌝ }
+{
+    let placed = (below & (e.stamp < bound)) | (!below & (bound <= e.stamp));
+    if !placed {
+        return false;
+    }
+    !is_synced(message, log, table, e.request, e.coordinator)
+}
+
+// ---- one table
+
+// How many entries of a table are chosen.
+fn count_chosen(
+    t: &[u8],
+    c: usize,
+    message: &[u8],
+    log: NewLog,
+    table: &[u16],
+    below: bool,
+    bound: u64,
+) -> usize
+    requires { ⌜ Table c (now t) × Lookup (now message) log (now table) ⌝ }
+    ensures { λ r. ⌜ r ≡ length (keep (synced.chosen (logIn (now (message .entry)) log) below bound) (tableAt c (now (t .entry)) 0)) ⌝ }
+{
+    let n = entries::count(t);
+    let mut found = 0;
+    let mut i = 0;
+    while i < n {
+        let e = entries::entry_of(t, c, i);
+        if chosen(message, log, table, below, bound, e) {
+            found += 1;
+        }
+        i += 1;
+    }
+    found
+}
+
+// Moves entry i to place `kept` unless it is synced or below the bound, and tells how many are kept then.
+fn sift(
+    t: &mut [u8],
+    c: usize,
+    i: usize,
+    kept: usize,
+    message: &[u8],
+    log: NewLog,
+    table: &[u16],
+    bound: u64,
+) -> usize
+    requires { ⌜ Table c (now t) × (i < length (tableAt c (now t) 0)) × (kept ≤ i) × Lookup (now message) log (now table) ⌝ }
+    ensures { λ r. ⌜
+        Holds c (moved (synced.chosen (logIn (now (message .entry)) log) false bound) noEntry (tableAt c (now (t .entry)) 0) i kept) (now (t .exit))
+        × (r ≡ movedTo (synced.chosen (logIn (now (message .entry)) log) false bound) noEntry (tableAt c (now (t .entry)) 0) i kept) ⌝ }
+{
+    let e = entries::entry_of(t, c, i);
+    if !chosen(message, log, table, false, bound, e) {
+        return kept;
+    }
+    entries::replace_at(t, c, kept, e);
+    kept + 1
+}
+
+// Takes out of a table the entries that are synced or below the bound, in one pass.
+fn leave(
+    t: &mut [u8],
+    c: usize,
+    message: &[u8],
+    log: NewLog,
+    table: &[u16],
+    bound: u64,
+)
+    requires { ⌜ Table c (now t) × Lookup (now message) log (now table) ⌝ }
+    ensures { λ _. ⌜ Holds c (keep (synced.chosen (logIn (now (message .entry)) log) false bound) (tableAt c (now (t .entry)) 0)) (now (t .exit)) ⌝ }
+{
+    let n = entries::count(t);
+    let mut kept = 0;
+    let mut i = 0;
+    while i < n {
+        kept = sift(t, c, i, kept, message, log, table, bound);
+        i += 1;
+    }
+    entries::truncate(t, c, kept);
 }
