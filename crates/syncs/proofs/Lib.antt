@@ -2,3 +2,4 @@
 mod Lookup
 mod Sifting
 mod Entries
+mod Buffers

@@ -6,8 +6,8 @@ ghost use mathlib.Core.Bool.{true, false, not};
 ghost use mathlib.Core.List.{_∷_, [], _++_};
 ghost use Prim.Native.Nat.{_+_, _*_, _<_, _≤_};
 ghost use lib.ListN.{length};
-ghost use Rattle.rules.specs.Choice.{any, keep};
-ghost use Rattle.rules.specs.Entry.{noEntry};
+ghost use Rattle.rules.specs.Choice.{pick, any, keep};
+ghost use Rattle.rules.specs.Entry.{noEntry, entryOf};
 ghost use Rattle.rules.specs.Image.{tableAt};
 ghost use Rattle.repeats.specs.Rows.{countOf, keyOf};
 ghost use Rattle.repeats.specs.Table.{Filled};
@@ -15,6 +15,7 @@ ghost use Rattle.entries.specs.First.{isOf};
 ghost use Rattle.entries.specs.Table.{Holds, Table};
 ghost use Rattle.syncs.specs.Synced as synced;
 ghost use Rattle.syncs.specs.Synced.{spotsOf, logIn, Lookup};
+ghost use Rattle.syncs.specs.Buffers.{BothHold, earlyIn, lateIn, Both};
 ghost use Rattle.syncs.specs.Moved.{moved, movedTo};
 
 // The log that the message brings: where its entries stand, how many there are, and whether the table beside it has a row for each.
@@ -149,4 +150,87 @@ fn leave(
         i += 1;
     }
     entries::truncate(t, c, kept);
+}
+
+// ---- early and late, one after the other in a slice
+
+// How long late becomes: what is not synced of late, and of early what is below the new log's last.
+fn late_after(
+    t: &[u8],
+    c: usize,
+    message: &[u8],
+    log: NewLog,
+    table: &[u16],
+    last: u64,
+) -> usize
+    requires { ⌜ Both c (now t) × Lookup (now message) log (now table) ⌝ }
+    ensures { λ r. ⌜ r ≡ length (keep (synced.chosen (logIn (now (message .entry)) log) false 0) (lateIn c (now (t .entry)))) + length (keep (synced.chosen (logIn (now (message .entry)) log) true last) (earlyIn c (now (t .entry)))) ⌝ }
+{
+    let half = 4 + 24 * c;
+    let end = half + half;
+    let stay = count_chosen(&t[half..end], c, message, log, table, false, 0);
+    stay + count_chosen(&t[0..half], c, message, log, table, true, last)
+}
+
+// Puts early entry i after the last of late where it is not synced and below the new log's last.
+fn fall(
+    t: &mut [u8],
+    c: usize,
+    i: usize,
+    message: &[u8],
+    log: NewLog,
+    table: &[u16],
+    last: u64,
+)
+    requires { ⌜ Both c (now t) × (i < length (earlyIn c (now t))) × (synced.chosen (logIn (now message) log) true last (entryOf (earlyIn c (now t)) i) ≡ true → length (lateIn c (now t)) < c) × Lookup (now message) log (now table) ⌝ }
+    ensures { λ _. ⌜ BothHold c (earlyIn c (now (t .entry))) (lateIn c (now (t .entry)) ++ pick (synced.chosen (logIn (now (message .entry)) log) true last (entryOf (earlyIn c (now (t .entry))) i)) (entryOf (earlyIn c (now (t .entry))) i ∷ []) []) (now (t .exit)) ⌝ }
+{
+    let half = 4 + 24 * c;
+    let e = entries::entry_of(&t[0..half], c, i);
+    if !chosen(message, log, table, true, last, e) {
+        return;
+    }
+    let end = half + half;
+    entries::append(&mut t[half..end], c, e);
+}
+
+// Puts the early entries that are not synced and below the new log's last after the last of late, in their order.
+fn fall_late(
+    t: &mut [u8],
+    c: usize,
+    message: &[u8],
+    log: NewLog,
+    table: &[u16],
+    last: u64,
+)
+    requires { ⌜ Both c (now t) × (length (lateIn c (now t)) + length (keep (synced.chosen (logIn (now message) log) true last) (earlyIn c (now t))) ≤ c) × Lookup (now message) log (now table) ⌝ }
+    ensures { λ _. ⌜ BothHold c (earlyIn c (now (t .entry))) (lateIn c (now (t .entry)) ++ keep (synced.chosen (logIn (now (message .entry)) log) true last) (earlyIn c (now (t .entry)))) (now (t .exit)) ⌝ }
+{
+    let n = entries::count(t);
+    let mut i = 0;
+    while i < n {
+        fall(t, c, i, message, log, table, last);
+        i += 1;
+    }
+}
+
+// Synced entries leave early and late, and what is left of early below the new log's last goes to late.
+fn sync_buffers(
+    t: &mut [u8],
+    c: usize,
+    message: &[u8],
+    log: NewLog,
+    table: &[u16],
+    last: u64,
+)
+    requires { ⌜ Both c (now t) × (length (keep (synced.chosen (logIn (now message) log) false 0) (lateIn c (now t))) + length (keep (synced.chosen (logIn (now message) log) true last) (earlyIn c (now t))) ≤ c) × Lookup (now message) log (now table) ⌝ }
+    ensures { λ _. ⌜
+        BothHold c (keep (synced.chosen (logIn (now (message .entry)) log) false last) (earlyIn c (now (t .entry))))
+        (keep (synced.chosen (logIn (now (message .entry)) log) false 0) (lateIn c (now (t .entry))) ++ keep (synced.chosen (logIn (now (message .entry)) log) true last) (earlyIn c (now (t .entry)))) (now (t .exit)) ⌝ }
+{
+    let half = 4 + 24 * c;
+    let end = half + half;
+    leave(&mut t[half..end], c, message, log, table, 0);
+    fall_late(t, c, message, log, table, last);
+    leave(&mut t[0..half], c, message, log, table, last);
 }
