@@ -159,3 +159,26 @@ counted p q h x y u v = ap₂ _+_ (u ∙ ap (λ (es : List Entry). length (keep 
 pub counted-fits : (p q : Entry → Bool) {c : ℕ} {t : List ℕ} → Both c t → (x y : ℕ) → x ≡ length (keep p (tableAt c (lastPart c t) 0)) → y ≡ length (keep q (tableAt c (firstPart c t) 0)) → x + y ≤ 8192
 counted-fits p q {c} {t} h x y u v =
     omega (arith, counted p q h x y u v, length-keep p (lateIn c t), length-keep q (earlyIn c t), h .late .room, h .early .room, h .early .small)
+
+-- ---- late is left, early falls to it, and early is left
+
+-- the slice as the second half comes home
+abbrev homeLast : ℕ → List ℕ → List ℕ → List ℕ
+homeLast c t x = take (4 + 24 * c) t ++ (x ++ drop (4 + 24 * c + (4 + 24 * c) - (4 + 24 * c)) (drop (4 + 24 * c) t))
+
+module _ (q p : Entry → Bool) {c : ℕ} {t : List ℕ} (h : Both c t) (x : List ℕ) (k : Holds c (keep q (tableAt c (lastPart c t) 0)) x) where
+  stayed : BothHold c (earlyIn c t) (keep q (lateIn c t)) (homeLast c t x)
+  stayed = late-back h (keep q (lateIn c t)) x (rw (last-is h) at k)
+
+  pub then-fall : length (keep q (lateIn c t)) + length (keep p (earlyIn c t)) ≤ c → Both c (homeLast c t x) × (length (lateIn c (homeLast c t x)) + length (keep p (earlyIn c (homeLast c t x))) ≤ c)
+  then-fall l = (is-both stayed, rw (early-is stayed, late-is stayed) l)
+
+  module _ (u : List ℕ) (f : BothHold c (earlyIn c (homeLast c t x)) (lateIn c (homeLast c t x) ++ keep p (earlyIn c (homeLast c t x))) u) where
+    fell : BothHold c (earlyIn c t) (keep q (lateIn c t) ++ keep p (earlyIn c t)) u
+    fell = rw (early-is stayed, late-is stayed) at f
+
+    pub then-leave : Table c (firstPart c u)
+    then-leave = is-table c _ _ (early-part fell)
+
+    pub settled : (r : Entry → Bool) (y : List ℕ) → Holds c (keep r (tableAt c (firstPart c u) 0)) y → BothHold c (keep r (earlyIn c t)) (keep q (lateIn c t) ++ keep p (earlyIn c t)) (y ++ drop (4 + 24 * c - 0) u)
+    settled r y g = early-back fell (keep r (earlyIn c t)) y (subst (λ (es : List Entry). Holds c (keep r es) y) (decoded c _ _ (early-part fell)) g)

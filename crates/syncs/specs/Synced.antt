@@ -6,7 +6,9 @@ use mathlib.Core.List.{List}
 use lib.ListN.{length}
 use lib.Dec.{ltb, leb}
 use Rattle.octets.specs.Bytes.{items}
+use Rattle.rules.specs.Choice.{any}
 use Rattle.rules.specs.Entry.{among}
+use Rattle.rules.specs.State.{Note, noteOf}
 use Rattle.rules.specs.Read.{entryAt}
 use Rattle.rules.specs.declared.Entry.{Entry}
 use Rattle.repeats.specs.Rows.{countOf, keyOf}
@@ -31,3 +33,7 @@ pub record Lookup (msg : List ℕ) (log : NewLog) (table : List ℕ) : Type 0 wh
 -- not synced, and below a bound; or, where `below` is false, from it on
 unfoldable pub chosen : List Entry → Bool → ℕ → Entry → Bool
 chosen log below bound e = ((below && ltb (e .stamp) bound) || (not below && leb bound (e .stamp))) && not (among log e)
+
+-- a note whose transaction is not synced
+abbrev pub stays : List Entry → Note → Bool
+stays log x = not (any (λ e. noteOf e x) log)

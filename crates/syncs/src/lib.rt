@@ -5,16 +5,19 @@ ghost use mathlib.Core.Path.{_≡_};
 ghost use mathlib.Core.Bool.{true, false, not};
 ghost use mathlib.Core.List.{_∷_, [], _++_};
 ghost use Prim.Native.Nat.{_+_, _*_, _<_, _≤_};
-ghost use lib.ListN.{length};
+ghost use lib.ListN.{length, take, set};
 ghost use Rattle.rules.specs.Choice.{pick, any, keep};
 ghost use Rattle.rules.specs.Entry.{noEntry, entryOf};
-ghost use Rattle.rules.specs.Image.{tableAt};
+ghost use Rattle.rules.specs.State.{noteOf};
+ghost use Rattle.rules.specs.Step.{notesWithout};
+ghost use Rattle.rules.specs.Image.{noteLength, tableAt};
 ghost use Rattle.repeats.specs.Rows.{countOf, keyOf};
 ghost use Rattle.repeats.specs.Table.{Filled};
 ghost use Rattle.entries.specs.First.{isOf};
 ghost use Rattle.entries.specs.Table.{Holds, Table};
+ghost use Rattle.notes.specs.Notes.{notesAt, noNote, noteIn, NotesHold, Notes};
 ghost use Rattle.syncs.specs.Synced as synced;
-ghost use Rattle.syncs.specs.Synced.{spotsOf, logIn, Lookup};
+ghost use Rattle.syncs.specs.Synced.{spotsOf, logIn, Lookup, stays};
 ghost use Rattle.syncs.specs.Buffers.{BothHold, earlyIn, lateIn, Both};
 ghost use Rattle.syncs.specs.Moved.{moved, movedTo};
 
@@ -233,4 +236,97 @@ fn sync_buffers(
     leave(&mut t[half..end], c, message, log, table, 0);
     fall_late(t, c, message, log, table, last);
     leave(&mut t[0..half], c, message, log, table, last);
+}
+
+// ---- the notes
+
+// Where note i stands.
+fn note_place(s: usize, i: usize) -> usize
+    requires { ⌜ (s ≤ 8) × (i ≤ 4096) ⌝ }
+    ensures { λ r. ⌜ (r ≡ 4 + noteLength s * i) × (r ≤ 319492) ⌝ }
+{
+    4 + (6 + 9 * s) * i
+}
+
+// Whether the transaction of note i is in the log.
+fn note_synced(
+    t: &[u8],
+    c: usize,
+    s: usize,
+    i: usize,
+    message: &[u8],
+    log: NewLog,
+    table: &[u16],
+) -> bool
+    requires { ⌜ Notes c s (now t) × (i < length (notesAt c s (now t))) × Lookup (now message) log (now table) ⌝ }
+    ensures { λ r. ⌜ r ≡ any (λ e. noteOf e (noteIn (notesAt c s (now (t .entry))) i)) (logIn (now (message .entry)) log) ⌝ }
+{
+    let at = note_place(s, i);
+    is_synced(message, log, table, octets::get32(t, at), octets::get16(t, at + 4))
+}
+
+// Puts note i in the place of an earlier one.
+fn move_note(t: &mut [u8], c: usize, s: usize, kept: usize, i: usize)
+    requires { ⌜ Notes c s (now t) × (i < length (notesAt c s (now t))) × (kept ≤ i) ⌝ }
+    ensures { λ _. ⌜ NotesHold c s (set (notesAt c s (now (t .entry))) kept (noteIn (notesAt c s (now (t .entry))) i)) (now (t .exit)) ⌝ }
+{
+    let to = note_place(s, kept);
+    let from = note_place(s, i);
+    octets::move_down(t, to, from, 6 + 9 * s);
+}
+
+// Takes out the notes from place n on.
+fn truncate_notes(t: &mut [u8], c: usize, s: usize, n: usize)
+    requires { ⌜ Notes c s (now t) × (n ≤ length (notesAt c s (now t))) ⌝ }
+    ensures { λ _. ⌜ NotesHold c s (take n (notesAt c s (now (t .entry)))) (now (t .exit)) ⌝ }
+{
+    let m = notes::count(t);
+    let from = note_place(s, n);
+    octets::fill_zero(t, from, note_place(s, m) - from);
+    octets::put32(t, 0, n as u32);
+}
+
+// Moves note i to place `kept` unless its transaction is synced, and tells how many are kept then.
+fn sift_note(
+    t: &mut [u8],
+    c: usize,
+    s: usize,
+    i: usize,
+    kept: usize,
+    message: &[u8],
+    log: NewLog,
+    table: &[u16],
+) -> usize
+    requires { ⌜ Notes c s (now t) × (i < length (notesAt c s (now t))) × (kept ≤ i) × Lookup (now message) log (now table) ⌝ }
+    ensures { λ r. ⌜
+        NotesHold c s (moved (stays (logIn (now (message .entry)) log)) noNote (notesAt c s (now (t .entry))) i kept) (now (t .exit))
+        × (r ≡ movedTo (stays (logIn (now (message .entry)) log)) noNote (notesAt c s (now (t .entry))) i kept) ⌝ }
+{
+    if note_synced(t, c, s, i, message, log, table) {
+        return kept;
+    }
+    move_note(t, c, s, kept, i);
+    kept + 1
+}
+
+// Takes out the notes of synced transactions, in one pass.
+fn leave_notes(
+    t: &mut [u8],
+    c: usize,
+    s: usize,
+    message: &[u8],
+    log: NewLog,
+    table: &[u16],
+)
+    requires { ⌜ Notes c s (now t) × Lookup (now message) log (now table) ⌝ }
+    ensures { λ _. ⌜ NotesHold c s (notesWithout (logIn (now (message .entry)) log) (notesAt c s (now (t .entry)))) (now (t .exit)) ⌝ }
+{
+    let n = notes::count(t);
+    let mut kept = 0;
+    let mut i = 0;
+    while i < n {
+        kept = sift_note(t, c, s, i, kept, message, log, table);
+        i += 1;
+    }
+    truncate_notes(t, c, s, kept);
 }
