@@ -3,3 +3,4 @@ mod Lookup
 mod Sifting
 mod Entries
 mod Buffers
+mod Noted

@@ -1,36 +1,27 @@
+-- `syncs::note_synced` meets its contract. Assumes nothing.
+use native.Mathlib.Omega.{arith}
+use Rattle.syncs.proofs.Noted.{note-within, note-looked}
 use borrow.Author.Needs.{needs}
 use Rattle.syncs.proofs.note_synced.Statement.{statement}
 use Rattle.syncs.proofs.note_synced.Tie as tie
-use Rattle.syncs.proofs.note_synced.Reads as reads
-use Rattle.syncs.proofs.note_synced.Lts as lts
-use Rattle.octets.proofs.get16.Reads as get16-reads
-use Rattle.octets.proofs.get32.Reads as get32-reads
-use Rattle.syncs.proofs.is_synced.Reads as is-synced-reads
-use Rattle.syncs.proofs.note_place.Reads as note-place-reads
 
--- src/lib.rt:264:9
 note-place-requires : tie.Need-note-place-requires
 note-place-requires c κs = search needs
 
--- src/lib.rt:265:36
 get32-requires : tie.Need-get32-requires
-get32-requires c κs = ?
+get32-requires c κs = omega (arith, note-within (c .before .before .before .before .pre .0) _ (c .before .before .before .before .pre .1))
 
--- src/lib.rt:265:75
 add-get16 : tie.Need-add-get16
 add-get16 c = search needs
 
--- src/lib.rt:265:58
 get16-requires : tie.Need-get16-requires
-get16-requires c κs = ?
+get16-requires c κs = omega (arith, note-within (c .before .before .before .before .before .pre .0) _ (c .before .before .before .before .before .pre .1))
 
--- src/lib.rt:265:5
 is-synced-requires : tie.Need-is-synced-requires
-is-synced-requires c κs = search needs
+is-synced-requires c κs = c .before .before .before .before .before .before .pre .2
 
--- src/lib.rt:252:1
 returns : tie.Need-returns
-returns c = ?
+returns c = note-looked (c .before .before .before .before .before .before .before .pre .0) _ _ _ _ _ _ (c .before .before .before .before .before .before .before .pre .1) (c .before .before .before .note-place .ensures .0) (c .before .before .get32 .ensures) (c .before .get16 .ensures) (c .is-synced .ensures)
 
 pub note-synced-spec : {M : Type 1} → statement M
 note-synced-spec =
