@@ -1,9 +1,9 @@
 // The messages of document 01: read from bytes, and written to bytes.
 mod decode;
 mod fields;
-mod kinds;
+pub mod kinds;
 mod log;
-mod put;
+pub mod put;
 
 ghost use mathlib.Core.Path.{_≡_};
 ghost use Prim.Native.Nat.{ℕ, _+_, _*_, _^_, _≤_, _<_};
