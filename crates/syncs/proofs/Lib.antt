@@ -4,3 +4,5 @@ mod Sifting
 mod Entries
 mod Buffers
 mod Noted
+mod Rule
+mod Home

@@ -1,24 +1,27 @@
 // Kind 4, replica sync: the leader's log is taken over, and the entries that it synced leave early, late and the notes.
 use repeats::Spots;
 use rules::Entry;
+use rules::Shape;
 ghost use mathlib.Core.Path.{_≡_};
 ghost use mathlib.Core.Bool.{true, false, not};
 ghost use mathlib.Core.List.{_∷_, [], _++_};
 ghost use Prim.Native.Nat.{_+_, _*_, _<_, _≤_};
 ghost use lib.ListN.{length, take, set};
 ghost use Rattle.rules.specs.Choice.{pick, any, keep};
-ghost use Rattle.rules.specs.Entry.{noEntry, entryOf};
+ghost use Rattle.rules.specs.Entry.{noEntry, entryOf, lastStamp};
 ghost use Rattle.rules.specs.State.{noteOf};
 ghost use Rattle.rules.specs.Step.{notesWithout};
-ghost use Rattle.rules.specs.Image.{noteLength, tableAt};
+ghost use Rattle.rules.specs.Image.{noteLength, tableAt, image, stateOf};
 ghost use Rattle.repeats.specs.Rows.{countOf, keyOf};
 ghost use Rattle.repeats.specs.Table.{Filled};
 ghost use Rattle.entries.specs.First.{isOf};
 ghost use Rattle.entries.specs.Table.{Holds, Table};
 ghost use Rattle.notes.specs.Notes.{notesAt, noNote, noteIn, NotesHold, Notes};
+ghost use Rattle.places.specs.Layout.{Stands};
 ghost use Rattle.syncs.specs.Synced as synced;
 ghost use Rattle.syncs.specs.Synced.{spotsOf, logIn, Lookup, stays};
 ghost use Rattle.syncs.specs.Buffers.{BothHold, earlyIn, lateIn, Both};
+ghost use Rattle.syncs.specs.Takes.{lateBy, syncedBy};
 ghost use Rattle.syncs.specs.Moved.{moved, movedTo};
 
 // The log that the message brings: where its entries stand, how many there are, and whether the table beside it has a row for each.
@@ -329,4 +332,47 @@ fn leave_notes(
         i += 1;
     }
     truncate_notes(t, c, s, kept);
+}
+
+// ---- the state
+
+// How long the late buffer becomes, before anything is written.
+fn late_length(
+    shape: Shape,
+    state: &[u8],
+    message: &[u8],
+    log: NewLog,
+    table: &[u16],
+    last: u64,
+) -> usize
+    requires { ⌜ Stands shape (stateOf shape (now state)) (now state) × Lookup (now message) log (now table) × (last ≡ lastStamp (logIn (now message) log)) ⌝ }
+    ensures { λ r. ⌜ r ≡ length (lateBy (stateOf shape (now (state .entry))) (logIn (now (message .entry)) log)) ⌝ }
+{
+    let places = places::places_of(shape);
+    let early = places.early;
+    let notes = places.notes;
+    late_after(&state[early..notes], shape.c as usize, message, log, table, last)
+}
+
+// Takes the log over: synced entries leave early, late and the notes, and the sync point becomes the log's length.
+fn sync_state(
+    shape: Shape,
+    state: &mut [u8],
+    message: &[u8],
+    log: NewLog,
+    table: &[u16],
+    last: u64,
+)
+    requires { ⌜ Stands shape (stateOf shape (now state)) (now state) × Lookup (now message) log (now table) × (last ≡ lastStamp (logIn (now message) log)) × (log .count ≤ shape .c) × (length (lateBy (stateOf shape (now state)) (logIn (now message) log)) ≤ shape .c) ⌝ }
+    ensures { λ _. ⌜ now (state .exit) ≡ image shape (syncedBy (stateOf shape (now (state .entry))) (logIn (now (message .entry)) log)) ⌝ }
+{
+    let places = places::places_of(shape);
+    let early = places.early;
+    let notes = places.notes;
+    let votes = places.votes;
+    let c = shape.c as usize;
+    sync_buffers(&mut state[early..notes], c, message, log, table, last);
+    leave_notes(&mut state[notes..votes], c, shape.s as usize, message, log, table);
+    places::put_table(shape, state, places.log, message, log.at, log.count);
+    places::put_sync(state, log.count as u64);
 }
