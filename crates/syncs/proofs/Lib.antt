@@ -6,3 +6,4 @@ mod Buffers
 mod Noted
 mod Rule
 mod Home
+mod Slow

@@ -1,16 +1,20 @@
 // Kind 4, replica sync: the leader's log is taken over, and the entries that it synced leave early, late and the notes.
 use repeats::Spots;
 use rules::Entry;
+use rules::Message;
 use rules::Shape;
 ghost use mathlib.Core.Path.{_≡_};
 ghost use mathlib.Core.Bool.{true, false, not};
 ghost use mathlib.Core.List.{_∷_, [], _++_};
-ghost use Prim.Native.Nat.{_+_, _*_, _<_, _≤_};
+ghost use Prim.Native.Nat.{_+_, _-_, _*_, _<_, _≤_};
 ghost use lib.ListN.{length, take, set};
+ghost use Rattle.octets.specs.Bytes.{splice, flat};
 ghost use Rattle.rules.specs.Choice.{pick, any, keep};
 ghost use Rattle.rules.specs.Entry.{noEntry, entryOf, lastStamp};
+ghost use Rattle.rules.specs.Wire.{wireBytes};
+ghost use Rattle.rules.specs.Read.{lengthFor};
 ghost use Rattle.rules.specs.State.{noteOf};
-ghost use Rattle.rules.specs.Step.{notesWithout};
+ghost use Rattle.rules.specs.Step.{notesWithout, slowReply};
 ghost use Rattle.rules.specs.Image.{noteLength, tableAt, image, stateOf};
 ghost use Rattle.repeats.specs.Rows.{countOf, keyOf};
 ghost use Rattle.repeats.specs.Table.{Filled};
@@ -21,7 +25,7 @@ ghost use Rattle.places.specs.Layout.{Stands};
 ghost use Rattle.syncs.specs.Synced as synced;
 ghost use Rattle.syncs.specs.Synced.{spotsOf, logIn, Lookup, stays};
 ghost use Rattle.syncs.specs.Buffers.{BothHold, earlyIn, lateIn, Both};
-ghost use Rattle.syncs.specs.Takes.{lateBy, syncedBy};
+ghost use Rattle.syncs.specs.Takes.{lateBy, syncedBy, slowReplies, Coming};
 ghost use Rattle.syncs.specs.Moved.{moved, movedTo};
 
 // The log that the message brings: where its entries stand, how many there are, and whether the table beside it has a row for each.
@@ -375,4 +379,57 @@ fn sync_state(
     leave_notes(&mut state[notes..votes], c, shape.s as usize, message, log, table);
     places::put_table(shape, state, places.log, message, log.at, log.count);
     places::put_sync(state, log.count as u64);
+}
+
+// ---- what is told
+
+// Writes kind 6 for position i of the log at `at`: the entry as it stands in the message. Says where it ends.
+fn tell_slow(
+    shape: Shape,
+    state: &[u8],
+    out: &mut [u8],
+    at: usize,
+    message: &[u8],
+    log: NewLog,
+    i: usize,
+) -> usize
+    requires { ⌜ Coming shape (now state) (now message) log × (i < log .count) × (at + lengthFor (shape .s) 6 1 ≤ length (now out)) ⌝ }
+    ensures { λ r. ⌜ (r ≡ at + lengthFor (shape .s) 6 1) × (now (out .exit) ≡ splice (now (out .entry)) at (wireBytes (slowReply (stateOf shape (now (state .entry))) (logIn (now (message .entry)) log) i))) ⌝ }
+{
+    let from = log.at + 24 * i;
+    let end = from + 24;
+    let header = handler::headed(state, 6, 255, 1);
+    let reply = Message::SlowReply(header, (i + 1) as u64);
+    handler::tell(shape, state, out, at, reply, &message[from..end])
+}
+
+// How long the outgoing messages are: one for each position past the sync point.
+fn slow_length(shape: Shape, state: &[u8], message: &[u8], log: NewLog) -> usize
+    requires { ⌜ Coming shape (now state) (now message) log ⌝ }
+    ensures { λ r. ⌜ r ≡ lengthFor (shape .s) 6 1 * (log .count - stateOf shape (now (state .entry)) .sync) ⌝ }
+{
+    let sync = places::get_sync(state) as usize;
+    wire::kinds::length_for(shape.s, 6, 1) * (log.count - sync)
+}
+
+// Writes kind 6 for each position past the sync point, and says where the last ends.
+fn tell_synced(
+    shape: Shape,
+    state: &[u8],
+    out: &mut [u8],
+    message: &[u8],
+    log: NewLog,
+) -> usize
+    requires { ⌜ Coming shape (now state) (now message) log × (lengthFor (shape .s) 6 1 * (log .count - stateOf shape (now state) .sync) ≤ length (now out)) ⌝ }
+    ensures { λ r. ⌜ (r ≡ length (flat wireBytes (slowReplies (stateOf shape (now (state .entry))) (logIn (now (message .entry)) log)))) × (now (out .exit) ≡ splice (now (out .entry)) 0 (flat wireBytes (slowReplies (stateOf shape (now (state .entry))) (logIn (now (message .entry)) log)))) ⌝ }
+{
+    let sync = places::get_sync(state) as usize;
+    let n = log.count - sync;
+    let mut at = 0;
+    let mut j = 0;
+    while j < n {
+        at = tell_slow(shape, state, out, at, message, log, sync + j);
+        j += 1;
+    }
+    at
 }
