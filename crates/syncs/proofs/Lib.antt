@@ -7,3 +7,4 @@ mod Noted
 mod Rule
 mod Home
 mod Slow
+mod Ways

@@ -1,5 +1,6 @@
 // Kind 4, replica sync: the leader's log is taken over, and the entries that it synced leave early, late and the notes.
 use repeats::Spots;
+use rules::Answer;
 use rules::Entry;
 use rules::Message;
 use rules::Shape;
@@ -14,7 +15,8 @@ ghost use Rattle.rules.specs.Entry.{noEntry, entryOf, lastStamp};
 ghost use Rattle.rules.specs.Wire.{wireBytes};
 ghost use Rattle.rules.specs.Read.{lengthFor};
 ghost use Rattle.rules.specs.State.{noteOf};
-ghost use Rattle.rules.specs.Step.{notesWithout, slowReply};
+ghost use Rattle.rules.specs.Step.{notesWithout, slowReply, onReplicaSync};
+ghost use Rattle.rules.specs.Bytes.{left, closes};
 ghost use Rattle.rules.specs.Image.{noteLength, tableAt, image, stateOf};
 ghost use Rattle.repeats.specs.Rows.{countOf, keyOf};
 ghost use Rattle.repeats.specs.Table.{Filled};
@@ -22,10 +24,11 @@ ghost use Rattle.entries.specs.First.{isOf};
 ghost use Rattle.entries.specs.Table.{Holds, Table};
 ghost use Rattle.notes.specs.Notes.{notesAt, noNote, noteIn, NotesHold, Notes};
 ghost use Rattle.places.specs.Layout.{Stands};
+ghost use Rattle.handler.specs.Handler.{Ready, handled};
 ghost use Rattle.syncs.specs.Synced as synced;
 ghost use Rattle.syncs.specs.Synced.{spotsOf, logIn, Lookup, stays};
 ghost use Rattle.syncs.specs.Buffers.{BothHold, earlyIn, lateIn, Both};
-ghost use Rattle.syncs.specs.Takes.{lateBy, syncedBy, slowReplies, Coming};
+ghost use Rattle.syncs.specs.Takes.{lateBy, syncedBy, slowReplies, takes, Coming};
 ghost use Rattle.syncs.specs.Moved.{moved, movedTo};
 
 // The log that the message brings: where its entries stand, how many there are, and whether the table beside it has a row for each.
@@ -432,4 +435,147 @@ fn tell_synced(
         j += 1;
     }
     at
+}
+
+// ---- the step
+
+// Takes the log over and tells it, unless late or the outgoing buffer has no room. All is tested before anything is written.
+fn sync_by(
+    shape: Shape,
+    state: &mut [u8],
+    message: &[u8],
+    out: &mut [u8],
+    log: NewLog,
+    table: &[u16],
+) -> Answer
+    requires { ⌜ Coming shape (now state) (now message) log × Lookup (now message) log (now table) ⌝ }
+    ensures { λ r. ⌜ left r (now (state .exit)) (now (out .exit)) ≡ closes shape (now (state .entry)) (now (out .entry)) (takes shape (stateOf shape (now (state .entry))) (logIn (now (message .entry)) log)) ⌝ }
+{
+    let last = octets::get64(message, log.at + 24 * (log.count - 1));
+    let late = late_length(shape, state, message, log, table, last);
+    if shape.c < late as u64 {
+        return Answer::Refused(8);
+    }
+    if out.len() < slow_length(shape, state, message, log) {
+        return Answer::Refused(9);
+    }
+    let sent = tell_synced(shape, state, out, message, log);
+    sync_state(shape, state, message, log, table, last);
+    Answer::Done(sent)
+}
+
+// The same with a table that is still empty: its rows are put in once for the whole step.
+fn sync_with(
+    shape: Shape,
+    state: &mut [u8],
+    message: &[u8],
+    out: &mut [u8],
+    log: NewLog,
+    table: &mut [u16],
+) -> Answer
+    requires { ⌜ Coming shape (now state) (now message) log ⌝ }
+    ensures { λ r. ⌜ left r (now (state .exit)) (now (out .exit)) ≡ closes shape (now (state .entry)) (now (out .entry)) (takes shape (stateOf shape (now (state .entry))) (logIn (now (message .entry)) log)) ⌝ }
+{
+    let filled = repeats::fill(message, spots_of(log), table);
+    let known = NewLog {
+        at: log.at,
+        count: log.count,
+        filled,
+    };
+    sync_by(shape, state, message, out, known, table)
+}
+
+// With a table for at most 256 rows.
+fn sync_few(
+    shape: Shape,
+    state: &mut [u8],
+    message: &[u8],
+    out: &mut [u8],
+    log: NewLog,
+) -> Answer
+    requires { ⌜ Coming shape (now state) (now message) log ⌝ }
+    ensures { λ r. ⌜ left r (now (state .exit)) (now (out .exit)) ≡ closes shape (now (state .entry)) (now (out .entry)) (takes shape (stateOf shape (now (state .entry))) (logIn (now (message .entry)) log)) ⌝ }
+{
+    let mut table = [65535u16; 576];
+    sync_with(shape, state, message, out, log, &mut table)
+}
+
+// With a table for at most 1,536 rows.
+fn sync_more(
+    shape: Shape,
+    state: &mut [u8],
+    message: &[u8],
+    out: &mut [u8],
+    log: NewLog,
+) -> Answer
+    requires { ⌜ Coming shape (now state) (now message) log ⌝ }
+    ensures { λ r. ⌜ left r (now (state .exit)) (now (out .exit)) ≡ closes shape (now (state .entry)) (now (out .entry)) (takes shape (stateOf shape (now (state .entry))) (logIn (now (message .entry)) log)) ⌝ }
+{
+    let mut table = [65535u16; 4160];
+    sync_with(shape, state, message, out, log, &mut table)
+}
+
+// With a table for the largest capacity.
+fn sync_many(
+    shape: Shape,
+    state: &mut [u8],
+    message: &[u8],
+    out: &mut [u8],
+    log: NewLog,
+) -> Answer
+    requires { ⌜ Coming shape (now state) (now message) log ⌝ }
+    ensures { λ r. ⌜ left r (now (state .exit)) (now (out .exit)) ≡ closes shape (now (state .entry)) (now (out .entry)) (takes shape (stateOf shape (now (state .entry))) (logIn (now (message .entry)) log)) ⌝ }
+{
+    let mut table = [65535u16; 10304];
+    sync_with(shape, state, message, out, log, &mut table)
+}
+
+// With a table by the log's length: a short one must not pay for a large table.
+fn sync_sized(
+    shape: Shape,
+    state: &mut [u8],
+    message: &[u8],
+    out: &mut [u8],
+    log: NewLog,
+) -> Answer
+    requires { ⌜ Coming shape (now state) (now message) log ⌝ }
+    ensures { λ r. ⌜ left r (now (state .exit)) (now (out .exit)) ≡ closes shape (now (state .entry)) (now (out .entry)) (takes shape (stateOf shape (now (state .entry))) (logIn (now (message .entry)) log)) ⌝ }
+{
+    if log.count <= 256 {
+        return sync_few(shape, state, message, out, log);
+    }
+    if log.count <= 1536 {
+        return sync_more(shape, state, message, out, log);
+    }
+    sync_many(shape, state, message, out, log)
+}
+
+// Kind 4: the leader's log is taken over where it is longer than the own sync point, and each position past that is told.
+pub fn on_replica_sync(
+    shape: Shape,
+    state: &mut [u8],
+    m: Message,
+    message: &[u8],
+    out: &mut [u8],
+) -> Answer
+    requires { ⌜ Ready shape (now state) m (now message) ⌝ }
+    ensures { λ r. ⌜ left r (now (state .exit)) (now (out .exit)) ≡ handled 4 onReplicaSync shape m (now (state .entry)) (now (message .entry)) (now (out .entry)) ⌝ }
+{
+    let Message::ReplicaSync(_) = m else {
+        return Answer::Refused(2);
+    };
+    let place = wire::kinds::entries_at(shape.s, 4);
+    let count = octets::get32(message, place) as usize;
+    if count as u64 <= places::get_sync(state) {
+        return Answer::Refused(7);
+    }
+    if shape.c < count as u64 {
+        return Answer::Refused(8);
+    }
+    let log = NewLog {
+        at: place + 4,
+        count,
+        filled: false,
+    };
+    sync_sized(shape, state, message, out, log)
 }
