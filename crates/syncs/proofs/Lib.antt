@@ -1,0 +1,10 @@
+-- What the functions of kind 4 make of the log that it brings and of the state.
+mod Lookup
+mod Sifting
+mod Entries
+mod Buffers
+mod Noted
+mod Rule
+mod Home
+mod Slow
+mod Ways

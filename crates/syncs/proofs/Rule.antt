@@ -1,0 +1,73 @@
+-- What is chosen, by the words of the rule. Assumes nothing.
+use Prim.Native.Nat.{ℕ, _+_, _≤_, _<_}
+use mathlib.Core.Path.{_≡_, refl, sym, ap, _∙_}
+use mathlib.Core.Bool.{Bool, true, false, _&&_, _||_, not}
+use mathlib.Core.List.{List, [], _∷_, _++_}
+use native.Mathlib.Omega.{arith}
+use lib.ListN.{length, length-append}
+use lib.Dec.{ltb, leb}
+use borrow.Author.Tests.{le-leb, leb-true, leb-false, lt-ltb, le-ltb}
+use Rattle.rules.specs.Choice.{pick, keep}
+use Rattle.rules.specs.Entry.{among, without, mayFollow, followsLast, lastStamp}
+use Rattle.rules.specs.State.{State}
+use Rattle.rules.specs.Step.{staysEarly, fallsLate}
+use Rattle.rules.specs.declared.Entry.{Entry}
+use Rattle.syncs.specs.Synced.{chosen}
+use Rattle.syncs.specs.Takes.{lateBy}
+
+module _ {A : Type 0} where
+  keep-like : (p q : A → Bool) → ((x : A) → p x ≡ q x) → (xs : List A) → keep p xs ≡ keep q xs
+  unfolding keep
+  keep-like p q h [] = refl
+  keep-like p q h (x ∷ xs) = rw (h x, keep-like p q h xs)
+
+  twice-step : (r : A → Bool) (x : A) (ys : List A) (b : Bool) → pick (r x && b) (x ∷ keep r ys) (keep r ys) ≡ keep r (pick b (x ∷ ys) ys)
+  unfolding keep pick
+  twice-step r x ys true = go (r x)
+    where
+      go : (a : Bool) → pick (a && true) (x ∷ keep r ys) (keep r ys) ≡ pick a (x ∷ keep r ys) (keep r ys)
+      go true = refl
+      go false = refl
+  twice-step r x ys false = go (r x)
+    where
+      go : (a : Bool) → pick (a && false) (x ∷ keep r ys) (keep r ys) ≡ keep r ys
+      go true = refl
+      go false = refl
+
+  -- by two tests one after the other
+  keep-twice : (p q r : A → Bool) → ((x : A) → p x ≡ (r x && q x)) → (xs : List A) → keep p xs ≡ keep r (keep q xs)
+  unfolding keep
+  keep-twice p q r h [] = refl
+  keep-twice p q r h (x ∷ xs) = rw (h x, keep-twice p q r h xs) (twice-step r x (keep q xs) (q x))
+
+above : (a b : ℕ) → ltb a b ≡ not (leb b a)
+above a b = go (leb b a) refl
+  where
+    go : (t : Bool) → leb b a ≡ t → ltb a b ≡ not t
+    go true e = le-ltb a b (leb-true b a e)
+    go false e = lt-ltb a b (omega (arith, leb-false b a e))
+
+or-none : (a : Bool) → (a || false) ≡ a
+or-none true = refl
+or-none false = refl
+
+module _ (log es : List Entry) where
+  pub without-is : keep (chosen log false 0) es ≡ without log es
+  unfolding chosen
+  without-is = keep-like (chosen log false 0) (λ e. not (among log e)) (λ e. rw (le-leb 0 (e .stamp) (omega arith))) es
+
+  pub stays-is : keep (chosen log false (lastStamp log)) es ≡ staysEarly log es
+  unfolding chosen mayFollow
+  stays-is = keep-twice (chosen log false (lastStamp log)) (λ e. not (among log e)) (followsLast log) (λ e. refl) es
+
+  pub falls-is : keep (chosen log true (lastStamp log)) es ≡ fallsLate log es
+  unfolding chosen mayFollow
+  falls-is = keep-twice (chosen log true (lastStamp log)) (λ e. not (among log e)) (λ e. not (followsLast log e)) (λ e. rw (or-none (ltb (e .stamp) (lastStamp log)), above (e .stamp) (lastStamp log))) es
+
+module _ (st : State) (log : List Entry) where
+  pub late-is : keep (chosen log false 0) (st .late) ++ keep (chosen log true (lastStamp log)) (st .early) ≡ lateBy st log
+  unfolding lateBy
+  late-is = rw (without-is log (st .late), falls-is log (st .early))
+
+  pub late-long : length (keep (chosen log false 0) (st .late)) + length (keep (chosen log true (lastStamp log)) (st .early)) ≡ length (lateBy st log)
+  late-long = sym (length-append (keep (chosen log false 0) (st .late)) (keep (chosen log true (lastStamp log)) (st .early))) ∙ ap length late-is
