@@ -1,0 +1,87 @@
+-- The ways through the handler of kind 1. Assumes nothing.
+use Prim.Native.Nat.{ℕ, _+_, _^_, _≤_, _<_}
+use mathlib.Core.Path.{_≡_, refl, sym, ap, ap₂, _∙_}
+use mathlib.Core.Bool.{Bool, true, false, _||_}
+use mathlib.Core.List.{List, []}
+use native.Mathlib.Omega.{arith}
+use lib.ListN.{getD}
+use lib.Dec.{leb}
+use borrow.Author.Tests.{leb-true}
+use Rattle.rules.specs.Choice.{pick}
+use Rattle.rules.specs.Entry.{latest, stamped, among, leaderStamp}
+use Rattle.rules.specs.Wire.{Wire, firstEntry, known, tagOf, numbersOf}
+use Rattle.rules.specs.Wire as wires
+use Rattle.rules.specs.Read.{wireIn}
+use Rattle.rules.specs.State.{State, leads}
+use Rattle.rules.specs.Image.{stateOf}
+use Rattle.rules.specs.Step.{Outcome, refused, due, knownTo, leaderTakes, followerTakes, onTransaction}
+use Rattle.rules.specs.Bytes.{leaves, closes}
+use Rattle.rules.specs.declared.Entry.{Entry}
+use Rattle.rules.specs.declared.Header.{Header}
+use Rattle.rules.specs.declared.Shape.{Shape}
+use Rattle.rules.specs.declared.Message.{Message}
+use Rattle.rules.specs.declared.Message.the-variants as cases
+use Rattle.rules.proofs.Choice.{and-right, or-left, or-right}
+use Rattle.rules.proofs.Tests.{split}
+use Rattle.handler.specs.Handler.{Ready, handled}
+use Rattle.handler.proofs.Told.{told-number, told-right, ready-told}
+use Rattle.handler.proofs.Closes.{closes-refused, handled-own}
+
+-- ---- the rule, by its tests
+
+module _ (sh : Shape) (st : State) (w : Wire) (x : Entry) (q : x ≡ firstEntry w) where
+  again : knownTo st x ≡ true → onTransaction sh st w ≡ refused 7
+  unfolding onTransaction pick
+  again h = rw (sym q, h)
+
+  at-leader : knownTo st x ≡ false → leads sh st ≡ true → onTransaction sh st w ≡ leaderTakes sh st (stamped (leaderStamp (st .log) (due w)) x)
+  unfolding onTransaction pick
+  at-leader h l = rw (sym q, h, l)
+
+  at-follower : knownTo st x ≡ false → leads sh st ≡ false → onTransaction sh st w ≡ followerTakes sh st (stamped (due w) x)
+  unfolding onTransaction pick
+  at-follower h l = rw (sym q, h, l)
+
+-- ---- the ways
+
+module _ (sh : Shape) (b msg out : List ℕ) (m : Message) (h : Header) (time bound : ℕ) (r : Ready sh b m msg) (e : m ≡ cases.Transaction h time bound) where
+  abbrev st : State
+  st = stateOf sh b
+
+  abbrev w : Wire
+  w = wireIn (sh .s) msg
+
+  kind-known : known (tagOf m) ≡ true
+  unfolding pick
+  kind-known = ap (λ (x : Message). known (tagOf x)) e
+
+  number-is : (i : ℕ) → wires.number w i ≡ getD (numbersOf (cases.Transaction h time bound)) i 0
+  number-is i = told-number (sh .n) (sh .s) m msg (ready-told sh b msg m r kind-known) i ∙ ap (λ (x : Message). getD (numbersOf x) i 0) e
+
+  due-is : due w ≡ time + bound
+  due-is = ap₂ _+_ (number-is 0) (number-is 1)
+
+  -- the message is well formed, so its due time is a timestamp
+  pub due-low : time + bound ≤ latest
+  unfolding pick
+  due-low =
+      let f = split _ (told-right (sh .n) (sh .s) m msg (ready-told sh b msg m r kind-known) 1 (ap tagOf e) .body 3) 0 in
+      omega (arith, due-is, leb-true (due w) latest (and-right (leb 1 (due w)) (leb (due w) latest) f))
+
+  by-rule : (o : Outcome) → onTransaction sh st w ≡ o → handled 1 onTransaction sh m b msg out ≡ closes sh b out o
+  by-rule o q = handled-own 1 onTransaction sh m b msg out (ap tagOf e) ∙ ap (closes sh b out) q
+
+  module _ (x : Entry) (q : x ≡ firstEntry w) (t : Bool) (a : t ≡ knownTo st x) where
+    pub known-way : t ≡ true → leaves 7 b out ≡ handled 1 onTransaction sh m b msg out
+    known-way z = sym (by-rule (refused 7) (again sh st w x q (sym a ∙ z)) ∙ closes-refused sh b out 7)
+
+    module _ (z : t ≡ false) (l : Bool) (v : l ≡ leads sh st) where
+      -- it is not among the early ones
+      pub not-early : (stamp : ℕ) (y : Entry) → y ≡ stamped stamp x → among (st .early) y ≡ false
+      not-early stamp y u = ap (among (st .early)) u ∙ or-left (among (st .early) x) (among (st .late) x) (or-right (among (st .log) x) _ (sym a ∙ z))
+
+      pub leader-way : l ≡ true → (stamp : ℕ) → stamp ≡ leaderStamp (st .log) (time + bound) → (y : Entry) → y ≡ stamped stamp x → closes sh b out (leaderTakes sh st y) ≡ handled 1 onTransaction sh m b msg out
+      leader-way k stamp g y u = sym (by-rule _ (at-leader sh st w x q (sym a ∙ z) (sym v ∙ k)) ∙ ap (λ (d : ℕ). closes sh b out (leaderTakes sh st (stamped (leaderStamp (st .log) d) x))) due-is ∙ rw (u, g))
+
+      pub follower-way : l ≡ false → (y : Entry) → y ≡ stamped (time + bound) x → closes sh b out (followerTakes sh st y) ≡ handled 1 onTransaction sh m b msg out
+      follower-way k y u = sym (by-rule _ (at-follower sh st w x q (sym a ∙ z) (sym v ∙ k)) ∙ ap (λ (d : ℕ). closes sh b out (followerTakes sh st (stamped d x))) due-is ∙ rw u)

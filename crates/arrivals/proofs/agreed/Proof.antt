@@ -1,0 +1,29 @@
+-- `arrivals::agreed` meets its contract. Assumes nothing.
+use borrow.Author.Needs.{needs}
+use Rattle.arrivals.proofs.agreed.Statement.{statement}
+use Rattle.arrivals.proofs.agreed.Tie as tie
+use Rattle.rules.specs.State.{Note, agreed, greatest}
+use Rattle.notes.proofs.Notes.{is-notes}
+use mathlib.Core.List.{List}
+use Rattle.arrivals.proofs.Midway.{notes-here, notes-read}
+
+places-of-requires : tie.Need-places-of-requires
+places-of-requires c κs = search needs
+
+sub-agreed : tie.Need-sub-agreed
+sub-agreed c = search needs
+
+part-agreed-start : tie.Need-part-agreed-start
+part-agreed-start c = search needs
+
+part-agreed-end : tie.Need-part-agreed-end
+part-agreed-end c = search needs
+
+agreed-requires : tie.Need-agreed-requires
+agreed-requires c κs = is-notes _ _ _ _ (notes-here (c .before .before .before .pre) _ _ (c .before .places-of .ensures .notes) (c .before .places-of .ensures .votes))
+
+returns : tie.Need-returns
+returns c = notes-read (c .before .before .before .before .pre) (λ (xs : List Note). agreed (c .before .before .before .before .args .shape) xs (c .before .before .before .before .args .e)) _ _ _ (c .before .before .places-of .ensures .notes) (c .before .before .places-of .ensures .votes) (c .agreed .ensures)
+
+pub agreed-spec : {M : Type 1} → statement M
+agreed-spec = tie.close (tie.spec places-of-requires sub-agreed part-agreed-start part-agreed-end agreed-requires returns)

@@ -1,0 +1,29 @@
+-- `arrivals::greatest` meets its contract. Assumes nothing.
+use borrow.Author.Needs.{needs}
+use Rattle.arrivals.proofs.greatest.Statement.{statement}
+use Rattle.arrivals.proofs.greatest.Tie as tie
+use Rattle.rules.specs.State.{Note, agreed, greatest}
+use Rattle.notes.proofs.Notes.{is-notes}
+use mathlib.Core.List.{List}
+use Rattle.arrivals.proofs.Midway.{notes-here, notes-read}
+
+places-of-requires : tie.Need-places-of-requires
+places-of-requires c κs = search needs
+
+sub-greatest : tie.Need-sub-greatest
+sub-greatest c = search needs
+
+part-greatest-start : tie.Need-part-greatest-start
+part-greatest-start c = search needs
+
+part-greatest-end : tie.Need-part-greatest-end
+part-greatest-end c = search needs
+
+greatest-requires : tie.Need-greatest-requires
+greatest-requires c κs = is-notes _ _ _ _ (notes-here (c .before .before .before .pre) _ _ (c .before .places-of .ensures .notes) (c .before .places-of .ensures .votes))
+
+returns : tie.Need-returns
+returns c = notes-read (c .before .before .before .before .pre) (λ (xs : List Note). greatest (c .before .before .before .before .args .shape) xs (c .before .before .before .before .args .e)) _ _ _ (c .before .before .places-of .ensures .notes) (c .before .before .places-of .ensures .votes) (c .greatest .ensures)
+
+pub greatest-spec : {M : Type 1} → statement M
+greatest-spec = tie.close (tie.spec places-of-requires sub-greatest part-greatest-start part-greatest-end greatest-requires returns)

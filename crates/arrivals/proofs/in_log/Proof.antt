@@ -1,0 +1,27 @@
+-- `arrivals::in_log` meets its contract. Assumes nothing.
+use borrow.Author.Needs.{needs}
+use Rattle.arrivals.proofs.in_log.Statement.{statement}
+use Rattle.arrivals.proofs.in_log.Tie as tie
+use Rattle.entries.proofs.Table.{is-table}
+use Rattle.arrivals.proofs.Midway.{log-here, log-among}
+
+places-of-requires : tie.Need-places-of-requires
+places-of-requires c κs = search needs
+
+sub-is-among : tie.Need-sub-is-among
+sub-is-among c = search needs
+
+part-is-among-start : tie.Need-part-is-among-start
+part-is-among-start c = search needs
+
+part-is-among-end : tie.Need-part-is-among-end
+part-is-among-end c = search needs
+
+is-among-requires : tie.Need-is-among-requires
+is-among-requires c κs = is-table _ _ _ (log-here (c .before .before .before .pre) _ _ (c .before .places-of .ensures .log) (c .before .places-of .ensures .early))
+
+returns : tie.Need-returns
+returns c = log-among (c .before .before .before .before .pre) (c .before .before .before .before .args .e) _ _ _ (c .before .before .places-of .ensures .log) (c .before .before .places-of .ensures .early) (c .is-among .ensures)
+
+pub in-log-spec : {M : Type 1} → statement M
+in-log-spec = tie.close (tie.spec places-of-requires sub-is-among part-is-among-start part-is-among-end is-among-requires returns)

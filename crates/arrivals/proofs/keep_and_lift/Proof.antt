@@ -1,0 +1,21 @@
+-- `arrivals::keep_and_lift` meets its contract. Assumes nothing.
+use borrow.Author.Needs.{needs}
+use Rattle.arrivals.proofs.keep_and_lift.Statement.{statement}
+use Rattle.arrivals.proofs.keep_and_lift.Tie as tie
+use Rattle.rules.specs.Image.{stateOf}
+use Rattle.arrivals.proofs.Midway.{midway-here, still-once, kept-lifted}
+
+keep-note-requires : tie.Need-keep-note-requires
+keep-note-requires c κs = ((c .before .before .pre .0), (c .before .before .pre .2), (c .before .before .pre .3))
+
+lift-requires : tie.Need-lift-requires
+lift-requires c κs = (midway-here (c .before .before .before .keep-note .ensures), still-once (stateOf (c .before .before .before .before .before .before .args .shape) (c .before .before .before .before .before .before .args .state .now)) _ (c .before .before .before .keep-note .ensures) ((c .before .before .before .before .before .before .pre .1)))
+
+same-length : tie.Need-same-length
+same-length c = search needs
+
+returns : tie.Need-returns
+returns c = kept-lifted (stateOf (c .before .before .before .before .before .before .before .before .before .args .shape) (c .before .before .before .before .before .before .before .before .before .args .state .now)) _ (c .before .before .before .before .before .before .keep-note .ensures) _ _ (c .before .before .lift .ensures)
+
+pub keep-and-lift-spec : {M : Type 1} → statement M
+keep-and-lift-spec = tie.close (tie.spec keep-note-requires lift-requires same-length returns)

@@ -1,0 +1,30 @@
+-- `arrivals::last_stamp` meets its contract. Assumes nothing.
+use borrow.Author.Needs.{needs}
+use Rattle.arrivals.proofs.last_stamp.Statement.{statement}
+use Rattle.arrivals.proofs.last_stamp.Tie as tie
+use mathlib.Core.List.{List}
+use Rattle.rules.specs.Entry.{lastStamp}
+use Rattle.rules.specs.declared.Entry.{Entry}
+use Rattle.entries.proofs.Table.{is-table}
+use Rattle.arrivals.proofs.Midway.{log-here, log-read}
+
+places-of-requires : tie.Need-places-of-requires
+places-of-requires c κs = search needs
+
+sub-last-stamp : tie.Need-sub-last-stamp
+sub-last-stamp c = search needs
+
+part-last-stamp-start : tie.Need-part-last-stamp-start
+part-last-stamp-start c = search needs
+
+part-last-stamp-end : tie.Need-part-last-stamp-end
+part-last-stamp-end c = search needs
+
+last-stamp-requires : tie.Need-last-stamp-requires
+last-stamp-requires c κs = is-table _ _ _ (log-here (c .before .before .before .pre) _ _ (c .before .places-of .ensures .log) (c .before .places-of .ensures .early))
+
+returns : tie.Need-returns
+returns c = log-read (c .before .before .before .before .pre) (λ (es : List Entry). lastStamp es) _ _ _ (c .before .before .places-of .ensures .log) (c .before .before .places-of .ensures .early) (c .last-stamp .ensures)
+
+pub last-stamp-spec : {M : Type 1} → statement M
+last-stamp-spec = tie.close (tie.spec places-of-requires sub-last-stamp part-last-stamp-start part-last-stamp-end last-stamp-requires returns)

@@ -1,0 +1,30 @@
+-- `arrivals::late_count` meets its contract. Assumes nothing.
+use borrow.Author.Needs.{needs}
+use Rattle.arrivals.proofs.late_count.Statement.{statement}
+use Rattle.arrivals.proofs.late_count.Tie as tie
+use mathlib.Core.Path.{_∙_}
+use Rattle.arrivals.proofs.Midway.{late-here}
+use native.Mathlib.Omega.{arith}
+
+places-of-requires : tie.Need-places-of-requires
+places-of-requires c κs = search needs
+
+sub-count : tie.Need-sub-count
+sub-count c = search needs
+
+part-count-start : tie.Need-part-count-start
+part-count-start c = search needs
+
+part-count-end : tie.Need-part-count-end
+part-count-end c = search needs
+
+count-requires : tie.Need-count-requires
+count-requires c κs =
+    let h = late-here (c .before .before .before .pre) _ _ (c .before .places-of .ensures .late) (c .before .places-of .ensures .notes) in
+    omega (arith, h .size)
+
+returns : tie.Need-returns
+returns c = (c .count .ensures) ∙ late-here (c .before .before .before .before .pre) _ _ (c .before .before .places-of .ensures .late) (c .before .before .places-of .ensures .notes) .count
+
+pub late-count-spec : {M : Type 1} → statement M
+late-count-spec = tie.close (tie.spec places-of-requires sub-count part-count-start part-count-end count-requires returns)

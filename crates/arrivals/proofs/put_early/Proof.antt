@@ -1,0 +1,39 @@
+-- `arrivals::put_early` meets its contract. Assumes nothing.
+use borrow.Author.Needs.{needs}
+use Rattle.arrivals.proofs.put_early.Statement.{statement}
+use Rattle.arrivals.proofs.put_early.Tie as tie
+use mathlib.Core.Path.{refl, sym, ap}
+use Prim.Native.Nat.{_<_}
+use mathlib.Core.List.{List}
+use lib.ListN.{length, set}
+use Rattle.rules.specs.declared.Entry.{Entry}
+use Rattle.entries.proofs.Table.{decoded, is-table, and-then}
+use Rattle.arrivals.proofs.Midway.{early-here, early-comes}
+
+places-of-requires : tie.Need-places-of-requires
+places-of-requires c κs = search needs
+
+sub-replace-at : tie.Need-sub-replace-at
+sub-replace-at c = search needs
+
+part-replace-at-start : tie.Need-part-replace-at-start
+part-replace-at-start c = search needs
+
+part-replace-at-end : tie.Need-part-replace-at-end
+part-replace-at-end c = search needs
+
+replace-at-requires : tie.Need-replace-at-requires
+replace-at-requires c κs =
+    let h = early-here ((c .before .before .before .pre .0)) _ _ (c .before .places-of .ensures .early) (c .before .places-of .ensures .late) in
+    (is-table _ _ _ h, rw (decoded _ _ _ h) ((c .before .before .before .pre .1)))
+
+same-length : tie.Need-same-length
+same-length c = search needs
+
+returns : tie.Need-returns
+returns c =
+    let h = early-here ((c .before .before .before .before .before .before .pre .0)) _ _ (c .before .before .before .before .places-of .ensures .early) (c .before .before .before .before .places-of .ensures .late) in
+    early-comes ((c .before .before .before .before .before .before .pre .0)) _ _ _ (and-then _ _ _ h (λ (es : List Entry). set es (c .before .before .before .before .before .before .args .i) (c .before .before .before .before .before .before .args .d)) _ (c .before .before .replace-at .ensures)) (c .before .before .before .before .places-of .ensures .early) (c .before .before .before .before .places-of .ensures .late) refl
+
+pub put-early-spec : {M : Type 1} → statement M
+put-early-spec = tie.close (tie.spec places-of-requires sub-replace-at part-replace-at-start part-replace-at-end replace-at-requires same-length returns)

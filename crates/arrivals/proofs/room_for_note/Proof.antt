@@ -1,0 +1,33 @@
+-- `arrivals::room_for_note` meets its contract. Assumes nothing.
+use borrow.Author.Needs.{needs}
+use Rattle.arrivals.proofs.room_for_note.Statement.{statement}
+use Rattle.arrivals.proofs.room_for_note.Tie as tie
+use mathlib.Core.Path.{ap}
+use mathlib.Core.List.{List}
+use Prim.Native.Nat.{ℕ}
+use lib.Dec.{ltb}
+use Rattle.rules.specs.State.{Note}
+use Rattle.notes.specs.Notes.{row}
+use Rattle.notes.proofs.Notes.{is-notes}
+use Rattle.arrivals.proofs.Midway.{notes-here, notes-read}
+
+places-of-requires : tie.Need-places-of-requires
+places-of-requires c κs = search needs
+
+sub-find : tie.Need-sub-find
+sub-find c = search needs
+
+part-find-start : tie.Need-part-find-start
+part-find-start c = search needs
+
+part-find-end : tie.Need-part-find-end
+part-find-end c = search needs
+
+find-requires : tie.Need-find-requires
+find-requires c κs = is-notes _ _ _ _ (notes-here (c .before .before .before .pre) _ _ (c .before .places-of .ensures .notes) (c .before .places-of .ensures .votes))
+
+returns : tie.Need-returns
+returns c = ap (λ (i : ℕ). ltb i (c .before .before .before .before .args .shape .c)) (notes-read (c .before .before .before .before .pre) (λ (xs : List Note). row (c .before .before .before .before .args .e .request) (c .before .before .before .before .args .e .coordinator) xs) _ _ _ (c .before .before .places-of .ensures .notes) (c .before .before .places-of .ensures .votes) (c .find .ensures))
+
+pub room-for-note-spec : {M : Type 1} → statement M
+room-for-note-spec = tie.close (tie.spec places-of-requires sub-find part-find-start part-find-end find-requires returns)

@@ -1,0 +1,398 @@
+// The handlers of transaction (kind 1) and timestamp note (kind 3): what arrives is put into the early or the late buffer, and the notes are kept.
+use notes::Point;
+use rules::Answer;
+use rules::Entry;
+use rules::Message;
+use rules::Shape;
+ghost use mathlib.Core.Path.{_≡_};
+ghost use mathlib.Core.Bool.{true, false};
+ghost use mathlib.Core.List.{[], _∷_, _++_};
+ghost use Prim.Native.Nat.{_<_, _≤_};
+ghost use lib.Dec.{ltb};
+ghost use lib.ListN.{length, set};
+ghost use Rattle.octets.specs.Bytes.{splice, flat};
+ghost use Rattle.rules.specs.Entry.{among};
+ghost use Rattle.rules.specs.Entry as order;
+ghost use Rattle.rules.specs.Log.{distinct};
+ghost use Rattle.rules.specs.Choice.{isSome};
+ghost use Rattle.rules.specs.State as rule;
+ghost use Rattle.rules.specs.Image.{tableAt, image, stateOf};
+ghost use Rattle.rules.specs.Wire.{wireBytes};
+ghost use Rattle.rules.specs.Step.{keepNote, lifted, knownTo, buffered, leaderTakes, followerTakes, onTransaction, onNote};
+ghost use Rattle.rules.specs.Bytes.{left, closes};
+ghost use Rattle.entries.specs.Table.{Table};
+ghost use Rattle.notes.specs.Notes.{row};
+ghost use Rattle.places.specs.Layout.{Stands};
+ghost use Rattle.places.specs.With.{withEarly, withLate, withNotes};
+ghost use Rattle.handler.specs.Handler.{Ready, handled};
+ghost use Rattle.arrivals.specs.Midway.{Midway};
+ghost use Rattle.arrivals.specs.Taken.{noteSends, takenEarly};
+
+// ---- entries and their timestamps
+
+// The same entry at another timestamp.
+fn stamped(stamp: u64, e: Entry) -> Entry
+    ensures { λ r. ⌜ r ≡ order.stamped stamp e ⌝ }
+{
+    Entry {
+        stamp,
+        command: e.command,
+        request: e.request,
+        coordinator: e.coordinator,
+        mask: e.mask,
+    }
+}
+
+// The timestamp of the log's last entry, 0 where it is empty.
+fn last_stamp(shape: Shape, state: &[u8]) -> u64
+    requires { ⌜ Midway shape (stateOf shape (now state)) (now state) ⌝ }
+    ensures { λ r. ⌜ r ≡ order.lastStamp (stateOf shape (now (state .entry)) .log) ⌝ }
+{
+    let layout = places::places_of(shape);
+    let start = layout.log;
+    let end = layout.early;
+    logs::last_stamp(&state[start..end], shape.c as usize)
+}
+
+// Whether e may follow the log's last.
+fn may_follow(shape: Shape, state: &[u8], e: Entry) -> bool
+    requires { ⌜ Midway shape (stateOf shape (now state)) (now state) ⌝ }
+    ensures { λ r. ⌜ r ≡ order.followsLast (stateOf shape (now (state .entry)) .log) e ⌝ }
+{
+    last_stamp(shape, state) <= e.stamp
+}
+
+// The timestamp that a leader gives: the greater of due and the log's last.
+fn leader_stamp(shape: Shape, state: &[u8], due: u64) -> u64
+    requires { ⌜ Midway shape (stateOf shape (now state)) (now state) ⌝ }
+    ensures { λ r. ⌜ r ≡ order.leaderStamp (stateOf shape (now (state .entry)) .log) due ⌝ }
+{
+    let last = last_stamp(shape, state);
+    if due < last {
+        return last;
+    }
+    due
+}
+
+// ---- what stands in the tables
+
+// Whether the transaction of e stands in a table.
+fn is_among(t: &[u8], c: usize, e: Entry) -> bool
+    requires { ⌜ Table c (now t) ⌝ }
+    ensures { λ r. ⌜ r ≡ among (tableAt c (now (t .entry)) 0) e ⌝ }
+{
+    let n = entries::count(t);
+    entries::find(t, 4, n, e.request, e.coordinator) < n
+}
+
+// Whether notes from every group of the entry's mask are held.
+fn agreed(shape: Shape, state: &[u8], e: Entry) -> bool
+    requires { ⌜ Midway shape (stateOf shape (now state)) (now state) ⌝ }
+    ensures { λ r. ⌜ r ≡ rule.agreed shape (stateOf shape (now (state .entry)) .notes) e ⌝ }
+{
+    let layout = places::places_of(shape);
+    let start = layout.notes;
+    let end = layout.votes;
+    notes::agreed(&state[start..end], shape.c as usize, shape.s as usize, e)
+}
+
+// The greatest of the notes from groups of the entry's mask.
+fn greatest(shape: Shape, state: &[u8], e: Entry) -> u64
+    requires { ⌜ Midway shape (stateOf shape (now state)) (now state) ⌝ }
+    ensures { λ r. ⌜ r ≡ rule.greatest shape (stateOf shape (now (state .entry)) .notes) e ⌝ }
+{
+    let layout = places::places_of(shape);
+    let start = layout.notes;
+    let end = layout.votes;
+    notes::greatest(&state[start..end], shape.c as usize, shape.s as usize, e)
+}
+
+// ---- what changes them
+
+// Puts d in the place of early entry i.
+fn put_early(shape: Shape, state: &mut [u8], i: usize, d: Entry)
+    requires { ⌜ Midway shape (stateOf shape (now state)) (now state) × (i < length (stateOf shape (now state) .early)) ⌝ }
+    ensures { λ _. ⌜ Midway shape (withEarly (stateOf shape (now (state .entry))) (set (stateOf shape (now (state .entry)) .early) i d)) (now (state .exit)) ⌝ }
+{
+    let layout = places::places_of(shape);
+    let start = layout.early;
+    let end = layout.late;
+    entries::replace_at(&mut state[start..end], shape.c as usize, i, d);
+}
+
+// The early entry of e's transaction, once notes from every group of its mask are held, gets their greatest as its timestamp.
+fn lift(shape: Shape, state: &mut [u8], e: Entry)
+    requires { ⌜ Midway shape (stateOf shape (now state)) (now state) × (distinct (stateOf shape (now state) .early) ≡ true) ⌝ }
+    ensures { λ _. ⌜ Midway shape (withEarly (stateOf shape (now (state .entry))) (lifted shape (stateOf shape (now (state .entry)) .notes) e (stateOf shape (now (state .entry)) .early))) (now (state .exit)) ⌝ }
+{
+    let start = places::places_of(shape).early;
+    let count = octets::get32(state, start) as usize;
+    let i = entries::find(state, start + 4, count, e.request, e.coordinator);
+    if count <= i {
+        return;
+    }
+    let d = entries::entry_at(state, start + 4 + 24 * i);
+    if !agreed(shape, state, d) {
+        return;
+    }
+    let stamp = greatest(shape, state, d);
+    put_early(shape, state, i, stamped(stamp, d));
+}
+
+// Keeps group j's timestamp of e's transaction.
+fn keep_note(shape: Shape, state: &mut [u8], e: Entry, j: u64, stamp: u64)
+    requires { ⌜ Midway shape (stateOf shape (now state)) (now state) × (row (e .request) (e .coordinator) (stateOf shape (now state) .notes) < shape .c) × (j < shape .s) ⌝ }
+    ensures { λ _. ⌜ Midway shape (withNotes (stateOf shape (now (state .entry))) (keepNote shape e j stamp (stateOf shape (now (state .entry)) .notes))) (now (state .exit)) ⌝ }
+{
+    let layout = places::places_of(shape);
+    let start = layout.notes;
+    let end = layout.votes;
+    let c = shape.c as usize;
+    let s = shape.s as usize;
+    notes::keep(&mut state[start..end], c, s, e, j as usize, stamp);
+}
+
+// Keeps a note, and lifts the early entry where it was the last that was missing.
+fn keep_and_lift(shape: Shape, state: &mut [u8], e: Entry, j: u64, stamp: u64)
+    requires { ⌜ Midway shape (stateOf shape (now state)) (now state) × (distinct (stateOf shape (now state) .early) ≡ true) × (row (e .request) (e .coordinator) (stateOf shape (now state) .notes) < shape .c) × (j < shape .s) ⌝ }
+    ensures { λ _. ⌜ now (state .exit) ≡ image shape (buffered (stateOf shape (now (state .entry))) (lifted shape (keepNote shape e j stamp (stateOf shape (now (state .entry)) .notes)) e (stateOf shape (now (state .entry)) .early)) (stateOf shape (now (state .entry)) .late) (keepNote shape e j stamp (stateOf shape (now (state .entry)) .notes))) ⌝ }
+{
+    keep_note(shape, state, e, j, stamp);
+    lift(shape, state, e);
+}
+
+// ---- what is known already
+
+// Whether the transaction of e stands in the log.
+fn in_log(shape: Shape, state: &[u8], e: Entry) -> bool
+    requires { ⌜ Midway shape (stateOf shape (now state)) (now state) ⌝ }
+    ensures { λ r. ⌜ r ≡ among (stateOf shape (now (state .entry)) .log) e ⌝ }
+{
+    let layout = places::places_of(shape);
+    let start = layout.log;
+    let end = layout.early;
+    is_among(&state[start..end], shape.c as usize, e)
+}
+
+// Whether it stands in the early buffer.
+fn in_early(shape: Shape, state: &[u8], e: Entry) -> bool
+    requires { ⌜ Midway shape (stateOf shape (now state)) (now state) ⌝ }
+    ensures { λ r. ⌜ r ≡ among (stateOf shape (now (state .entry)) .early) e ⌝ }
+{
+    let layout = places::places_of(shape);
+    let start = layout.early;
+    let end = layout.late;
+    is_among(&state[start..end], shape.c as usize, e)
+}
+
+// Whether it stands in the late buffer.
+fn in_late(shape: Shape, state: &[u8], e: Entry) -> bool
+    requires { ⌜ Midway shape (stateOf shape (now state)) (now state) ⌝ }
+    ensures { λ r. ⌜ r ≡ among (stateOf shape (now (state .entry)) .late) e ⌝ }
+{
+    let layout = places::places_of(shape);
+    let start = layout.late;
+    let end = layout.notes;
+    is_among(&state[start..end], shape.c as usize, e)
+}
+
+// Whether it stands in any of the three.
+fn known(shape: Shape, state: &[u8], e: Entry) -> bool
+    requires { ⌜ Midway shape (stateOf shape (now state)) (now state) ⌝ }
+    ensures { λ r. ⌜ r ≡ knownTo (stateOf shape (now (state .entry))) e ⌝ }
+{
+    in_log(shape, state, e) | (in_early(shape, state, e) | in_late(shape, state, e))
+}
+
+// Whether group j's timestamp of e's transaction is held.
+fn is_noted(shape: Shape, state: &[u8], e: Entry, j: u64) -> bool
+    requires { ⌜ Midway shape (stateOf shape (now state)) (now state) × (j < shape .s) ⌝ }
+    ensures { λ r. ⌜ r ≡ isSome (rule.noted (stateOf shape (now (state .entry)) .notes) e j) ⌝ }
+{
+    let layout = places::places_of(shape);
+    let start = layout.notes;
+    let end = layout.votes;
+    let c = shape.c as usize;
+    let s = shape.s as usize;
+    match notes::noted(&state[start..end], c, s, e, j as usize) {
+        Point::Unheard => false,
+        Point::Heard(_) => true,
+    }
+}
+
+// Whether there is room for a note of e's transaction: it has one, or there are fewer than fit.
+fn room_for_note(shape: Shape, state: &[u8], e: Entry) -> bool
+    requires { ⌜ Midway shape (stateOf shape (now state)) (now state) ⌝ }
+    ensures { λ r. ⌜ r ≡ ltb (row (e .request) (e .coordinator) (stateOf shape (now (state .entry)) .notes)) (shape .c) ⌝ }
+{
+    let layout = places::places_of(shape);
+    let start = layout.notes;
+    let end = layout.votes;
+    let c = shape.c as usize;
+    let s = shape.s as usize;
+    notes::find(&state[start..end], c, s, e.request, e.coordinator) < c
+}
+
+// ---- taking an entry
+
+// How many entries are early.
+fn early_count(shape: Shape, state: &[u8]) -> u64
+    requires { ⌜ Midway shape (stateOf shape (now state)) (now state) ⌝ }
+    ensures { λ r. ⌜ r ≡ length (stateOf shape (now (state .entry)) .early) ⌝ }
+{
+    let layout = places::places_of(shape);
+    let start = layout.early;
+    let end = layout.late;
+    entries::count(&state[start..end]) as u64
+}
+
+// How many entries are late.
+fn late_count(shape: Shape, state: &[u8]) -> u64
+    requires { ⌜ Midway shape (stateOf shape (now state)) (now state) ⌝ }
+    ensures { λ r. ⌜ r ≡ length (stateOf shape (now (state .entry)) .late) ⌝ }
+{
+    let layout = places::places_of(shape);
+    let start = layout.late;
+    let end = layout.notes;
+    entries::count(&state[start..end]) as u64
+}
+
+// Puts e after the last early entry.
+fn add_early(shape: Shape, state: &mut [u8], e: Entry)
+    requires { ⌜ Midway shape (stateOf shape (now state)) (now state) × (length (stateOf shape (now state) .early) < shape .c) ⌝ }
+    ensures { λ _. ⌜ Midway shape (withEarly (stateOf shape (now (state .entry))) (stateOf shape (now (state .entry)) .early ++ (e ∷ []))) (now (state .exit)) ⌝ }
+{
+    let layout = places::places_of(shape);
+    let start = layout.early;
+    let end = layout.late;
+    entries::append(&mut state[start..end], shape.c as usize, e);
+}
+
+// Puts e after the last late entry.
+fn add_late(shape: Shape, state: &mut [u8], e: Entry)
+    requires { ⌜ Midway shape (stateOf shape (now state)) (now state) × (length (stateOf shape (now state) .late) < shape .c) ⌝ }
+    ensures { λ _. ⌜ Midway shape (withLate (stateOf shape (now (state .entry))) (stateOf shape (now (state .entry)) .late ++ (e ∷ []))) (now (state .exit)) ⌝ }
+{
+    let layout = places::places_of(shape);
+    let start = layout.late;
+    let end = layout.notes;
+    entries::append(&mut state[start..end], shape.c as usize, e);
+}
+
+// A follower puts e in early if it may follow the log's last, else in late.
+fn follower_takes(shape: Shape, state: &mut [u8], e: Entry, out: &mut [u8]) -> Answer
+    requires { ⌜ Stands shape (stateOf shape (now state)) (now state) ⌝ }
+    ensures { λ r. ⌜ left r (now (state .exit)) (now (out .exit)) ≡ closes shape (now (state .entry)) (now (out .entry)) (followerTakes shape (stateOf shape (now (state .entry))) e) ⌝ }
+{
+    if may_follow(shape, state, e) {
+        if shape.c <= early_count(shape, state) {
+            return Answer::Refused(8);
+        }
+        add_early(shape, state, e);
+        return Answer::Done(0);
+    }
+    if shape.c <= late_count(shape, state) {
+        return Answer::Refused(8);
+    }
+    add_late(shape, state, e);
+    Answer::Done(0)
+}
+
+// How long the notes to the other masked groups' leaders are together.
+fn notes_length(shape: Shape, state: &[u8], e: Entry) -> usize
+    requires { ⌜ Stands shape (stateOf shape (now state)) (now state) ⌝ }
+    ensures { λ r. ⌜ r ≡ length (flat wireBytes (noteSends shape (stateOf shape (now (state .entry))) e)) ⌝ }
+{
+    let others = handler::count_others(shape, state, e.mask) as usize;
+    wire::kinds::length_for(shape.s, 3, 1) * others
+}
+
+// Writes them first into the outgoing buffer, and says where the last ends.
+fn tell_notes(shape: Shape, state: &[u8], e: Entry, out: &mut [u8]) -> usize
+    requires { ⌜ Stands shape (stateOf shape (now state)) (now state) × (length (flat wireBytes (noteSends shape (stateOf shape (now state)) e)) ≤ length (now out)) ⌝ }
+    ensures { λ r. ⌜ (r ≡ length (flat wireBytes (noteSends shape (stateOf shape (now (state .entry))) e))) × (now (out .exit) ≡ splice (now (out .entry)) 0 (flat wireBytes (noteSends shape (stateOf shape (now (state .entry))) e))) ⌝ }
+{
+    let mut bytes = [0u8; 24];
+    entries::put_entry(&mut bytes, 0, e);
+    handler::tell_leaders(shape, state, out, 3, 0, e.mask, &bytes)
+}
+
+// Puts e in early with the own group's note of it.
+fn take_early(shape: Shape, state: &mut [u8], e: Entry)
+    requires { ⌜ Stands shape (stateOf shape (now state)) (now state) × (among (stateOf shape (now state) .early) e ≡ false) × (length (stateOf shape (now state) .early) < shape .c) × (row (e .request) (e .coordinator) (stateOf shape (now state) .notes) < shape .c) ⌝ }
+    ensures { λ _. ⌜ now (state .exit) ≡ image shape (takenEarly shape (stateOf shape (now (state .entry))) e) ⌝ }
+{
+    let own = places::get_group(state);
+    add_early(shape, state, e);
+    keep_and_lift(shape, state, e, own, e.stamp);
+}
+
+// A leader puts e in early, keeps its own note, and tells the other masked groups' leaders.
+fn leader_takes(shape: Shape, state: &mut [u8], e: Entry, out: &mut [u8]) -> Answer
+    requires { ⌜ Stands shape (stateOf shape (now state)) (now state) × (among (stateOf shape (now state) .early) e ≡ false) ⌝ }
+    ensures { λ r. ⌜ left r (now (state .exit)) (now (out .exit)) ≡ closes shape (now (state .entry)) (now (out .entry)) (leaderTakes shape (stateOf shape (now (state .entry))) e) ⌝ }
+{
+    if shape.c <= early_count(shape, state) {
+        return Answer::Refused(8);
+    }
+    if !room_for_note(shape, state, e) {
+        return Answer::Refused(8);
+    }
+    if out.len() < notes_length(shape, state, e) {
+        return Answer::Refused(9);
+    }
+    let sent = tell_notes(shape, state, e, out);
+    take_early(shape, state, e);
+    Answer::Done(sent)
+}
+
+// ---- the handlers
+
+// Kind 3: the timestamp that another group's leader gave a transaction is kept, unless the log has the transaction or that group's was heard.
+pub fn on_note(shape: Shape, state: &mut [u8], m: Message, message: &[u8], out: &mut [u8]) -> Answer
+    requires { ⌜ Ready shape (now state) m (now message) ⌝ }
+    ensures { λ r. ⌜ left r (now (state .exit)) (now (out .exit)) ≡ handled 3 onNote shape m (now (state .entry)) (now (message .entry)) (now (out .entry)) ⌝ }
+{
+    let Message::Note(h) = m else {
+        return Answer::Refused(2);
+    };
+    let from = h.from_group as u64;
+    let e = handler::first_entry(shape, state, m, message, 3);
+    if in_log(shape, state, e) {
+        return Answer::Refused(7);
+    }
+    if is_noted(shape, state, e, from) {
+        return Answer::Refused(7);
+    }
+    if !room_for_note(shape, state, e) {
+        return Answer::Refused(8);
+    }
+    keep_and_lift(shape, state, e, from, e.stamp);
+    Answer::Done(0)
+}
+
+// Kind 1: a transaction that is in none of log, early and late gets its timestamp and is taken.
+pub fn on_transaction(
+    shape: Shape,
+    state: &mut [u8],
+    m: Message,
+    message: &[u8],
+    out: &mut [u8],
+) -> Answer
+    requires { ⌜ Ready shape (now state) m (now message) ⌝ }
+    ensures { λ r. ⌜ left r (now (state .exit)) (now (out .exit)) ≡ handled 1 onTransaction shape m (now (state .entry)) (now (message .entry)) (now (out .entry)) ⌝ }
+{
+    let Message::Transaction(_, send_time, bound) = m else {
+        return Answer::Refused(2);
+    };
+    let e = handler::first_entry(shape, state, m, message, 1);
+    if known(shape, state, e) {
+        return Answer::Refused(7);
+    }
+    let due = send_time + bound;
+    if handler::leads(shape, state) {
+        let stamp = leader_stamp(shape, state, due);
+        return leader_takes(shape, state, stamped(stamp, e), out);
+    }
+    follower_takes(shape, state, stamped(due, e), out)
+}
