@@ -1,0 +1,2 @@
+-- What the handler of verify request cites.
+pub mod Asked
