@@ -30,8 +30,8 @@ use Rattle.places.specs.Layout.{startOf, Sized}
 use Rattle.places.proofs.Head.{get-head}
 use Rattle.handler.specs.Sending.{messageBytes, headedIn}
 use Rattle.handler.proofs.Sends.{sender, sent-length, message-sent, own-group, own-replica, view-in}
-use Rattle.ticks.specs.Midway.{Midway}
-use Rattle.ticks.proofs.LogBytes.{log-bytes, log-entry, early-entry}
+use Rattle.releases.specs.Midway.{Midway}
+use Rattle.releases.proofs.LogBytes.{log-bytes, log-entry, early-entry}
 
 -- how long a message is
 pub placed-long : (s : ℕ) → lengthFor s 5 1 ≡ 72 + 4 * s

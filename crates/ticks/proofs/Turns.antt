@@ -19,7 +19,8 @@ use Rattle.rules.specs.Step.{sends, sendOut, dueBy, released, placedReplies}
 use Rattle.rules.specs.declared.Entry.{Entry}
 use Rattle.rules.specs.declared.Shape.{Shape}
 use Rattle.places.proofs.Rows.{within}
-use Rattle.ticks.specs.Midway.{Midway, Reaches, Released}
+use Rattle.releases.specs.Midway.{Midway, Reaches}
+use Rattle.ticks.specs.Released.{Released}
 use Rattle.ticks.proofs.Many.{dues, after, after-start, after-due, after-log, after-first, after-next, replies-more, replies-length}
 
 module _ {sh : Shape} {b₀ : List ℕ} (m : Midway sh b₀) (out₀ : List ℕ) (time : ℕ) where

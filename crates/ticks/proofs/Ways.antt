@@ -30,7 +30,8 @@ use Rattle.places.specs.With.{withClock, withSync}
 use Rattle.handler.proofs.Rows.{flat-snoc}
 use Rattle.handler.proofs.Closes.{quiet, closes-refused, closes-sent, closes-tight, closes-quiet, closes-one, closes-short}
 use Rattle.handler.proofs.Sends.{sent-length}
-use Rattle.ticks.specs.Midway.{Midway, Released}
+use Rattle.releases.specs.Midway.{Midway}
+use Rattle.ticks.specs.Released.{Released}
 use Rattle.ticks.proofs.Many.{replies-length}
 use Rattle.ticks.proofs.Telling.{sync-in}
 

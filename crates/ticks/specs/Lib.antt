@@ -1,2 +1,2 @@
--- What the functions of the tick cite: a state on the way from one good state to the next.
-pub mod Midway
+-- What the functions of the tick cite: what its releases leave.
+pub mod Released

@@ -6,7 +6,7 @@ use mathlib.Core.Path.{refl}
 use Rattle.rules.specs.Step.{onTick}
 use Rattle.handler.proofs.Closes.{handled-other}
 use Rattle.handler.proofs.OtherKind.{not-tag}
-use Rattle.ticks.proofs.Way.{on-way}
+use Rattle.releases.proofs.Way.{on-way}
 use Rattle.ticks.proofs.Tick.{too-early, led, followed}
 
 enum-known-m : tie.Need-enum-known-m

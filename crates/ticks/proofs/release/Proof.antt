@@ -10,7 +10,7 @@ use lib.ListN.{take}
 use Rattle.rules.specs.Digest.{digest}
 use Rattle.rules.specs.Image.{stateOf}
 use Rattle.rules.specs.Step.{dueBy}
-use Rattle.ticks.specs.Midway.{Released}
+use Rattle.ticks.specs.Released.{Released}
 use Rattle.ticks.proofs.Turns.{turn-start, sum-start, turn-asks, turn-tells, turn-next, turn-end, none-end}
 
 abbrev Inv-loop : tie.InvT-loop

@@ -1,0 +1,31 @@
+-- `releases::log_place` meets its contract: the place lies within the state. Assumes nothing.
+use borrow.Author.Needs.{needs}
+use Rattle.releases.proofs.log_place.Statement.{statement}
+use Rattle.releases.proofs.log_place.Tie as tie
+use Rattle.places.proofs.Sections.{state-small}
+use Rattle.releases.proofs.LogBytes.{log-within}
+
+places-of-requires : tie.Need-places-of-requires
+places-of-requires c κs = search needs
+
+mul-result : tie.Need-mul-result
+mul-result c = search needs
+
+add-result : tie.Need-add-result
+add-result c = search needs
+
+add-result-2 : tie.Need-add-result-2
+add-result-2 c = search needs
+
+returns : tie.Need-returns
+returns c = log-within _ _ _ (c .before .places-of .ensures .log) (c .before .before .pre .1) (state-small _ (c .before .before .pre .0))
+
+pub log-place-spec : {M : Type 1} → statement M
+log-place-spec =
+    tie.close
+    (tie.spec
+    places-of-requires
+    mul-result
+    add-result
+    add-result-2
+    returns)

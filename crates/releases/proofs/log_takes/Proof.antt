@@ -1,0 +1,39 @@
+-- `releases::log_takes` meets its contract: the log with the entry comes home. Assumes nothing.
+use borrow.Author.Needs.{needs}
+use Rattle.releases.proofs.log_takes.Statement.{statement}
+use Rattle.releases.proofs.log_takes.Tie as tie
+use mathlib.Core.Path.{refl}
+use Rattle.releases.proofs.Way.{log-open, log-taken}
+
+places-of-requires : tie.Need-places-of-requires
+places-of-requires c κs = search needs
+
+sub-append : tie.Need-sub-append
+sub-append c = search needs
+
+part-append-start : tie.Need-part-append-start
+part-append-start c = search needs
+
+part-append-end : tie.Need-part-append-end
+part-append-end c = search needs
+
+append-requires : tie.Need-append-requires
+append-requires c κs = log-open (c .before .before .before .pre .0) (c .before .places-of .result) (c .before .places-of .ensures) (c .before .before .before .pre .1)
+
+same-length : tie.Need-same-length
+same-length c = search needs
+
+returns : tie.Need-returns
+returns c = log-taken (c .before .before .before .before .before .before .pre .0) (c .before .before .before .before .places-of .result) (c .before .before .before .before .places-of .ensures) _ (c .before .before .append .ensures) refl
+
+pub log-takes-spec : {M : Type 1} → statement M
+log-takes-spec =
+    tie.close
+    (tie.spec
+    places-of-requires
+    sub-append
+    part-append-start
+    part-append-end
+    append-requires
+    same-length
+    returns)

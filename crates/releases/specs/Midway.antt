@@ -1,0 +1,28 @@
+-- A state on the way from one good state to the next, as its bytes hold it.
+use Prim.Native.Nat.{ℕ, _<_}
+use mathlib.Core.Path.{_≡_}
+use mathlib.Core.Bool.{true}
+use mathlib.Core.List.{List}
+use lib.ListN.{length}
+use Rattle.rules.specs.Log.{distinct}
+use Rattle.rules.specs.State.{State, notesDistinct}
+use Rattle.rules.specs.Image.{stateLength, stateOf}
+use Rattle.rules.specs.declared.Shape.{Shape}
+use Rattle.rules.proofs.Image.{StateFits}
+use Rattle.places.specs.Layout.{Fits, Laid}
+
+-- the bytes are those of the state in them, whose parts fit and whose own site is one of the shape; neither early nor the notes have a transaction twice
+pub record Midway (sh : Shape) (b : List ℕ) : Type 0 where
+  pub fits : Fits sh
+  pub laid : Laid sh (stateOf sh b) b
+  pub size : length b ≡ stateLength sh
+  pub state : StateFits sh (stateOf sh b)
+  pub group : stateOf sh b .group < sh .s
+  pub replica : stateOf sh b .replica < sh .n
+  pub early : distinct (stateOf sh b .early) ≡ true
+  pub notes : notesDistinct (stateOf sh b .notes) ≡ true
+
+-- the bytes are those of this state on the way
+pub record Reaches (sh : Shape) (st : State) (b : List ℕ) : Type 0 where
+  pub is : stateOf sh b ≡ st
+  pub midway : Midway sh b
