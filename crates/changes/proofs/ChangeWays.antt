@@ -1,0 +1,128 @@
+-- The ways through the handler of kind 7. Assumes nothing.
+use Prim.Native.Nat.{ℕ, _+_, _*_, _^_, _≤_, _<_}
+use mathlib.Core.Path.{_≡_, refl, sym, ap, _∙_}
+use mathlib.Core.Bool.{Bool, true, false}
+use mathlib.Core.List.{List, [], _∷_}
+use native.Mathlib.Omega.{arith}
+use lib.ListN.{length}
+use Rattle.octets.specs.Bytes.{num, splice}
+use Rattle.octets.proofs.Laws.{Bytes}
+use Rattle.rules.specs.Wire.{Wire, bare, known, wireBytes, tagOf, headerIn}
+use Rattle.rules.specs.Read.{wireIn, lengthFor}
+use Rattle.rules.specs.State.{State}
+use Rattle.rules.specs.Image.{image, stateOf}
+use Rattle.rules.specs.Step.{Outcome, done, sendLeader, leadsBy, entered, onChangeView}
+use Rattle.rules.specs.Bytes.{Left, leaves, closes}
+use Rattle.rules.specs.declared.Header.{Header}
+use Rattle.rules.specs.declared.Shape.{Shape}
+use Rattle.rules.specs.declared.Message.{Message}
+use Rattle.rules.specs.declared.Message.the-variants.{ChangeView}
+use Rattle.rules.proofs.Choice.{pick-true, pick-false}
+use Rattle.rules.proofs.Tables.{TableFits}
+use Rattle.places.specs.Layout.{startOf, Laid}
+use Rattle.places.proofs.Sections.{stands-fits, stands-laid}
+use Rattle.handler.specs.Handler.{Ready, handled}
+use Rattle.handler.specs.Sending.{messageBytes}
+use Rattle.handler.proofs.Own.{group-below}
+use Rattle.handler.proofs.Closes.{quiet, closes-quiet, closes-one, closes-short, handled-own}
+use Rattle.handler.proofs.Sends.{Sender, own-group}
+use Rattle.changes.specs.Changes.{viewsOf, leadsWith, enteredBy, logIn, voteIn}
+use Rattle.changes.proofs.Entered.{entered-is, entered-laid, entered-sender}
+use Rattle.changes.proofs.Logged.{vote-room, log-counted, vote-sent, vote-long}
+use Rattle.changes.proofs.Said.{view-said, view-fits, views-said, views-stand, leads-said}
+
+-- ---- the rule, by whether the site leads
+
+module _ (sh : Shape) (st : State) (w : Wire) where
+  leads : leadsBy sh st w ≡ true → onChangeView sh st w ≡ done (entered sh st w) []
+  unfolding onChangeView
+  leads q = pick-true (leadsBy sh st w) _ _ q
+
+  follows : leadsBy sh st w ≡ false → onChangeView sh st w ≡ done (entered sh st w) (sendLeader sh (entered sh st w) 8 (st .group) (st .normal ∷ st .sync ∷ []) (st .log) ∷ [])
+  unfolding onChangeView
+  follows q = pick-false (leadsBy sh st w) _ _ q
+
+-- ---- the ways
+
+module _ (sh : Shape) (b msg out : List ℕ) (m : Message) (h : Header) (r : Ready sh b m msg) (e : m ≡ ChangeView h) where
+  abbrev st : State
+  st = stateOf sh b
+
+  abbrev w : Wire
+  w = wireIn (sh .s) msg
+
+  kind-known : known (tagOf m) ≡ true
+  kind-known = ap (λ (x : Message). known (tagOf x)) e
+
+  kind-views : bare (tagOf m) ≡ false
+  kind-views = ap (λ (x : Message). bare (tagOf x)) e
+
+  view-is : headerIn m .view ≡ h .view
+  view-is = ap (λ (x : Message). headerIn x .view) e
+
+  pub change-room : 16 + 4 * sh .s ≤ length msg
+  change-room = views-stand sh b msg m r kind-known kind-views
+
+  abbrev next : Bool → State
+  next l = enteredBy sh st (h .view) (viewsOf sh msg) l
+
+  abbrev sent-vote : Wire
+  sent-vote = sendLeader sh (next false) 8 (st .group) (st .normal ∷ st .sync ∷ []) (st .log)
+
+  by-rule : (o : Outcome) → onChangeView sh st w ≡ o → handled 7 onChangeView sh m b msg out ≡ closes sh b out o
+  by-rule o q = handled-own 7 onChangeView sh m b msg out (ap tagOf e) ∙ ap (closes sh b out) q
+
+  module _ (l : Bool) (q : l ≡ leadsWith sh st (viewsOf sh msg)) where
+    next-is : (v : Bool) → l ≡ v → entered sh st w ≡ next v
+    next-is v z = entered-is sh st w (h .view) (viewsOf sh msg) v (view-said sh b msg m r kind-known ∙ view-is) (views-said sh b msg m r kind-known kind-views) (sym z ∙ q)
+
+    role-is : (v : Bool) → l ≡ v → leadsBy sh st w ≡ v
+    role-is v z = sym (leads-said sh b msg m r kind-known kind-views l q) ∙ z
+
+    pub change-leads : (b′ : List ℕ) → l ≡ true → b′ ≡ image sh (next true) → quiet b′ out ≡ handled 7 onChangeView sh m b msg out
+    change-leads b′ z i =
+        sym (by-rule (done (next true) []) (leads sh st w (role-is true z) ∙ ap (λ (x : State). done x []) (next-is true z)) ∙ closes-quiet sh b out (next true) ∙ ap (λ (x : List ℕ). quiet x out) (sym i))
+
+    module _ (z : l ≡ false) (count : ℕ) (c : count ≡ num b (startOf sh 3) 4) where
+      after : handled 7 onChangeView sh m b msg out ≡ closes sh b out (done (next false) (sent-vote ∷ []))
+      after = by-rule (done (next false) (sent-vote ∷ [])) (follows sh st w (role-is false z) ∙ ap (λ (x : State). done x (sendLeader sh x 8 (st .group) (st .normal ∷ st .sync ∷ []) (st .log) ∷ [])) (next-is false z))
+
+      table : TableFits (sh .c) (st .log)
+      table = stands-fits (r .stands) .log
+
+      count-is : count ≡ length (st .log)
+      count-is = c ∙ log-counted (stands-laid (r .stands)) table
+
+      pub count-small : count < 2 ^ 32
+      count-small = omega (arith, count-is, table .room, r .stands .fits .small)
+
+      module _ (bs : Bytes msg) where
+        next-laid : (b′ : List ℕ) → b′ ≡ image sh (next false) → Laid sh (next false) b′
+        next-laid b′ i = entered-laid (r .stands) (h .view) msg bs change-room i
+
+        next-sender : Sender sh (next false)
+        next-sender = let v : h .view < 256 ^ 4 = omega (arith, view-is, view-fits sh b msg m r kind-known bs) in entered-sender (r .stands) (h .view) msg bs change-room v
+
+        long : length (wireBytes sent-vote) ≡ lengthFor (sh .s) 8 count
+        long = vote-long (next-laid (image sh (next false)) refl) table next-sender ∙ ap (lengthFor (sh .s) 8) (sym count-is)
+
+        pub change-short : (need : ℕ) → need ≡ lengthFor (sh .s) 8 count → length out < need → leaves 9 b out ≡ handled 7 onChangeView sh m b msg out
+        change-short need n k =
+            let g : length out < length (wireBytes sent-vote) = rw (long, ← n) k in
+            sym (after ∙ closes-short sh b out (next false) sent-vote g)
+
+        module _ (need : ℕ) (n : need ≡ lengthFor (sh .s) 8 count) (k : need ≤ length out) (b′ : List ℕ) (i : b′ ≡ image sh (next false)) where
+          -- the vote may be told
+          pub change-tells : (num b′ 0 1 < sh .s) × (num b′ (startOf sh 3) 4 ≤ sh .c) × (40 + 4 * sh .s + 24 * num b′ (startOf sh 3) 4 ≤ length out)
+          change-tells =
+              let x : num b′ (startOf sh 3) 4 ≡ length (st .log) = log-counted (next-laid b′ i) table in
+              let g : num b′ 0 1 ≡ st .group = own-group (next-laid b′ i) next-sender in
+              let y : need ≡ 40 + 4 * sh .s + 24 * count = n ∙ vote-room (sh .s) count in
+              (omega (arith, group-below (r .stands)), omega (arith, table .room), omega (arith, count-is))
+
+          pub change-sent : (sent : ℕ) (out′ : List ℕ) → sent ≡ length (messageBytes sh b′ (voteIn sh b′) (logIn sh b′)) → out′ ≡ splice out 0 (messageBytes sh b′ (voteIn sh b′) (logIn sh b′)) → _≡_ {A = Left} (record { number = 0; sent = sent; state = b′; out = out′ }) (handled 7 onChangeView sh m b msg out)
+          change-sent sent out′ v o =
+              let f = stands-fits (r .stands) in
+              let x = vote-sent (next-laid b′ i) table next-sender (group-below (r .stands)) (f .normal) (f .sync) in
+              let g : length (wireBytes sent-vote) ≤ length out = rw (long, ← n) k in
+              sym (after ∙ closes-one sh b out (next false) sent-vote g ∙ rw (v, o, x, i))

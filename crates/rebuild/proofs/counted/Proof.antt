@@ -1,0 +1,14 @@
+-- `rebuild::counted` meets its contract: what is told of the vote decides. Assumes nothing.
+use borrow.Author.Needs.{needs}
+use Rattle.rebuild.proofs.counted.Statement.{statement}
+use Rattle.rebuild.proofs.counted.Tie as tie
+use Rattle.rebuild.proofs.Counting.{counts-told}
+
+ballot-of-requires : tie.Need-ballot-of-requires
+ballot-of-requires c κs = search needs
+
+returns : tie.Need-returns
+returns c = λ msg. counts-told _ _ _ ((c .before .before .ballot-of .ensures) msg)
+
+pub counted-spec : {M : Type 1} → statement M
+counted-spec = tie.close (tie.spec ballot-of-requires returns)

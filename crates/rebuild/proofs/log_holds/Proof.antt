@@ -1,0 +1,43 @@
+-- `rebuild::log_holds` meets its contract: the first entry of the transaction decides. Assumes nothing.
+use borrow.Author.Needs.{needs}
+use Rattle.rebuild.proofs.log_holds.Statement.{statement}
+use Rattle.rebuild.proofs.log_holds.Tie as tie
+use Rattle.rebuild.proofs.Sound.{vote-good}
+use Rattle.rebuild.proofs.Holders.{key-missing, key-found}
+
+log-of-requires : tie.Need-log-of-requires
+log-of-requires c κs = search needs
+
+count-requires : tie.Need-count-requires
+count-requires c κs = search needs
+
+find-requires : tie.Need-find-requires
+find-requires c κs = search needs
+
+returns : tie.Need-returns
+returns c = key-missing _ _ _ ((c .before .before .before .log-of .ensures)) ((c .before .before .before .before .before .before .args .e)) _ _ ((c .before .before .count .ensures)) ((c .before .find .ensures)) ((c .if1 .taken))
+
+mul-entry-at : tie.Need-mul-entry-at
+mul-entry-at c = search needs
+
+add-entry-at : tie.Need-add-entry-at
+add-entry-at c = search needs
+
+entry-at-requires : tie.Need-entry-at-requires
+entry-at-requires c κs = search needs
+
+returns-2 : tie.Need-returns-2
+returns-2 c = key-found _ _ _ ((c .before .before .before .before .before .before .log-of .ensures)) _ _ ((c .before .before .before .before .before .before .before .before .before .args .e)) _ _ _ (vote-good _ _ _ _ ((c .before .before .before .before .before .before .before .before .before .pre .0)) _ ((c .before .before .before .before .before .before .before .before .before .pre .1)) ((c .before .before .before .before .before .before .before .before .before .pre .2))) ((c .before .before .before .before .before .count .ensures)) ((c .before .before .before .before .find .ensures)) ((c .before .before .before .if1 .left)) ((c .before .before .entry-at .ensures))
+
+pub log-holds-spec : {M : Type 1} → statement M
+log-holds-spec =
+    tie.close
+    (tie.spec
+    log-of-requires
+    count-requires
+    find-requires
+    returns
+    mul-entry-at
+    add-entry-at
+    entry-at-requires
+    returns-2)
