@@ -1,0 +1,95 @@
+// The handler of votes (kind 8): each is kept, and with F+1 of them the log is rebuilt.
+use rebuild::Cast;
+use rules::Shape;
+ghost use mathlib.Core.Path.{_≡_};
+ghost use Prim.Native.Nat.{_+_, _-_, _*_, _^_, _≤_, _<_};
+ghost use lib.ListN.{length};
+ghost use mathlib.Core.List.{[]};
+ghost use Rattle.octets.specs.Bytes.{splice, flat};
+ghost use Rattle.rules.specs.Read.{lengthFor};
+ghost use Rattle.rules.specs.Image.{tableAt, image, stateOf};
+ghost use Rattle.rules.specs.Step.{onVote};
+ghost use Rattle.rules.specs.Bytes.{left, closes};
+ghost use Rattle.entries.specs.Table.{Table};
+ghost use Rattle.places.specs.Layout.{Sized, Laid, Stands};
+ghost use Rattle.handler.specs.Handler.{Ready, handled};
+ghost use Rattle.handler.specs.Sending.{othersIn, leaderBytes};
+ghost use Rattle.rebuild.specs.Ballots.{votesIn, Sent};
+ghost use Rattle.votes.specs.Votes.{Brought, isSecond, countWith, cameTo, keptIn, draftedIn, asksAll, concludes};
+
+// ---- the tests
+
+// Whether the sender's vote is kept already. Where a greater view is entered, only the own one is.
+fn is_second(shape: Shape, state: &[u8], cast: Cast) -> bool
+    requires { ⌜ Sent shape (now state) cast ⌝ }
+    ensures { λ r. ⌜ r ≡ isSecond shape (now (state .entry)) cast ⌝ }
+{
+    let kept = places::vote_flag(shape, state, cast.sender);
+    !cast.entering & kept
+}
+
+// How many votes there are with this one. Where a greater view is entered, the own one is the other.
+fn count_with(shape: Shape, state: &[u8], cast: Cast) -> u64
+    requires { ⌜ Sent shape (now state) cast ⌝ }
+    ensures { λ r. ⌜ r ≡ countWith shape (now (state .entry)) cast ⌝ }
+{
+    if cast.entering {
+        return 2;
+    }
+    places::held_votes(shape, state) + 1
+}
+
+// ---- what is kept
+
+// Enters the vote's view where that is a greater one. The own vote is kept there.
+fn come_to(shape: Shape, state: &mut [u8], view: u32, message: &[u8], entering: bool)
+    requires { ⌜ Stands shape (stateOf shape (now state)) (now state) × (16 + 4 * shape .s ≤ length (now message)) ⌝ }
+    ensures { λ _. ⌜ now (state .exit) ≡ image shape (cameTo shape (now (state .entry)) (now (message .entry)) view entering) ⌝ }
+{
+    if !entering {
+        return;
+    }
+    changes::enter(shape, state, view, true, message);
+}
+
+// Keeps the vote under its sender's number, in its view.
+fn keep_vote(shape: Shape, state: &mut [u8], view: u32, message: &[u8], cast: Cast)
+    requires { ⌜ Brought shape (now state) (now message) view cast ⌝ }
+    ensures { λ _. ⌜ Laid shape (keptIn shape (now (state .entry)) (now (message .entry)) view cast) (now (state .exit)) ⌝ }
+{
+    let at = cast.at;
+    let number = octets::get32(message, at) as usize;
+    let normal = cast.normal as u32;
+    come_to(shape, state, view, message, cast.entering);
+    places::keep_vote(shape, state, cast.sender, normal, cast.sync, message, at + 4, number);
+}
+
+// Takes over the rebuilt log as the draft, with its boundary: status 3.
+fn take_draft(shape: Shape, state: &mut [u8], table: &[u8], boundary: u64)
+    requires { ⌜ Sized shape (now state) × Table (shape .c) (now table) ⌝ }
+    ensures { λ _. ⌜ now (state .exit) ≡ draftedIn shape (now (state .entry)) (tableAt (shape .c) (now (table .entry)) 0) boundary ⌝ }
+{
+    let draft = places::places_of(shape).draft;
+    let number = entries::count(table);
+    places::put_table(shape, state, draft, table, 4, number);
+    places::put_boundary(state, boundary);
+    places::put_status(state, 3);
+}
+
+// ---- with F+1 votes
+
+// The mask of all groups.
+fn all_groups(s: u64) -> u16
+    requires { ⌜ s ≤ 8 ⌝ }
+    ensures { λ r. ⌜ r ≡ 2 ^ s - 1 ⌝ }
+{
+    (1 << s) - 1
+}
+
+// Kind 18 with the boundary to the leader of each other group in the mask: says where the last ends.
+fn tell_all(shape: Shape, state: &[u8], out: &mut [u8], boundary: u64, mask: u16) -> usize
+    requires { ⌜ Sized shape (now state) × (lengthFor (shape .s) 18 0 * length (othersIn shape (now state) mask) ≤ length (now out)) ⌝ }
+    ensures { λ r. ⌜ (r ≡ length (flat (leaderBytes shape (now (state .entry)) 18 boundary []) (othersIn shape (now (state .entry)) mask))) × (now (out .exit) ≡ splice (now (out .entry)) 0 (flat (leaderBytes shape (now (state .entry)) 18 boundary []) (othersIn shape (now (state .entry)) mask))) ⌝ }
+{
+    handler::tell_leaders(shape, state, out, 18, boundary, mask, &state[0..0])
+}
