@@ -1,5 +1,7 @@
 // The handler of votes (kind 8): each is kept, and with F+1 of them the log is rebuilt.
 use rebuild::Cast;
+use rebuild::Rebuilt;
+use rules::Answer;
 use rules::Shape;
 ghost use mathlib.Core.Path.{_≡_};
 ghost use Prim.Native.Nat.{_+_, _-_, _*_, _^_, _≤_, _<_};
@@ -92,4 +94,69 @@ fn tell_all(shape: Shape, state: &[u8], out: &mut [u8], boundary: u64, mask: u16
     ensures { λ r. ⌜ (r ≡ length (flat (leaderBytes shape (now (state .entry)) 18 boundary []) (othersIn shape (now (state .entry)) mask))) × (now (out .exit) ≡ splice (now (out .entry)) 0 (flat (leaderBytes shape (now (state .entry)) 18 boundary []) (othersIn shape (now (state .entry)) mask))) ⌝ }
 {
     handler::tell_leaders(shape, state, out, 18, boundary, mask, &state[0..0])
+}
+
+// The rebuilt log becomes the draft, and the leaders of all other groups are asked for what they have past its boundary.
+fn ask_all(
+    shape: Shape,
+    state: &mut [u8],
+    view: u32,
+    message: &[u8],
+    cast: Cast,
+    table: &[u8],
+    boundary: u64,
+    out: &mut [u8],
+) -> Answer
+    requires { ⌜ Brought shape (now state) (now message) view cast × Table (shape .c) (now table) ⌝ }
+    ensures { λ r. ⌜ left r (now (state .exit)) (now (out .exit)) ≡ closes shape (now (state .entry)) (now (out .entry)) (asksAll shape (cameTo shape (now (state .entry)) (now (message .entry)) view (cast .entering)) (votesIn shape (now (state .entry)) (now (message .entry)) cast) (tableAt (shape .c) (now (table .entry)) 0) boundary) ⌝ }
+{
+    let mask = all_groups(shape.s);
+    let count = handler::count_others(shape, state, mask) as usize;
+    if out.len() < wire::kinds::length_for(shape.s, 18, 0) * count {
+        return Answer::Refused(9);
+    }
+    keep_vote(shape, state, view, message, cast);
+    take_draft(shape, state, table, boundary);
+    let sent = tell_all(shape, state, out, boundary, mask);
+    Answer::Done(sent)
+}
+
+// Rebuilds the log into the table. One group starts with it at once, more verify it first.
+fn conclude(
+    shape: Shape,
+    state: &mut [u8],
+    view: u32,
+    message: &[u8],
+    cast: Cast,
+    table: &mut [u8],
+    out: &mut [u8],
+) -> Answer
+    requires { ⌜ Brought shape (now state) (now message) view cast × (length (now table) ≡ 4 + 24 * shape .c) ⌝ }
+    ensures { λ r. ⌜ left r (now (state .exit)) (now (out .exit)) ≡ closes shape (now (state .entry)) (now (out .entry)) (concludes shape (cameTo shape (now (state .entry)) (now (message .entry)) view (cast .entering)) (votesIn shape (now (state .entry)) (now (message .entry)) cast)) ⌝ }
+{
+    let rebuilt = rebuild::rebuild(shape, state, message, cast, table);
+    let Rebuilt::Log(boundary) = rebuilt else {
+        return Answer::Refused(8);
+    };
+    if shape.s == 1 {
+        return changes::start_leading(shape, state, view, message, table, out);
+    }
+    ask_all(shape, state, view, message, cast, table, boundary, out)
+}
+
+// The same, with a table of its own: nothing of the state changes before the log is known to fit.
+fn conclude_aside(
+    shape: Shape,
+    state: &mut [u8],
+    view: u32,
+    message: &[u8],
+    cast: Cast,
+    out: &mut [u8],
+) -> Answer
+    requires { ⌜ Brought shape (now state) (now message) view cast ⌝ }
+    ensures { λ r. ⌜ left r (now (state .exit)) (now (out .exit)) ≡ closes shape (now (state .entry)) (now (out .entry)) (concludes shape (cameTo shape (now (state .entry)) (now (message .entry)) view (cast .entering)) (votesIn shape (now (state .entry)) (now (message .entry)) cast)) ⌝ }
+{
+    let mut scratch = [0u8; 98308];
+    let end = 4 + 24 * shape.c as usize;
+    conclude(shape, state, view, message, cast, &mut scratch[0..end], out)
 }
