@@ -2,6 +2,8 @@
 use rebuild::Cast;
 use rebuild::Rebuilt;
 use rules::Answer;
+use rules::GroupSize;
+use rules::Message;
 use rules::Shape;
 ghost use mathlib.Core.Path.{_≡_};
 ghost use Prim.Native.Nat.{_+_, _-_, _*_, _^_, _≤_, _<_};
@@ -159,4 +161,43 @@ fn conclude_aside(
     let mut scratch = [0u8; 98308];
     let end = 4 + 24 * shape.c as usize;
     conclude(shape, state, view, message, cast, &mut scratch[0..end], out)
+}
+
+// ---- kind 8
+
+// Kind 8: a replica's second vote is refused; else it is kept, in a greater view after that is entered. With F+1 votes the log is rebuilt.
+pub fn on_vote(
+    shape: Shape,
+    state: &mut [u8],
+    m: Message,
+    message: &[u8],
+    out: &mut [u8],
+) -> Answer
+    requires { ⌜ Ready shape (now state) m (now message) ⌝ }
+    ensures { λ r. ⌜ left r (now (state .exit)) (now (out .exit)) ≡ handled 8 onVote shape m (now (state .entry)) (now (message .entry)) (now (out .entry)) ⌝ }
+{
+    let Message::Vote(h, normal, sync) = m else {
+        return Answer::Refused(2);
+    };
+    let view = h.view;
+    let cast = Cast {
+        sender: h.from_replica as u64,
+        normal,
+        sync,
+        at: wire::kinds::entries_at(shape.s, 8),
+        entering: places::get_view(state) < view,
+    };
+    if is_second(shape, state, cast) {
+        return Answer::Refused(7);
+    }
+    let at = cast.at;
+    let number = octets::get32(message, at) as usize;
+    if (shape.c as usize) < number {
+        return Answer::Refused(8);
+    }
+    if count_with(shape, state, cast) < GroupSize(shape.n).majority() {
+        keep_vote(shape, state, view, message, cast);
+        return Answer::Done(0);
+    }
+    conclude_aside(shape, state, view, message, cast, out)
 }
