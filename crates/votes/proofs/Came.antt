@@ -1,0 +1,146 @@
+-- The state in the view of a vote: entered, or as it stands; with the vote kept, and with a draft. Assumes nothing.
+use Prim.Native.Nat.{ℕ, zero, suc, _+_, _*_, _^_, _≤_, _<_}
+use mathlib.Core.Path.{_≡_, refl, sym, ap, subst, _∙_}
+use mathlib.Core.Bool.{Bool, true, false, not}
+use mathlib.Core.Option.{Option, none, some}
+use mathlib.Core.List.{List}
+use native.Mathlib.Omega.{arith}
+use lib.ListN.{length, set, replicate, length-replicate}
+use borrow.Author.Tests.{not-true, not-false}
+use Rattle.octets.specs.Bytes.{le, num, splice, items}
+use Rattle.octets.proofs.Laws.{Bytes}
+use Rattle.octets.proofs.Codecs.{length-items}
+use Rattle.rules.specs.Choice.{pick}
+use Rattle.rules.specs.Read.{entryAt}
+use Rattle.rules.specs.State.{Vote, State}
+use Rattle.rules.specs.Image.{voteLength, tableBytes, voteBytes, tableAt, image, stateOf}
+use Rattle.rules.specs.Step.{ownVote, started}
+use Rattle.rules.specs.declared.Entry.{Entry}
+use Rattle.rules.specs.declared.Shape.{Shape}
+use Rattle.rules.proofs.Choice.{by-cases, pick-true, pick-false}
+use Rattle.entries.specs.Table.{Table}
+use Rattle.places.specs.Layout.{startOf, Laid, Stands}
+use Rattle.places.specs.With.{withVotes, withDraft, withBoundary, withStatus}
+use Rattle.places.proofs.Sections.{stands-fits, stands-laid}
+use Rattle.places.proofs.Head.{put-boundary, put-status}
+use Rattle.places.proofs.Tables.{put-draft}
+use Rattle.places.proofs.Rows.{Even, even-set}
+use Rattle.places.proofs.Kept.{vote-long, put-vote, even-votes}
+use Rattle.handler.proofs.Own.{replica-below}
+use Rattle.handler.proofs.Sends.{Sender, sender}
+use Rattle.changes.specs.Changes.{viewsOf, enteredBy}
+use Rattle.changes.proofs.Entered.{laid-as, entered-laid, entered-sender}
+use Rattle.changes.proofs.Started.{table-row}
+use Rattle.rebuild.specs.Ballots.{sentLog, votesIn}
+use Rattle.rebuild.specs.declared.Cast.{Cast}
+use Rattle.rebuild.proofs.Votes.{ballots-kept, ballots-entering}
+use Rattle.votes.specs.Votes.{Brought, cameTo, keptIn, draftedIn}
+
+-- the vote that the message brings
+abbrev pub said : List ℕ → Cast → Vote
+said msg k = record { normal = k .normal; sync = k .sync; log = sentLog msg (k .at) }
+
+-- ---- the votes of a state that entered
+
+even-none : (c n : ℕ) → Even (voteBytes c) (voteLength c) (replicate n none)
+unfolding voteBytes
+even-none c zero = tt
+even-none c (suc n) = (length-replicate {A = ℕ} (voteLength c) 0, even-none c n)
+
+-- ---- what is known of the state in the vote's view
+
+pub record Comes (sh : Shape) (b msg : List ℕ) (v : ℕ) (k : Cast) (st : State) : Type 0 where
+  pub votes : set (st .votes) (k .sender) (some (said msg k)) ≡ votesIn sh b msg k
+  pub even : Even (voteBytes (sh .c)) (voteLength (sh .c)) (st .votes)
+  pub laid : (b′ : List ℕ) → b′ ≡ image sh st → Laid sh st b′
+  pub sends : Sender sh st
+  pub status : st .status ≡ 2
+  pub group : st .group ≡ stateOf sh b .group
+  pub begins : (es : List Entry) → started sh st (st .view) (st .gVec) es ≡ started sh (stateOf sh b) v (viewsOf sh msg) es
+
+module _ (sh : Shape) (b msg : List ℕ) (view : ℕ) (k : Cast) (g : Brought sh b msg view k) where
+  abbrev st : State
+  st = stateOf sh b
+
+  abbrev entered : State
+  entered = enteredBy sh st view (viewsOf sh msg) true
+
+  stands : Stands sh st b
+  stands = g .given .sent .stands
+
+  pub came-entered : k .entering ≡ true → cameTo sh b msg view (k .entering) ≡ entered
+  unfolding cameTo
+  came-entered e = pick-true (k .entering) entered st e
+
+  pub came-same : k .entering ≡ false → cameTo sh b msg view (k .entering) ≡ st
+  unfolding cameTo
+  came-same e = pick-false (k .entering) entered st e
+
+  module _ (bs : Bytes msg) (v : view < 256 ^ 4) where
+    comes-entered : k .entering ≡ true → Comes sh b msg view k entered
+    unfolding votesIn pick
+    comes-entered e =
+        let f = stands-fits stands in
+        let n = even-none (sh .c) (sh .n) in
+        let o : length (voteBytes (sh .c) (some (ownVote st))) ≡ voteLength (sh .c) = vote-long (sh .c) (ownVote st) (f .log .room) in
+        let l = put-vote (entered-laid stands view msg bs (g .views) refl) (st .replica) (ownVote st) n (f .log .room) (replica-below stands) refl in
+        let s = entered-sender stands view msg bs (g .views) v in
+        record {
+          votes = sym (rw e (ballots-entering sh st (k .sender) (said msg k)));
+          even = even-set (voteBytes (sh .c)) (voteLength (sh .c)) (replicate (sh .n) none) (st .replica) (some (ownVote st)) n o;
+          laid = λ b′ i. laid-as l i;
+          sends = record { group = s .group; replica = s .replica; view = s .view; places = s .places; gVec = s .gVec };
+          status = refl;
+          group = refl;
+          begins = λ es. refl;
+        }
+
+    comes-same : k .entering ≡ false → Comes sh b msg view k st
+    unfolding votesIn
+    comes-same e =
+        record {
+          votes = sym (rw e (ballots-kept sh st (k .sender) (said msg k)));
+          even = even-votes stands;
+          laid = λ b′ i. laid-as (stands-laid stands) i;
+          sends = sender (stands-fits stands);
+          status = g .status e;
+          group = refl;
+          begins = λ es. rw (g .sameView e, g .sameViews e);
+        }
+
+    pub comes : Comes sh b msg view k (cameTo sh b msg view (k .entering))
+    comes =
+        by-cases (k .entering)
+        (λ e. subst (Comes sh b msg view k) (sym (came-entered e)) (comes-entered e))
+        (λ e. subst (Comes sh b msg view k) (sym (came-same e)) (comes-same e))
+
+    -- ---- the vote kept
+
+    pub kept : (b₁ b₂ : List ℕ) (at number normal : ℕ) → b₁ ≡ image sh (cameTo sh b msg view (k .entering)) → at ≡ k .at → number ≡ num msg at 4 → normal ≡ k .normal
+        → b₂ ≡ splice b₁ (startOf sh 7 + voteLength (sh .c) * k .sender) (voteBytes (sh .c) (some (record { normal = normal; sync = k .sync; log = items (entryAt msg) 24 (at + 4) number }))) → Laid sh (keptIn sh b msg view k) b₂
+    kept b₁ b₂ at number normal i a n m w =
+        let q = comes in
+        let r : length (sentLog msg (k .at)) ≤ sh .c = omega (arith, g .given .room, length-items (entryAt msg) 24 (k .at + 4) (num msg (k .at) 4)) in
+        let w′ : b₂ ≡ splice b₁ (startOf sh 7 + voteLength (sh .c) * k .sender) (voteBytes (sh .c) (some (said msg k))) = w ∙ rw (n, a, m) in
+        subst (λ (vs : List (Option Vote)). Laid sh (withVotes (cameTo sh b msg view (k .entering)) vs) b₂) (q .votes)
+        (put-vote (q .laid b₁ i) (k .sender) (said msg k) (q .even) r (g .given .sent .sender) w′)
+
+-- ---- the view
+
+module _ (sh : Shape) (b msg : List ℕ) (view : ℕ) (entering : Bool) where
+  pub stays : Stands sh (stateOf sh b) b → not entering ≡ true → b ≡ image sh (cameTo sh b msg view entering)
+  unfolding cameTo
+  stays s e = s .bytes ∙ ap (image sh) (sym (pick-false entering _ (stateOf sh b) (not-true entering e)))
+
+  pub enters : {b′ : List ℕ} → not entering ≡ false → b′ ≡ image sh (enteredBy sh (stateOf sh b) view (viewsOf sh msg) true) → b′ ≡ image sh (cameTo sh b msg view entering)
+  unfolding cameTo
+  enters e w = w ∙ ap (image sh) (sym (pick-true entering _ (stateOf sh b) (not-false entering e)))
+
+-- ---- the draft
+
+pub draft-taken : (sh : Shape) (b b₁ b₂ b₃ t : List ℕ) (draft number boundary : ℕ) → Table (sh .c) t → draft ≡ startOf sh 8 → number ≡ num t 0 4 → b₁ ≡ splice b draft (tableBytes (sh .c) (items (entryAt t) 24 4 number)) → b₂ ≡ splice b₁ 40 (le 8 boundary) → b₃ ≡ splice b₂ 2 (le 1 3) → b₃ ≡ draftedIn sh b (tableAt (sh .c) t 0) boundary
+draft-taken sh b b₁ b₂ b₃ t draft number boundary h d n w₁ w₂ w₃ = rw (w₃, w₂, w₁, d, table-row (sh .c) t number h n)
+
+module _ {sh : Shape} {st : State} {b : List ℕ} (l : Laid sh st b) where
+  pub drafted : {b′ : List ℕ} (es : List Entry) (boundary : ℕ) → length es ≤ sh .c → b′ ≡ draftedIn sh b es boundary → Laid sh (withStatus (withBoundary (withDraft st es) boundary) 3) b′
+  drafted es boundary r w = put-status (put-boundary (put-draft l es r refl) boundary refl) 3 w

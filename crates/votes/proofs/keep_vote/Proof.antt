@@ -1,0 +1,53 @@
+use borrow.Author.Needs.{needs}
+use Rattle.votes.proofs.keep_vote.Statement.{statement}
+use Rattle.votes.proofs.keep_vote.Tie as tie
+use Rattle.votes.proofs.keep_vote.Reads as reads
+use Rattle.votes.proofs.keep_vote.Lts as lts
+use Rattle.octets.proofs.get32.Reads as get32-reads
+use Rattle.places.proofs.keep_vote.Reads as keep-vote-reads
+use Rattle.votes.proofs.come_to.Reads as come-to-reads
+use Prim.Native.Nat.{_^_, _<_}
+use mathlib.Core.Path.{refl}
+use native.Mathlib.Omega.{arith}
+use Rattle.octets.proofs.Laws.{bytes-known}
+use Rattle.votes.proofs.Came.{kept}
+
+get32-requires : tie.Need-get32-requires
+get32-requires c κs = search needs
+
+cast-number : tie.Need-cast-number
+cast-number c = search needs
+
+cast-normal : tie.Need-cast-normal
+cast-normal c = search needs
+
+come-to-requires : tie.Need-come-to-requires
+come-to-requires c κs = search needs
+
+add-keep-vote : tie.Need-add-keep-vote
+add-keep-vote c = search needs
+
+keep-vote-requires : tie.Need-keep-vote-requires
+keep-vote-requires c κs = search needs
+
+same-length : tie.Need-same-length
+same-length c = search needs
+
+returns : tie.Need-returns
+returns c =
+    let v : (c .before .before .before .before .before .before .before .before .before .before .before .before .args .view) < 256 ^ 4 = omega arith in
+    kept _ _ (c .before .before .before .before .before .before .before .before .before .before .before .before .args .message .now) (c .before .before .before .before .before .before .before .before .before .before .before .before .args .view) (c .before .before .before .before .before .before .before .before .before .before .before .before .args .cast) (c .before .before .before .before .before .before .before .before .before .before .before .before .pre) (bytes-known (c .before .before .before .before .before .before .before .before .before .before .before .before .args .message .now) (λ i. (c .before .before .before .before .before .before .before .before .before .before .shared-slice-known .given) i .fits)) v _ _ _ _ _ (c .before .before .before .before .before .before .come-to .ensures) refl (c .before .before .before .before .before .before .before .before .before .get32 .ensures) refl (c .before .before .keep-vote .ensures)
+
+pub keep-vote-spec : {M : Type 1} → statement M
+keep-vote-spec =
+    tie.close
+    (tie.spec
+    get32-requires
+    cast-number
+    cast-normal
+    come-to-requires
+    add-keep-vote
+    keep-vote-requires
+    same-length
+    returns)
+
