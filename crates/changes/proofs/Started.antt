@@ -11,11 +11,7 @@ use Rattle.octets.proofs.Laws.{Bytes, length-le}
 use Rattle.octets.proofs.Codecs.{length-items}
 use Rattle.rules.specs.Read.{entryAt}
 use Rattle.rules.specs.State.{State}
-<<<<<<< HEAD
 use Rattle.rules.specs.Image.{tableLength, tableBytes, tableAt, image}
-=======
-use Rattle.rules.specs.Image.{tableBytes, tableAt, image}
->>>>>>> 3f0d1c32df334c749956536a1e4d51d619cb3cf2
 use Rattle.rules.specs.Step.{started}
 use Rattle.rules.specs.declared.Entry.{Entry}
 use Rattle.rules.specs.declared.Shape.{Shape}
@@ -45,7 +41,6 @@ module _ {sh : Shape} {st : State} {b : List ℕ} (l : Laid sh st b) where
 
 -- ---- the whole
 
-<<<<<<< HEAD
 -- with the old log and the old tables still
 abbrev unheard : Shape → State → ℕ → List ℕ → ℕ → State
 unheard sh st view gVec len = withHeard (withBoundary (withCommit (withSync (withNormal (withStatus (withGVec (withView st view) gVec) 1) view) len) (min (st .commit) len)) 0) (replicate (sh .n) none)
@@ -57,16 +52,6 @@ module _ {sh : Shape} {st : State} {b : List ℕ} (s : Stands sh st b) (view : �
 
   log-laid : {b₁ b₂ b₃ b₄ : List ℕ} → b₁ ≡ takenIn sh b view msg → b₂ ≡ begunIn b₁ view (length es) → b₃ ≡ splice b₂ (startOf sh 2) (replicate (9 * sh .n) 0) → b₄ ≡ splice b₃ (startOf sh 3) (tableBytes (sh .c) es) → Laid sh (withLog (unheard sh st view (viewsOf sh msg) (length es)) es) b₄
   log-laid w₁ w₂ w₃ w₄ = put-log (heard-laid w₁ w₂ w₃) es r w₄
-=======
--- before the other tables are emptied
-abbrev logged : Shape → State → ℕ → List ℕ → List Entry → State
-logged sh st view gVec es = withLog (withHeard (withBoundary (withCommit (withSync (withNormal (withStatus (withGVec (withView st view) gVec) 1) view) (length es)) (min (st .commit) (length es))) 0) (replicate (sh .n) none)) es
-
-module _ {sh : Shape} {st : State} {b : List ℕ} (s : Stands sh st b) (view : ℕ) (msg : List ℕ) (bs : Bytes msg) (h : 16 + 4 * sh .s ≤ length msg) (es : List Entry) (r : length es ≤ sh .c) where
-  -- all but the other tables
-  log-laid : {b₁ b₂ b₃ b₄ : List ℕ} → b₁ ≡ takenIn sh b view msg → b₂ ≡ begunIn b₁ view (length es) → b₃ ≡ splice b₂ (startOf sh 2) (replicate (9 * sh .n) 0) → b₄ ≡ splice b₃ (startOf sh 3) (tableBytes (sh .c) es) → Laid sh (logged sh st view (viewsOf sh msg) es) b₄
-  log-laid w₁ w₂ w₃ w₄ = put-log (clear-heard (head-begun (view-taken (stands-laid s) view msg bs h w₁) view (length es) (stands-fits s .commit) w₂) w₃) es r w₄
->>>>>>> 3f0d1c32df334c749956536a1e4d51d619cb3cf2
 
   -- its bytes
   pub begun-laid : {b′ : List ℕ} → b′ ≡ image sh (started sh st view (viewsOf sh msg) es) → Laid sh (started sh st view (viewsOf sh msg) es) b′
@@ -77,7 +62,6 @@ module _ {sh : Shape} {st : State} {b : List ℕ} (s : Stands sh st b) (view : �
   begun-sender v = let f = stands-fits s in record { group = f .group; replica = f .replica; view = v; places = views-long sh msg; gVec = views-fit sh msg bs h }
 
 -- with the entries that stand in a row
-<<<<<<< HEAD
 module _ {sh : Shape} {st : State} {b : List ℕ} (s : Stands sh st b) (view : ℕ) (msg : List ℕ) (bs : Bytes msg) (h : 16 + 4 * sh .s ≤ length msg) (src : List ℕ) (at number log : ℕ) (r : number ≤ sh .c) (e : log ≡ startOf sh 3) {b₁ b₂ b₃ : List ℕ}
     (w₁ : b₁ ≡ takenIn sh b view msg) (w₂ : b₂ ≡ begunIn b₁ view number) (w₃ : b₃ ≡ splice b₂ (startOf sh 2) (replicate (9 * sh .n) 0)) where
   abbrev es : List Entry
@@ -102,21 +86,6 @@ module _ {sh : Shape} {st : State} {b : List ℕ} (s : Stands sh st b) (view : �
 
     pub begun : {b₅ : List ℕ} → b₅ ≡ splice b₄ (startOf sh 4) (replicate (tablesLength sh) 0) → b₅ ≡ image sh (started sh st view (viewsOf sh msg) es)
     begun w₅ = empty-laid row-laid w₅ .bytes
-=======
-module _ {sh : Shape} {st : State} {b : List ℕ} (s : Stands sh st b) (view : ℕ) (msg : List ℕ) (bs : Bytes msg) (h : 16 + 4 * sh .s ≤ length msg) (src : List ℕ) (at number log : ℕ) (r : number ≤ sh .c) (e : log ≡ startOf sh 3) {b₁ b₂ b₃ b₄ : List ℕ}
-    (w₁ : b₁ ≡ takenIn sh b view msg) (w₂ : b₂ ≡ begunIn b₁ view number) (w₃ : b₃ ≡ splice b₂ (startOf sh 2) (replicate (9 * sh .n) 0)) (w₄ : b₄ ≡ splice b₃ log (tableBytes (sh .c) (items (entryAt src) 24 at number))) where
-  row-laid : Laid sh (logged sh st view (viewsOf sh msg) (items (entryAt src) 24 at number)) b₄
-  row-laid =
-      let es = items (entryAt src) 24 at number in
-      let n : length es ≡ number = length-items (entryAt src) 24 at number in
-      log-laid s view msg bs h es (omega arith) w₁ (w₂ ∙ ap (begunIn b₁ view) (sym n)) w₃ (w₄ ∙ ap (λ (a : ℕ). splice b₃ a (tableBytes (sh .c) es)) e)
-
-  pub begun-sized : Sized sh b₄
-  begun-sized = record { fits = s .fits; size = row-laid .size }
-
-  pub begun : {b₅ : List ℕ} → b₅ ≡ splice b₄ (startOf sh 4) (replicate (tablesLength sh) 0) → b₅ ≡ image sh (started sh st view (viewsOf sh msg) (items (entryAt src) 24 at number))
-  begun w₅ = empty-laid row-laid w₅ .bytes
->>>>>>> 3f0d1c32df334c749956536a1e4d51d619cb3cf2
 
 -- the entries of a table
 pub table-row : (c : ℕ) (t : List ℕ) (n : ℕ) → Table c t → n ≡ num t 0 4 → items (entryAt t) 24 4 n ≡ tableAt c t 0

@@ -174,15 +174,9 @@ pub fn begin(
 {
     take_view(shape, state, view, message);
     begin_head(state, view, number as u64);
-<<<<<<< HEAD
     let layout = places::places_of(shape);
     octets::fill_zero(state, layout.heard, layout.log - layout.heard);
     places::put_table(shape, state, layout.log, src, at, number);
-=======
-    places::clear_heard(shape, state);
-    let log = places::places_of(shape).log;
-    places::put_table(shape, state, log, src, at, number);
->>>>>>> 3f0d1c32df334c749956536a1e4d51d619cb3cf2
     empty_tables(shape, state);
 }
 

@@ -1,5 +1,4 @@
 -- `changes::begin` meets its contract. Assumes nothing.
-<<<<<<< HEAD
 use Prim.Native.Nat.{_*_}
 use native.Mathlib.Omega.{arith}
 use Rattle.octets.proofs.Laws.{bytes-known}
@@ -8,13 +7,6 @@ use Rattle.changes.proofs.Started.{begun-room, begun-sized, begun}
 use borrow.Author.Needs.{needs}
 use Rattle.changes.proofs.begin.Statement.{statement}
 use Rattle.changes.proofs.begin.Tie as tie
-=======
-use borrow.Author.Needs.{needs}
-use Rattle.changes.proofs.begin.Statement.{statement}
-use Rattle.changes.proofs.begin.Tie as tie
-use Rattle.octets.proofs.Laws.{bytes-known}
-use Rattle.changes.proofs.Started.{begun-sized, begun}
->>>>>>> 3f0d1c32df334c749956536a1e4d51d619cb3cf2
 
 take-view-requires : tie.Need-take-view-requires
 take-view-requires c κs = search needs
@@ -22,7 +14,6 @@ take-view-requires c κs = search needs
 begin-head-requires : tie.Need-begin-head-requires
 begin-head-requires c κs = search needs
 
-<<<<<<< HEAD
 places-of-requires : tie.Need-places-of-requires
 places-of-requires c κs = search needs
 
@@ -43,32 +34,15 @@ empty-tables-requires c κs =
     let p = (c .before .before .before .before .before .before .before .before .before .before .places-of) in
     let w = zeroed _ _ (p .result .heard) (p .result .log) _ (9 * (c .before .before .before .before .before .before .before .before .before .before .before .before .before .before .before .before .before .before .before .before .before .before .args .shape .n)) (c .before .before .before .before .before .before .before .fill-zero .ensures) (p .ensures .heard) (omega (arith, p .ensures .log)) in
     begun-sized ((c .before .before .before .before .before .before .before .before .before .before .before .before .before .before .before .before .before .before .before .before .before .before .pre) .0) _ (c .before .before .before .before .before .before .before .before .before .before .before .before .before .before .before .before .before .before .before .before .before .before .args .message .now) (bytes-known (c .before .before .before .before .before .before .before .before .before .before .before .before .before .before .before .before .before .before .before .before .before .before .args .message .now) (λ i. (c .before .before .before .before .before .before .before .before .before .before .before .before .before .before .before .before .before .before .before .before .shared-slice-known .given) i .fits)) ((c .before .before .before .before .before .before .before .before .before .before .before .before .before .before .before .before .before .before .before .before .before .before .pre) .1) (c .before .before .before .before .before .before .before .before .before .before .before .before .before .before .before .before .before .before .before .before .before .before .args .src .now) _ _ _ ((c .before .before .before .before .before .before .before .before .before .before .before .before .before .before .before .before .before .before .before .before .before .before .pre) .2) (p .ensures .log) (c .before .before .before .before .before .before .before .before .before .before .before .before .before .before .before .before .before .take-view .ensures) (c .before .before .before .before .before .before .before .before .before .before .before .before .before .begin-head .ensures) w (c .before .before .before .put-table .ensures)
-=======
-clear-heard-requires : tie.Need-clear-heard-requires
-clear-heard-requires c κs = search needs
-
-places-of-requires : tie.Need-places-of-requires
-places-of-requires c κs = search needs
-
-put-table-requires : tie.Need-put-table-requires
-put-table-requires c κs = (search needs, search needs, (c .before .before .before .before .before .before .before .before .before .before .before .before .before .before .before .before .before .pre) .2, (c .before .before .before .before .before .before .before .before .before .before .before .before .before .before .before .before .before .pre) .3)
-
-empty-tables-requires : tie.Need-empty-tables-requires
-empty-tables-requires c κs = begun-sized ((c .before .before .before .before .before .before .before .before .before .before .before .before .before .before .before .before .before .before .before .before .before .pre) .0) _ (c .before .before .before .before .before .before .before .before .before .before .before .before .before .before .before .before .before .before .before .before .before .args .message .now) (bytes-known (c .before .before .before .before .before .before .before .before .before .before .before .before .before .before .before .before .before .before .before .before .before .args .message .now) (λ i. (c .before .before .before .before .before .before .before .before .before .before .before .before .before .before .before .before .before .before .before .shared-slice-known .given) i .fits)) ((c .before .before .before .before .before .before .before .before .before .before .before .before .before .before .before .before .before .before .before .before .before .pre) .1) (c .before .before .before .before .before .before .before .before .before .before .before .before .before .before .before .before .before .before .before .before .before .args .src .now) _ _ _ ((c .before .before .before .before .before .before .before .before .before .before .before .before .before .before .before .before .before .before .before .before .before .pre) .2) (c .before .before .before .before .before .places-of .ensures .log) (c .before .before .before .before .before .before .before .before .before .before .before .before .before .before .before .before .take-view .ensures) (c .before .before .before .before .before .before .before .before .before .before .before .before .begin-head .ensures) (c .before .before .before .before .before .before .before .before .clear-heard .ensures) (c .before .before .before .put-table .ensures)
->>>>>>> 3f0d1c32df334c749956536a1e4d51d619cb3cf2
 
 same-length : tie.Need-same-length
 same-length c = search needs
 
 returns : tie.Need-returns
-<<<<<<< HEAD
 returns c =
     let p = (c .before .before .before .before .before .before .before .before .before .before .before .before .before .places-of) in
     let w = zeroed _ _ (p .result .heard) (p .result .log) _ (9 * (c .before .before .before .before .before .before .before .before .before .before .before .before .before .before .before .before .before .before .before .before .before .before .before .before .before .args .shape .n)) (c .before .before .before .before .before .before .before .before .before .before .fill-zero .ensures) (p .ensures .heard) (omega (arith, p .ensures .log)) in
     begun ((c .before .before .before .before .before .before .before .before .before .before .before .before .before .before .before .before .before .before .before .before .before .before .before .before .before .pre) .0) _ (c .before .before .before .before .before .before .before .before .before .before .before .before .before .before .before .before .before .before .before .before .before .before .before .before .before .args .message .now) (bytes-known (c .before .before .before .before .before .before .before .before .before .before .before .before .before .before .before .before .before .before .before .before .before .before .before .before .before .args .message .now) (λ i. (c .before .before .before .before .before .before .before .before .before .before .before .before .before .before .before .before .before .before .before .before .before .before .before .shared-slice-known .given) i .fits)) ((c .before .before .before .before .before .before .before .before .before .before .before .before .before .before .before .before .before .before .before .before .before .before .before .before .before .pre) .1) (c .before .before .before .before .before .before .before .before .before .before .before .before .before .before .before .before .before .before .before .before .before .before .before .before .before .args .src .now) _ _ _ ((c .before .before .before .before .before .before .before .before .before .before .before .before .before .before .before .before .before .before .before .before .before .before .before .before .before .pre) .2) (p .ensures .log) (c .before .before .before .before .before .before .before .before .before .before .before .before .before .before .before .before .before .before .before .before .take-view .ensures) (c .before .before .before .before .before .before .before .before .before .before .before .before .before .before .before .before .begin-head .ensures) w (c .before .before .before .before .before .before .put-table .ensures) (c .before .before .empty-tables .ensures)
-=======
-returns c = begun ((c .before .before .before .before .before .before .before .before .before .before .before .before .before .before .before .before .before .before .before .before .before .before .before .before .pre) .0) _ (c .before .before .before .before .before .before .before .before .before .before .before .before .before .before .before .before .before .before .before .before .before .before .before .before .args .message .now) (bytes-known (c .before .before .before .before .before .before .before .before .before .before .before .before .before .before .before .before .before .before .before .before .before .before .before .before .args .message .now) (λ i. (c .before .before .before .before .before .before .before .before .before .before .before .before .before .before .before .before .before .before .before .before .before .before .shared-slice-known .given) i .fits)) ((c .before .before .before .before .before .before .before .before .before .before .before .before .before .before .before .before .before .before .before .before .before .before .before .before .pre) .1) (c .before .before .before .before .before .before .before .before .before .before .before .before .before .before .before .before .before .before .before .before .before .before .before .before .args .src .now) _ _ _ ((c .before .before .before .before .before .before .before .before .before .before .before .before .before .before .before .before .before .before .before .before .before .before .before .before .pre) .2) (c .before .before .before .before .before .before .before .before .places-of .ensures .log) (c .before .before .before .before .before .before .before .before .before .before .before .before .before .before .before .before .before .before .before .take-view .ensures) (c .before .before .before .before .before .before .before .before .before .before .before .before .before .before .before .begin-head .ensures) (c .before .before .before .before .before .before .before .before .before .before .before .clear-heard .ensures) (c .before .before .before .before .before .before .put-table .ensures) (c .before .before .empty-tables .ensures)
->>>>>>> 3f0d1c32df334c749956536a1e4d51d619cb3cf2
 
 pub begin-spec : {M : Type 1} → statement M
 begin-spec =
@@ -76,14 +50,9 @@ begin-spec =
     (tie.spec
     take-view-requires
     begin-head-requires
-<<<<<<< HEAD
     places-of-requires
     sub-fill-zero
     fill-zero-requires
-=======
-    clear-heard-requires
-    places-of-requires
->>>>>>> 3f0d1c32df334c749956536a1e4d51d619cb3cf2
     put-table-requires
     empty-tables-requires
     same-length

@@ -1,15 +1,8 @@
 -- `changes::begin_head` meets its contract. Assumes nothing.
-<<<<<<< HEAD
 use Rattle.changes.proofs.Started.{begun-in}
 use borrow.Author.Needs.{needs}
 use Rattle.changes.proofs.begin_head.Statement.{statement}
 use Rattle.changes.proofs.begin_head.Tie as tie
-=======
-use borrow.Author.Needs.{needs}
-use Rattle.changes.proofs.begin_head.Statement.{statement}
-use Rattle.changes.proofs.begin_head.Tie as tie
-use Rattle.changes.proofs.Started.{begun-in}
->>>>>>> 3f0d1c32df334c749956536a1e4d51d619cb3cf2
 
 get-commit-requires : tie.Need-get-commit-requires
 get-commit-requires c κs = search needs

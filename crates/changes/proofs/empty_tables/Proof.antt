@@ -1,19 +1,10 @@
 -- `changes::empty_tables` meets its contract. Assumes nothing.
-<<<<<<< HEAD
 use native.Mathlib.Omega.{arith}
 use Rattle.places.proofs.Spots.{zeroed}
 use Rattle.changes.specs.Changes.{tablesLength}
 use borrow.Author.Needs.{needs}
 use Rattle.changes.proofs.empty_tables.Statement.{statement}
 use Rattle.changes.proofs.empty_tables.Tie as tie
-=======
-use borrow.Author.Needs.{needs}
-use Rattle.changes.proofs.empty_tables.Statement.{statement}
-use Rattle.changes.proofs.empty_tables.Tie as tie
-use native.Mathlib.Omega.{arith}
-use Rattle.places.proofs.Spots.{zeroed}
-use Rattle.changes.specs.Changes.{tablesLength}
->>>>>>> 3f0d1c32df334c749956536a1e4d51d619cb3cf2
 
 places-of-requires : tie.Need-places-of-requires
 places-of-requires c κs = search needs

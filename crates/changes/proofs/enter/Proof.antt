@@ -1,17 +1,9 @@
 -- `changes::enter` meets its contract. Assumes nothing.
-<<<<<<< HEAD
 use Rattle.octets.proofs.Laws.{bytes-known}
 use Rattle.changes.proofs.Entered.{entered-follower, entered-own, entered-leader}
 use borrow.Author.Needs.{needs}
 use Rattle.changes.proofs.enter.Statement.{statement}
 use Rattle.changes.proofs.enter.Tie as tie
-=======
-use borrow.Author.Needs.{needs}
-use Rattle.changes.proofs.enter.Statement.{statement}
-use Rattle.changes.proofs.enter.Tie as tie
-use Rattle.octets.proofs.Laws.{bytes-known}
-use Rattle.changes.proofs.Entered.{entered-follower, entered-own, entered-leader}
->>>>>>> 3f0d1c32df334c749956536a1e4d51d619cb3cf2
 
 take-view-requires : tie.Need-take-view-requires
 take-view-requires c κs = search needs

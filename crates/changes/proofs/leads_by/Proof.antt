@@ -1,17 +1,9 @@
 -- `changes::leads_by` meets its contract. Assumes nothing.
-<<<<<<< HEAD
 use Rattle.handler.proofs.Own.{own-below}
 use Rattle.changes.proofs.Entered.{leads-with}
 use borrow.Author.Needs.{needs}
 use Rattle.changes.proofs.leads_by.Statement.{statement}
 use Rattle.changes.proofs.leads_by.Tie as tie
-=======
-use borrow.Author.Needs.{needs}
-use Rattle.changes.proofs.leads_by.Statement.{statement}
-use Rattle.changes.proofs.leads_by.Tie as tie
-use Rattle.handler.proofs.Own.{own-below}
-use Rattle.changes.proofs.Entered.{leads-with}
->>>>>>> 3f0d1c32df334c749956536a1e4d51d619cb3cf2
 
 get-group-requires : tie.Need-get-group-requires
 get-group-requires c κs = search needs

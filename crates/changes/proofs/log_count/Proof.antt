@@ -1,19 +1,10 @@
 -- `changes::log_count` meets its contract. Assumes nothing.
-<<<<<<< HEAD
 use mathlib.Core.Path.{_∙_, ap}
 use Prim.Native.Nat.{ℕ}
 use Rattle.octets.specs.Bytes.{num}
 use borrow.Author.Needs.{needs}
 use Rattle.changes.proofs.log_count.Statement.{statement}
 use Rattle.changes.proofs.log_count.Tie as tie
-=======
-use borrow.Author.Needs.{needs}
-use Rattle.changes.proofs.log_count.Statement.{statement}
-use Rattle.changes.proofs.log_count.Tie as tie
-use mathlib.Core.Path.{_∙_, ap}
-use Prim.Native.Nat.{ℕ}
-use Rattle.octets.specs.Bytes.{num}
->>>>>>> 3f0d1c32df334c749956536a1e4d51d619cb3cf2
 
 places-of-requires : tie.Need-places-of-requires
 places-of-requires c κs = search needs

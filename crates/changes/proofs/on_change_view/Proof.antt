@@ -1,22 +1,13 @@
 -- `changes::on_change_view` meets its contract. Assumes nothing.
-<<<<<<< HEAD
-=======
-use borrow.Author.Needs.{needs}
-use Rattle.changes.proofs.on_change_view.Statement.{statement}
-use Rattle.changes.proofs.on_change_view.Tie as tie
->>>>>>> 3f0d1c32df334c749956536a1e4d51d619cb3cf2
 use mathlib.Core.Path.{refl}
 use Rattle.octets.proofs.Laws.{bytes-known}
 use Rattle.rules.specs.Step.{onChangeView}
 use Rattle.handler.proofs.Closes.{handled-other}
 use Rattle.handler.proofs.OtherKind.{not-tag}
 use Rattle.changes.proofs.ChangeWays.{change-room, count-small, change-leads, change-short, change-tells, change-sent}
-<<<<<<< HEAD
 use borrow.Author.Needs.{needs}
 use Rattle.changes.proofs.on_change_view.Statement.{statement}
 use Rattle.changes.proofs.on_change_view.Tie as tie
-=======
->>>>>>> 3f0d1c32df334c749956536a1e4d51d619cb3cf2
 
 enum-known-m : tie.Need-enum-known-m
 enum-known-m c = search needs

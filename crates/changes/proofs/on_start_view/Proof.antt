@@ -1,21 +1,12 @@
 -- `changes::on_start_view` meets its contract. Assumes nothing.
-<<<<<<< HEAD
-=======
-use borrow.Author.Needs.{needs}
-use Rattle.changes.proofs.on_start_view.Statement.{statement}
-use Rattle.changes.proofs.on_start_view.Tie as tie
->>>>>>> 3f0d1c32df334c749956536a1e4d51d619cb3cf2
 use mathlib.Core.Path.{refl}
 use Rattle.rules.specs.Step.{onStartView}
 use Rattle.handler.proofs.Closes.{handled-other}
 use Rattle.handler.proofs.OtherKind.{not-tag}
 use Rattle.changes.proofs.StartWays.{start-views, start-counted, start-stands, start-past, start-done}
-<<<<<<< HEAD
 use borrow.Author.Needs.{needs}
 use Rattle.changes.proofs.on_start_view.Statement.{statement}
 use Rattle.changes.proofs.on_start_view.Tie as tie
-=======
->>>>>>> 3f0d1c32df334c749956536a1e4d51d619cb3cf2
 
 enum-known-m : tie.Need-enum-known-m
 enum-known-m c = search needs

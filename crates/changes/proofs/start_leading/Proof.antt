@@ -1,20 +1,11 @@
 -- `changes::start_leading` meets its contract. Assumes nothing.
-<<<<<<< HEAD
-=======
-use borrow.Author.Needs.{needs}
-use Rattle.changes.proofs.start_leading.Statement.{statement}
-use Rattle.changes.proofs.start_leading.Tie as tie
->>>>>>> 3f0d1c32df334c749956536a1e4d51d619cb3cf2
 use Prim.Native.Nat.{_^_, _<_}
 use native.Mathlib.Omega.{arith}
 use Rattle.octets.proofs.Laws.{bytes-known}
 use Rattle.changes.proofs.LeadWays.{lead-short, lead-tells, lead-sent}
-<<<<<<< HEAD
 use borrow.Author.Needs.{needs}
 use Rattle.changes.proofs.start_leading.Statement.{statement}
 use Rattle.changes.proofs.start_leading.Tie as tie
-=======
->>>>>>> 3f0d1c32df334c749956536a1e4d51d619cb3cf2
 
 count-requires : tie.Need-count-requires
 count-requires c κs = search needs

@@ -1,15 +1,8 @@
 -- `changes::take_view` meets its contract. Assumes nothing.
-<<<<<<< HEAD
 use Rattle.changes.proofs.Entered.{taken-in}
 use borrow.Author.Needs.{needs}
 use Rattle.changes.proofs.take_view.Statement.{statement}
 use Rattle.changes.proofs.take_view.Tie as tie
-=======
-use borrow.Author.Needs.{needs}
-use Rattle.changes.proofs.take_view.Statement.{statement}
-use Rattle.changes.proofs.take_view.Tie as tie
-use Rattle.changes.proofs.Entered.{taken-in}
->>>>>>> 3f0d1c32df334c749956536a1e4d51d619cb3cf2
 
 put-view-requires : tie.Need-put-view-requires
 put-view-requires c κs = search needs

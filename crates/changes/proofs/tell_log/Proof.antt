@@ -1,24 +1,13 @@
 -- `changes::tell_log` meets its contract. Assumes nothing.
-<<<<<<< HEAD
 use Prim.Native.Nat.{_+_, _*_}
 use mathlib.Core.Path.{_≡_, refl}
-=======
-use borrow.Author.Needs.{needs}
-use Rattle.changes.proofs.tell_log.Statement.{statement}
-use Rattle.changes.proofs.tell_log.Tie as tie
-use Prim.Native.Nat.{_+_, _*_}
-use mathlib.Core.Path.{_≡_, refl, _∙_}
->>>>>>> 3f0d1c32df334c749956536a1e4d51d619cb3cf2
 use native.Mathlib.Omega.{arith}
 use native.Mathlib.Nat.{zero-add}
 use Rattle.places.specs.Layout.{startOf}
 use Rattle.changes.proofs.Logged.{log-lent}
-<<<<<<< HEAD
 use borrow.Author.Needs.{needs}
 use Rattle.changes.proofs.tell_log.Statement.{statement}
 use Rattle.changes.proofs.tell_log.Tie as tie
-=======
->>>>>>> 3f0d1c32df334c749956536a1e4d51d619cb3cf2
 
 places-of-requires : tie.Need-places-of-requires
 places-of-requires c κs = search needs
@@ -57,12 +46,7 @@ returns c =
     let k = (c .before .before .before .before .before .log-count) in
     let q : p .result .log + 4 ≡ startOf (a .shape) 3 + 4 = omega (arith, p .ensures .log) in
     let e = log-lent (a .shape) (a .state .now) (p .result .log + 4) (k .result) (p .result .log + 4 + 24 * k .result) q (k .ensures) refl in
-<<<<<<< HEAD
     rw (e, zero-add) at (c .before .before .tell .ensures)
-=======
-    let t = rw e at (c .before .before .tell .ensures) in
-    (t .0 ∙ zero-add _, t .1)
->>>>>>> 3f0d1c32df334c749956536a1e4d51d619cb3cf2
 
 pub tell-log-spec : {M : Type 1} → statement M
 tell-log-spec =

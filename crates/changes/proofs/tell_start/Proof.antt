@@ -1,15 +1,8 @@
 -- `changes::tell_start` meets its contract. Assumes nothing.
-<<<<<<< HEAD
 use Rattle.changes.proofs.Logged.{start-case}
 use borrow.Author.Needs.{needs}
 use Rattle.changes.proofs.tell_start.Statement.{statement}
 use Rattle.changes.proofs.tell_start.Tie as tie
-=======
-use borrow.Author.Needs.{needs}
-use Rattle.changes.proofs.tell_start.Statement.{statement}
-use Rattle.changes.proofs.tell_start.Tie as tie
-use Rattle.changes.proofs.Logged.{start-case}
->>>>>>> 3f0d1c32df334c749956536a1e4d51d619cb3cf2
 
 get8-requires : tie.Need-get8-requires
 get8-requires c κs = search needs

@@ -1,20 +1,11 @@
 -- `changes::tell_vote` meets its contract. Assumes nothing.
-<<<<<<< HEAD
-=======
-use borrow.Author.Needs.{needs}
-use Rattle.changes.proofs.tell_vote.Statement.{statement}
-use Rattle.changes.proofs.tell_vote.Tie as tie
->>>>>>> 3f0d1c32df334c749956536a1e4d51d619cb3cf2
 use Prim.Native.Nat.{_%_, _<_}
 use native.Mathlib.Omega.{arith}
 use native.Mathlib.Nat.{mod-lt}
 use Rattle.changes.proofs.Logged.{vote-case}
-<<<<<<< HEAD
 use borrow.Author.Needs.{needs}
 use Rattle.changes.proofs.tell_vote.Statement.{statement}
 use Rattle.changes.proofs.tell_vote.Tie as tie
-=======
->>>>>>> 3f0d1c32df334c749956536a1e4d51d619cb3cf2
 
 get8-requires : tie.Need-get8-requires
 get8-requires c κs = search needs
