@@ -1,13 +1,12 @@
 -- In a list in which no transaction stands twice at most one entry is lifted: the one at the transaction's row. Assumes nothing.
-use Prim.Native.Nat.{ℕ, zero, suc, _<_, _≤_}
-use mathlib.Core.Path.{_≡_, refl, sym, ap, ap₂, _∙_}
-use mathlib.Core.Bool.{Bool, true, false, _&&_}
+use Prim.Native.Nat.{ℕ, zero, suc, _<_}
+use mathlib.Core.Path.{_≡_, refl, ap, ap₂, _∙_}
+use mathlib.Core.Bool.{true, false, _&&_}
 use mathlib.Core.List.{List, [], _∷_}
 use native.Mathlib.Omega.{arith}
-use lib.ListN.{length, getD, set}
+use lib.ListN.{length, set}
 use lib.Seq.{set-getD}
 use Rattle.octets.proofs.Codecs.{All}
-use Rattle.rules.specs.Choice.{pick}
 use Rattle.rules.specs.Entry.{noEntry, entryOf, stamped, sameTxn, among}
 use Rattle.rules.specs.Log.{distinct}
 use Rattle.rules.specs.State.{Note, agreed, greatest}

@@ -1,12 +1,12 @@
 -- A state on the way: from a good state, its tables as they are lent, and what a change leaves. Assumes nothing.
 use Prim.Native.Nat.{ℕ, _+_, _-_, _*_, _^_, _≤_, _<_}
-use mathlib.Core.Path.{_≡_, refl, sym, ap, subst, _∙_}
+use mathlib.Core.Path.{_≡_, sym, ap, subst, _∙_}
 use mathlib.Core.Bool.{Bool, true, false, not}
 use mathlib.Core.Option.{Option}
 use mathlib.Core.List.{List, [], _∷_, _++_, append-assoc}
 use native.Mathlib.Omega.{arith}
 use lib.ListN.{length, take, drop, set}
-use lib.Dec.{ltb, lit<}
+use lib.Dec.{lit<}
 use borrow.Author.Tests.{le-ltb}
 use Rattle.octets.specs.Bytes.{le, num, flat}
 use Rattle.octets.specs.Sections.{concat}
@@ -17,7 +17,7 @@ use Rattle.rules.specs.Entry.{noEntry, entryOf, sameTxn, stamped, among}
 use Rattle.rules.specs.Log.{distinct}
 use Rattle.rules.specs.State.{Note, State, buffersGood, good, noted, agreed, greatest}
 use Rattle.rules.specs.Read.{entryAt}
-use Rattle.rules.specs.Image.{tableLength, noteLength, zeroBytes, tableBytes, tableAt, sections, image, stateOf}
+use Rattle.rules.specs.Image.{zeroBytes, tableBytes, tableAt, sections, image, stateOf}
 use Rattle.rules.specs.Step.{lifted, buffered}
 use Rattle.rules.specs.declared.Entry.{Entry}
 use Rattle.rules.specs.declared.Shape.{Shape}
@@ -37,7 +37,7 @@ use Rattle.notes.specs.Notes.{notesAt, said, NotesHold}
 use Rattle.notes.specs.declared.Point.{Point}
 use Rattle.notes.specs.declared.Point.the-variants.{Unheard, Heard}
 use Rattle.notes.proofs.Notes as held
-use Rattle.places.specs.Layout.{startOf, Fits, Laid, Stands}
+use Rattle.places.specs.Layout.{startOf, Stands}
 use Rattle.places.specs.With.{withEarly, withLate, withNotes}
 use Rattle.places.proofs.Sections.{stands-fits, stands-laid, drop-all}
 use Rattle.places.proofs.Rows.{row-at}

@@ -1,7 +1,7 @@
 -- The ways through the handler of kind 3. Assumes nothing.
 use Prim.Native.Nat.{ℕ, _+_, _≤_, _<_, max}
-use mathlib.Core.Path.{_≡_, refl, sym, ap, _∙_}
-use mathlib.Core.Bool.{Bool, true, false, not, _||_}
+use mathlib.Core.Path.{_≡_, sym, ap, _∙_}
+use mathlib.Core.Bool.{Bool, true, false, not}
 use mathlib.Core.List.{List, []}
 use native.Mathlib.Omega.{arith}
 use lib.ListN.{length}
@@ -15,7 +15,7 @@ use Rattle.rules.specs.Read.{wireIn}
 use Rattle.rules.specs.State.{Note, State, noted}
 use Rattle.rules.specs.Image.{image, stateOf}
 use Rattle.rules.specs.Step.{Outcome, refused, done, keepNote, lifted, buffered, onNote}
-use Rattle.rules.specs.Bytes.{Left, leaves, closes}
+use Rattle.rules.specs.Bytes.{leaves, closes}
 use Rattle.rules.specs.declared.Entry.{Entry}
 use Rattle.rules.specs.declared.Header.{Header}
 use Rattle.rules.specs.declared.Shape.{Shape}

@@ -1,5 +1,5 @@
 -- The ways of taking an entry, at a follower and at a leader. Assumes nothing.
-use Prim.Native.Nat.{ℕ, suc, _+_, _*_, _/_, _≤_, _<_}
+use Prim.Native.Nat.{ℕ, suc, _*_, _/_, _≤_, _<_}
 use mathlib.Core.Path.{_≡_, refl, sym, ap, ap₂, _∙_}
 use mathlib.Core.Bool.{Bool, true, false, not}
 use mathlib.Core.List.{List, [], _∷_, _++_}
@@ -8,14 +8,14 @@ use native.Mathlib.Nat.{mul-le-mul}
 use lib.ListN.{length, replicate, length-replicate}
 use lib.Dec.{ltb, leb}
 use borrow.Author.Tests.{le-leb, lt-leb}
-use Rattle.octets.specs.Bytes.{num, splice, flat}
+use Rattle.octets.specs.Bytes.{splice, flat}
 use Rattle.octets.proofs.Sections.{splice-whole}
 use Rattle.rules.specs.Choice.{pick}
 use Rattle.rules.specs.Group.{holds}
 use Rattle.rules.specs.Entry.{followsLast}
 use Rattle.rules.specs.Wire.{entryBytes, wireBytes}
 use Rattle.rules.specs.Read.{lengthFor}
-use Rattle.rules.specs.State.{Note, State}
+use Rattle.rules.specs.State.{State}
 use Rattle.rules.specs.Image.{image, stateOf}
 use Rattle.rules.specs.Step.{refused, done, sendLeader, otherGroups, keepNote, lifted, buffered, leaderTakes, followerTakes}
 use Rattle.rules.specs.Bytes.{Left, leaves, closes}

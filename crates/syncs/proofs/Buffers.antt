@@ -1,7 +1,7 @@
 -- Early and late beside each other: each lent and come home, and entries that go from one to the other. Assumes nothing.
 use Prim.Native.Nat.{ℕ, zero, suc, _+_, _*_, _-_, _≤_, _<_}
 use mathlib.Core.Path.{_≡_, refl, sym, ap, ap₂, subst, _∙_}
-use mathlib.Core.Bool.{Bool, true, false, _&&_, not}
+use mathlib.Core.Bool.{Bool, true, false, not}
 use mathlib.Core.List.{List, [], _∷_, _++_, append-nil, append-assoc}
 use native.Mathlib.Omega.{arith}
 use lib.ListN.{length, take, drop, take-append-drop, length-append, length-drop}
@@ -146,7 +146,7 @@ module _ (p : Entry → Bool) {c : ℕ} {t : List ℕ} (h : Both c t) (i : ℕ) 
 
   pub falls : (u : List ℕ) → b ≡ true → Holds c (tableAt c (lastPart c t) 0 ++ (x ∷ [])) u
       → BothHold c (earlyIn c t) (lateIn c t ++ pick (p (entryOf (earlyIn c t) i)) (entryOf (earlyIn c t) i ∷ []) [])
-        (take (4 + 24 * c) t ++ (u ++ drop (4 + 24 * c + (4 + 24 * c) - (4 + 24 * c)) (drop (4 + 24 * c) t)))
+      (take (4 + 24 * c) t ++ (u ++ drop (4 + 24 * c + (4 + 24 * c) - (4 + 24 * c)) (drop (4 + 24 * c) t)))
   falls u g k =
       let z : x ≡ entryOf (earlyIn c t) i = e ∙ ap (λ (es : List Entry). entryOf es i) (first-is h) in
       rw (pick-true _ (entryOf (earlyIn c t) i ∷ []) [] (fallen ∙ g), ← z) (late-back h _ u (rw (last-is h) at k))

@@ -1,8 +1,8 @@
 -- Early and late of a state lent together, and come home; the state with the log taken over, section by section. Assumes nothing.
-use Prim.Native.Nat.{ℕ, _+_, _*_, _≤_, _<_}
-use mathlib.Core.Path.{_≡_, refl, sym, ap, ap₂, subst, _∙_}
+use Prim.Native.Nat.{ℕ, _+_, _*_, _≤_}
+use mathlib.Core.Path.{_≡_, refl, sym, ap, ap₂, _∙_}
 use mathlib.Core.Bool.{true, false}
-use mathlib.Core.List.{List, _++_, append-nil}
+use mathlib.Core.List.{List, _++_}
 use native.Mathlib.Omega.{arith}
 use lib.ListN.{length, take, drop, length-append, take-append-drop}
 use lib.Seq.{take-at, drop-at}
@@ -20,7 +20,7 @@ use Rattle.entries.proofs.Table.{hold}
 use Rattle.notes.specs.Notes.{notesAt, NotesHold, Notes}
 use Rattle.notes.proofs.Notes.{decoded, is-notes}
 use Rattle.places.specs.Layout.{startOf, Fits, Laid, Stands}
-use Rattle.places.specs.With.{withLog, withEarly, withLate, withNotes, withSync}
+use Rattle.places.specs.With.{withEarly, withLate}
 use Rattle.places.proofs.Sections.{stands-fits, stands-laid}
 use Rattle.places.proofs.Tables as tables
 use Rattle.places.proofs.Head.{put-sync}

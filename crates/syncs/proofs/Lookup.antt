@@ -1,16 +1,16 @@
 -- Whether a transaction is in the log, by the table of its rows and by the search. Assumes nothing.
-use Prim.Native.Nat.{ℕ, _+_, _*_, _≤_, _<_}
+use Prim.Native.Nat.{ℕ, _+_, _*_, _<_}
 use mathlib.Core.Path.{_≡_, refl, sym, ap, _∙_}
 use mathlib.Core.Bool.{Bool, true}
 use mathlib.Core.List.{List}
 use native.Mathlib.Omega.{arith}
 use lib.ListN.{length, getD}
 use lib.Dec.{ltb, eqb}
-use Rattle.octets.specs.Bytes.{num, items}
+use Rattle.octets.specs.Bytes.{num}
 use Rattle.octets.proofs.Laws.{Bytes, bytes-known}
 use Rattle.octets.proofs.Codecs.{length-items, getD-items}
 use Rattle.rules.specs.Choice.{any}
-use Rattle.rules.specs.Entry.{noEntry, entryOf, sameTxn}
+use Rattle.rules.specs.Entry.{noEntry, entryOf}
 use Rattle.rules.specs.Read.{entryAt}
 use Rattle.rules.specs.declared.Entry.{Entry}
 use Rattle.rules.proofs.Order.{txn-turns}

@@ -5,7 +5,7 @@ use mathlib.Core.Bool.{Bool}
 use mathlib.Core.List.{List, [], _∷_, _++_, append-assoc}
 use native.Mathlib.Omega.{arith}
 use native.Mathlib.Nat.{mul-le-mul-left}
-use lib.ListN.{length, getD, take, drop, set, replicate, length-set, length-append, length-replicate, replicate-append-replicate, length-drop, take-append-drop}
+use lib.ListN.{length, take, drop, set, replicate, length-set, length-append, length-replicate, replicate-append-replicate, length-drop, take-append-drop}
 use lib.Seq.{length-take-le}
 use Rattle.octets.specs.Bytes.{le, num, part, splice, flat}
 use Rattle.octets.proofs.Laws.{length-le, part-front, part-back, splice-front, splice-back, splice-at}

@@ -1,15 +1,15 @@
 -- Kind 6 for each position past the sync point, in bytes. Assumes nothing.
 use Prim.Native.Nat.{ℕ, _+_, _-_, _*_, _/_, _≤_, _<_}
-use mathlib.Core.Path.{_≡_, refl, sym, ap, ap₂, _∙_}
-use mathlib.Core.List.{List, [], _∷_, _++_, append-nil}
+use mathlib.Core.Path.{_≡_, refl, sym, ap, _∙_}
+use mathlib.Core.List.{List, [], _∷_, append-nil}
 use native.Mathlib.Omega.{arith}
 use native.Mathlib.Nat.{mul-le-mul}
 use native.Mathlib.Numerals.{add-one}
-use lib.ListN.{length, take, drop, getD, length-take, length-drop}
+use lib.ListN.{length, take, drop, getD, length-drop}
 use lib.Seq.{take-at, length-take-le}
 use Rattle.octets.specs.Bytes.{num, splice, flat}
 use Rattle.octets.proofs.Laws.{bytes-known, splice-none, splice-next}
-use Rattle.octets.proofs.Codecs.{Exact, length-items, getD-items}
+use Rattle.octets.proofs.Codecs.{length-items, getD-items}
 use Rattle.rules.specs.Choice.{pick, below}
 use Rattle.rules.specs.Entry.{noEntry, entryOf}
 use Rattle.rules.specs.Wire.{Wire, entryBytes, wireBytes}
@@ -20,12 +20,11 @@ use Rattle.rules.specs.Step.{sends, slowReply}
 use Rattle.rules.specs.declared.Entry.{Entry}
 use Rattle.rules.specs.declared.Header.{Header}
 use Rattle.rules.specs.declared.Shape.{Shape}
-use Rattle.rules.specs.declared.Message.{Message}
 use Rattle.rules.specs.declared.Message.the-variants.{SlowReply}
 use Rattle.rules.proofs.Tests.{all-at}
 use Rattle.rules.proofs.Entries.{EntryFits, long-entry, exact-entry}
 use Rattle.entries.proofs.Copies.{read-fits}
-use Rattle.places.specs.Layout.{Fits, Stands, Sized}
+use Rattle.places.specs.Layout.{Sized}
 use Rattle.places.proofs.Sections.{stands-fits, stands-laid}
 use Rattle.places.proofs.Head.{sync-of}
 use Rattle.places.proofs.Rows.{within}

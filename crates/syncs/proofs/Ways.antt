@@ -1,20 +1,20 @@
 -- The ways through the handler of kind 4. Assumes nothing.
 use Prim.Native.Nat.{ℕ, suc, _+_, _-_, _*_, _≤_, _<_}
-use mathlib.Core.Path.{_≡_, refl, sym, ap, subst, _∙_}
+use mathlib.Core.Path.{_≡_, sym, ap, subst, _∙_}
 use mathlib.Core.Bool.{Bool, true, false}
 use mathlib.Core.List.{List}
 use native.Mathlib.Omega.{arith}
 use lib.ListN.{length}
 use borrow.Author.Tests.{le-leb, lt-leb}
-use Rattle.octets.specs.Bytes.{num, splice, flat, items}
+use Rattle.octets.specs.Bytes.{num, splice, flat}
 use Rattle.octets.proofs.Codecs.{length-items, getD-items}
 use Rattle.rules.specs.Choice.{pick}
-use Rattle.rules.specs.Entry.{noEntry, entryOf, stampBefore, lastStamp}
+use Rattle.rules.specs.Entry.{noEntry, stampBefore, lastStamp}
 use Rattle.rules.specs.Wire.{Wire, known, tagOf, wireBytes}
 use Rattle.rules.specs.Read.{entryAt, entriesAt, lengthFor, wireIn}
 use Rattle.rules.specs.State.{State}
 use Rattle.rules.specs.Image.{image, stateOf}
-use Rattle.rules.specs.Step.{Outcome, refused, done, onReplicaSync}
+use Rattle.rules.specs.Step.{Outcome, refused, onReplicaSync}
 use Rattle.rules.specs.Bytes.{Left, leaves, closes}
 use Rattle.rules.specs.declared.Entry.{Entry}
 use Rattle.rules.specs.declared.Header.{Header}

@@ -18,8 +18,6 @@ ghost use Rattle.rules.specs.State.{noteOf};
 ghost use Rattle.rules.specs.Step.{notesWithout, slowReply, onReplicaSync};
 ghost use Rattle.rules.specs.Bytes.{left, closes};
 ghost use Rattle.rules.specs.Image.{noteLength, tableAt, image, stateOf};
-ghost use Rattle.repeats.specs.Rows.{countOf, keyOf};
-ghost use Rattle.repeats.specs.Table.{Filled};
 ghost use Rattle.entries.specs.First.{isOf};
 ghost use Rattle.entries.specs.Table.{Holds, Table};
 ghost use Rattle.notes.specs.Notes.{notesAt, noNote, noteIn, NotesHold, Notes};
@@ -55,13 +53,7 @@ fn spots_of(log: NewLog) -> Spots
 }
 
 // Whether a transaction is in the log. The search over all of it runs only where the table has not got every row.
-fn is_synced(
-    message: &[u8],
-    log: NewLog,
-    table: &[u16],
-    request: u32,
-    coordinator: u16,
-) -> bool
+fn is_synced(message: &[u8], log: NewLog, table: &[u16], request: u32, coordinator: u16) -> bool
     requires { ⌜ Lookup (now message) log (now table) ⌝ }
     ensures { λ r. ⌜ r ≡ any (isOf request coordinator) (logIn (now (message .entry)) log) ⌝ }
 {
@@ -73,14 +65,7 @@ fn is_synced(
 }
 
 // Whether an entry is not synced and its timestamp is below a bound, or, where `below` is false, from it on. The bound is tested first: it costs less.
-fn chosen(
-    message: &[u8],
-    log: NewLog,
-    table: &[u16],
-    below: bool,
-    bound: u64,
-    e: Entry,
-) -> bool
+fn chosen(message: &[u8], log: NewLog, table: &[u16], below: bool, bound: u64, e: Entry) -> bool
     requires { ⌜ Lookup (now message) log (now table) ⌝ }
     ensures { λ r. ⌜ r ≡ synced.chosen (logIn (now (message .entry)) log) below bound e ⌝ }
 {
@@ -144,14 +129,7 @@ fn sift(
 }
 
 // Takes out of a table the entries that are synced or below the bound, in one pass.
-fn leave(
-    t: &mut [u8],
-    c: usize,
-    message: &[u8],
-    log: NewLog,
-    table: &[u16],
-    bound: u64,
-)
+fn leave(t: &mut [u8], c: usize, message: &[u8], log: NewLog, table: &[u16], bound: u64)
     requires { ⌜ Table c (now t) × Lookup (now message) log (now table) ⌝ }
     ensures { λ _. ⌜ Holds c (keep (synced.chosen (logIn (now (message .entry)) log) false bound) (tableAt c (now (t .entry)) 0)) (now (t .exit)) ⌝ }
 {
@@ -168,14 +146,7 @@ fn leave(
 // ---- early and late, one after the other in a slice
 
 // How long late becomes: what is not synced of late, and of early what is below the new log's last.
-fn late_after(
-    t: &[u8],
-    c: usize,
-    message: &[u8],
-    log: NewLog,
-    table: &[u16],
-    last: u64,
-) -> usize
+fn late_after(t: &[u8], c: usize, message: &[u8], log: NewLog, table: &[u16], last: u64) -> usize
     requires { ⌜ Both c (now t) × Lookup (now message) log (now table) ⌝ }
     ensures { λ r. ⌜ r ≡ length (keep (synced.chosen (logIn (now (message .entry)) log) false 0) (lateIn c (now (t .entry)))) + length (keep (synced.chosen (logIn (now (message .entry)) log) true last) (earlyIn c (now (t .entry)))) ⌝ }
 {
@@ -186,15 +157,7 @@ fn late_after(
 }
 
 // Puts early entry i after the last of late where it is not synced and below the new log's last.
-fn fall(
-    t: &mut [u8],
-    c: usize,
-    i: usize,
-    message: &[u8],
-    log: NewLog,
-    table: &[u16],
-    last: u64,
-)
+fn fall(t: &mut [u8], c: usize, i: usize, message: &[u8], log: NewLog, table: &[u16], last: u64)
     requires { ⌜ Both c (now t) × (i < length (earlyIn c (now t))) × (synced.chosen (logIn (now message) log) true last (entryOf (earlyIn c (now t)) i) ≡ true → length (lateIn c (now t)) < c) × Lookup (now message) log (now table) ⌝ }
     ensures { λ _. ⌜ BothHold c (earlyIn c (now (t .entry))) (lateIn c (now (t .entry)) ++ pick (synced.chosen (logIn (now (message .entry)) log) true last (entryOf (earlyIn c (now (t .entry))) i)) (entryOf (earlyIn c (now (t .entry))) i ∷ []) []) (now (t .exit)) ⌝ }
 {
@@ -208,14 +171,7 @@ fn fall(
 }
 
 // Puts the early entries that are not synced and below the new log's last after the last of late, in their order.
-fn fall_late(
-    t: &mut [u8],
-    c: usize,
-    message: &[u8],
-    log: NewLog,
-    table: &[u16],
-    last: u64,
-)
+fn fall_late(t: &mut [u8], c: usize, message: &[u8], log: NewLog, table: &[u16], last: u64)
     requires { ⌜ Both c (now t) × (length (lateIn c (now t)) + length (keep (synced.chosen (logIn (now message) log) true last) (earlyIn c (now t))) ≤ c) × Lookup (now message) log (now table) ⌝ }
     ensures { λ _. ⌜ BothHold c (earlyIn c (now (t .entry))) (lateIn c (now (t .entry)) ++ keep (synced.chosen (logIn (now (message .entry)) log) true last) (earlyIn c (now (t .entry)))) (now (t .exit)) ⌝ }
 {
@@ -228,14 +184,7 @@ fn fall_late(
 }
 
 // Synced entries leave early and late, and what is left of early below the new log's last goes to late.
-fn sync_buffers(
-    t: &mut [u8],
-    c: usize,
-    message: &[u8],
-    log: NewLog,
-    table: &[u16],
-    last: u64,
-)
+fn sync_buffers(t: &mut [u8], c: usize, message: &[u8], log: NewLog, table: &[u16], last: u64)
     requires { ⌜ Both c (now t) × (length (keep (synced.chosen (logIn (now message) log) false 0) (lateIn c (now t))) + length (keep (synced.chosen (logIn (now message) log) true last) (earlyIn c (now t))) ≤ c) × Lookup (now message) log (now table) ⌝ }
     ensures { λ _. ⌜
         BothHold c (keep (synced.chosen (logIn (now (message .entry)) log) false last) (earlyIn c (now (t .entry))))
@@ -272,7 +221,13 @@ fn note_synced(
     ensures { λ r. ⌜ r ≡ any (λ e. noteOf e (noteIn (notesAt c s (now (t .entry))) i)) (logIn (now (message .entry)) log) ⌝ }
 {
     let at = note_place(s, i);
-    is_synced(message, log, table, octets::get32(t, at), octets::get16(t, at + 4))
+    is_synced(
+        message,
+        log,
+        table,
+        octets::get32(t, at),
+        octets::get16(t, at + 4),
+    )
 }
 
 // Puts note i in the place of an earlier one.
@@ -320,14 +275,7 @@ fn sift_note(
 }
 
 // Takes out the notes of synced transactions, in one pass.
-fn leave_notes(
-    t: &mut [u8],
-    c: usize,
-    s: usize,
-    message: &[u8],
-    log: NewLog,
-    table: &[u16],
-)
+fn leave_notes(t: &mut [u8], c: usize, s: usize, message: &[u8], log: NewLog, table: &[u16])
     requires { ⌜ Notes c s (now t) × Lookup (now message) log (now table) ⌝ }
     ensures { λ _. ⌜ NotesHold c s (notesWithout (logIn (now (message .entry)) log) (notesAt c s (now (t .entry)))) (now (t .exit)) ⌝ }
 {
@@ -358,18 +306,18 @@ fn late_length(
     let places = places::places_of(shape);
     let early = places.early;
     let notes = places.notes;
-    late_after(&state[early..notes], shape.c as usize, message, log, table, last)
+    late_after(
+        &state[early..notes],
+        shape.c as usize,
+        message,
+        log,
+        table,
+        last,
+    )
 }
 
 // Takes the log over: synced entries leave early, late and the notes, and the sync point becomes the log's length.
-fn sync_state(
-    shape: Shape,
-    state: &mut [u8],
-    message: &[u8],
-    log: NewLog,
-    table: &[u16],
-    last: u64,
-)
+fn sync_state(shape: Shape, state: &mut [u8], message: &[u8], log: NewLog, table: &[u16], last: u64)
     requires { ⌜ Stands shape (stateOf shape (now state)) (now state) × Lookup (now message) log (now table) × (last ≡ lastStamp (logIn (now message) log)) × (log .count ≤ shape .c) × (length (lateBy (stateOf shape (now state)) (logIn (now message) log)) ≤ shape .c) ⌝ }
     ensures { λ _. ⌜ now (state .exit) ≡ image shape (syncedBy (stateOf shape (now (state .entry))) (logIn (now (message .entry)) log)) ⌝ }
 {
@@ -379,7 +327,14 @@ fn sync_state(
     let votes = places.votes;
     let c = shape.c as usize;
     sync_buffers(&mut state[early..notes], c, message, log, table, last);
-    leave_notes(&mut state[notes..votes], c, shape.s as usize, message, log, table);
+    leave_notes(
+        &mut state[notes..votes],
+        c,
+        shape.s as usize,
+        message,
+        log,
+        table,
+    );
     places::put_table(shape, state, places.log, message, log.at, log.count);
     places::put_sync(state, log.count as u64);
 }
@@ -416,13 +371,7 @@ fn slow_length(shape: Shape, state: &[u8], message: &[u8], log: NewLog) -> usize
 }
 
 // Writes kind 6 for each position past the sync point, and says where the last ends.
-fn tell_synced(
-    shape: Shape,
-    state: &[u8],
-    out: &mut [u8],
-    message: &[u8],
-    log: NewLog,
-) -> usize
+fn tell_synced(shape: Shape, state: &[u8], out: &mut [u8], message: &[u8], log: NewLog) -> usize
     requires { ⌜ Coming shape (now state) (now message) log × (lengthFor (shape .s) 6 1 * (log .count - stateOf shape (now state) .sync) ≤ length (now out)) ⌝ }
     ensures { λ r. ⌜ (r ≡ length (flat wireBytes (slowReplies (stateOf shape (now (state .entry))) (logIn (now (message .entry)) log)))) × (now (out .exit) ≡ splice (now (out .entry)) 0 (flat wireBytes (slowReplies (stateOf shape (now (state .entry))) (logIn (now (message .entry)) log)))) ⌝ }
 {
@@ -486,13 +435,7 @@ fn sync_with(
 }
 
 // With a table for at most 256 rows.
-fn sync_few(
-    shape: Shape,
-    state: &mut [u8],
-    message: &[u8],
-    out: &mut [u8],
-    log: NewLog,
-) -> Answer
+fn sync_few(shape: Shape, state: &mut [u8], message: &[u8], out: &mut [u8], log: NewLog) -> Answer
     requires { ⌜ Coming shape (now state) (now message) log ⌝ }
     ensures { λ r. ⌜ left r (now (state .exit)) (now (out .exit)) ≡ closes shape (now (state .entry)) (now (out .entry)) (takes shape (stateOf shape (now (state .entry))) (logIn (now (message .entry)) log)) ⌝ }
 {
@@ -501,13 +444,7 @@ fn sync_few(
 }
 
 // With a table for at most 1,536 rows.
-fn sync_more(
-    shape: Shape,
-    state: &mut [u8],
-    message: &[u8],
-    out: &mut [u8],
-    log: NewLog,
-) -> Answer
+fn sync_more(shape: Shape, state: &mut [u8], message: &[u8], out: &mut [u8], log: NewLog) -> Answer
     requires { ⌜ Coming shape (now state) (now message) log ⌝ }
     ensures { λ r. ⌜ left r (now (state .exit)) (now (out .exit)) ≡ closes shape (now (state .entry)) (now (out .entry)) (takes shape (stateOf shape (now (state .entry))) (logIn (now (message .entry)) log)) ⌝ }
 {
@@ -516,13 +453,7 @@ fn sync_more(
 }
 
 // With a table for the largest capacity.
-fn sync_many(
-    shape: Shape,
-    state: &mut [u8],
-    message: &[u8],
-    out: &mut [u8],
-    log: NewLog,
-) -> Answer
+fn sync_many(shape: Shape, state: &mut [u8], message: &[u8], out: &mut [u8], log: NewLog) -> Answer
     requires { ⌜ Coming shape (now state) (now message) log ⌝ }
     ensures { λ r. ⌜ left r (now (state .exit)) (now (out .exit)) ≡ closes shape (now (state .entry)) (now (out .entry)) (takes shape (stateOf shape (now (state .entry))) (logIn (now (message .entry)) log)) ⌝ }
 {
@@ -531,13 +462,7 @@ fn sync_many(
 }
 
 // With a table by the log's length: a short one must not pay for a large table.
-fn sync_sized(
-    shape: Shape,
-    state: &mut [u8],
-    message: &[u8],
-    out: &mut [u8],
-    log: NewLog,
-) -> Answer
+fn sync_sized(shape: Shape, state: &mut [u8], message: &[u8], out: &mut [u8], log: NewLog) -> Answer
     requires { ⌜ Coming shape (now state) (now message) log ⌝ }
     ensures { λ r. ⌜ left r (now (state .exit)) (now (out .exit)) ≡ closes shape (now (state .entry)) (now (out .entry)) (takes shape (stateOf shape (now (state .entry))) (logIn (now (message .entry)) log)) ⌝ }
 {

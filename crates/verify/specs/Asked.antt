@@ -6,7 +6,7 @@ use lib.ListN.{length}
 use Rattle.octets.specs.Bytes.{num, part, items}
 use Rattle.rules.specs.Choice.{keep}
 use Rattle.rules.specs.Group.{holds}
-use Rattle.rules.specs.Entry.{later}
+use Rattle.rules.specs.Entry.{later, ordered}
 use Rattle.rules.specs.Read.{entryAt}
 use Rattle.rules.specs.declared.Entry.{Entry}
 
@@ -25,3 +25,7 @@ askedTo boundary j t n = keep (isAsked boundary j) (items (entryAt t) 24 0 n)
 -- of all of them
 abbrev pub askedIn : ℕ → ℕ → List ℕ → List Entry
 askedIn boundary j t = askedTo boundary j t (length t / 24)
+
+-- and these in the order
+abbrev pub toldIn : ℕ → ℕ → List ℕ → List Entry
+toldIn boundary j t = ordered (askedIn boundary j t)

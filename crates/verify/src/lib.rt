@@ -10,7 +10,7 @@ ghost use lib.Dec.{eqb};
 ghost use lib.ListN.{length};
 ghost use Rattle.octets.specs.Bytes.{le, num, splice, flat};
 ghost use Rattle.rules.specs.Choice.{pick};
-ghost use Rattle.rules.specs.Entry.{later, ordered};
+ghost use Rattle.rules.specs.Entry.{later};
 ghost use Rattle.rules.specs.Group as sets;
 ghost use Rattle.rules.specs.Wire.{entryBytes};
 ghost use Rattle.rules.specs.Image.{stateOf};
@@ -20,7 +20,7 @@ ghost use Rattle.rules.specs.declared.Message.the-variants as cases;
 ghost use Rattle.places.specs.Layout.{Sized, Stands};
 ghost use Rattle.handler.specs.Handler.{Ready, handled};
 ghost use Rattle.handler.specs.Sending.{messageBytes, headedIn};
-ghost use Rattle.verify.specs.Asked.{isAsked, usedIn, askedIn};
+ghost use Rattle.verify.specs.Asked.{isAsked, usedIn, askedIn, toldIn};
 
 // The entries that the draft has in status 3, else those that the log has. They are lent, not copied.
 fn source<'a>(status: u8, draft: &'a [u8], log: &'a [u8]) -> &'a [u8]
@@ -104,7 +104,7 @@ fn gather(t: &[u8], boundary: u64, asker: u64, out: &mut [u8], at: usize)
 // Writes those of the entries in t that are asked for, `count` of them, to `at`: their count, and then each, in the order.
 fn put_asked(t: &[u8], boundary: u64, asker: u64, count: usize, out: &mut [u8], at: usize)
     requires { ⌜ (length (now t) ≤ 98304) × (count ≡ length (askedIn boundary asker (now t))) × (at + (4 + 24 * count) ≤ length (now out)) ⌝ }
-    ensures { λ _. ⌜ now (out .exit) ≡ splice (now (out .entry)) at (le 4 count ++ flat entryBytes (ordered (askedIn boundary asker (now (t .entry))))) ⌝ }
+    ensures { λ _. ⌜ now (out .exit) ≡ splice (now (out .entry)) at (le 4 count ++ flat entryBytes (toldIn boundary asker (now (t .entry)))) ⌝ }
 {
     octets::put32(out, at, count as u32);
     gather(t, boundary, asker, out, at + 4);

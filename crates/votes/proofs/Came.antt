@@ -68,11 +68,11 @@ module _ (sh : Shape) (b msg : List ℕ) (view : ℕ) (k : Cast) (g : Brought sh
   stands : Stands sh st b
   stands = g .given .sent .stands
 
-  pub came-entered : k .entering ≡ true → cameTo sh b msg view (k .entering) ≡ entered
+  came-entered : k .entering ≡ true → cameTo sh b msg view (k .entering) ≡ entered
   unfolding cameTo
   came-entered e = pick-true (k .entering) entered st e
 
-  pub came-same : k .entering ≡ false → cameTo sh b msg view (k .entering) ≡ st
+  came-same : k .entering ≡ false → cameTo sh b msg view (k .entering) ≡ st
   unfolding cameTo
   came-same e = pick-false (k .entering) entered st e
 

@@ -1,7 +1,6 @@
 -- The ways through the end of a vote that makes F+1. Assumes nothing.
 use Prim.Native.Nat.{ℕ, _+_, _-_, _*_, _^_, _≤_, _<_}
-use mathlib.Core.Path.{_≡_, refl, sym, ap, subst, _∙_}
-use mathlib.Core.Bool.{Bool, true, false}
+use mathlib.Core.Path.{_≡_, sym, ap, subst, _∙_}
 use mathlib.Core.Option.{Option}
 use mathlib.Core.List.{List, [], _∷_}
 use native.Mathlib.Omega.{arith}
@@ -10,11 +9,10 @@ use lib.Seq.{length-take-le}
 use lib.Dec.{eqb, leb}
 use borrow.Author.Tests.{le-leb, lt-leb, eq-eqb, ne-eqb}
 use Rattle.octets.proofs.Laws.{Bytes}
-use Rattle.rules.specs.Choice.{pick}
 use Rattle.rules.specs.State.{Vote, State}
 use Rattle.rules.specs.Image.{tableAt, stateOf}
 use Rattle.rules.specs.Rebuild.{rebuilt, boundaryOf}
-use Rattle.rules.specs.Step.{Outcome, refused, done, sendFollowers, started, starts, verifies}
+use Rattle.rules.specs.Step.{Outcome, refused, done, sendFollowers, starts, verifies}
 use Rattle.rules.specs.Bytes.{Left, leaves, closes}
 use Rattle.rules.specs.declared.Entry.{Entry}
 use Rattle.rules.specs.declared.Shape.{Shape}
@@ -29,7 +27,7 @@ use Rattle.rebuild.specs.declared.Cast.{Cast}
 use Rattle.rebuild.specs.declared.Rebuilt.{Rebuilt}
 use Rattle.rebuild.specs.declared.Rebuilt.the-variants.{TooLong, Log}
 use Rattle.votes.specs.Votes.{Brought, cameTo, asksAll, concludes}
-use Rattle.votes.proofs.Came.{Comes, comes}
+use Rattle.votes.proofs.Came.{comes}
 
 -- ---- the rule, by the length of the rebuilt log and the number of groups
 

@@ -1,7 +1,7 @@
 -- The ways through the handler of kind 8. Assumes nothing.
-use Prim.Native.Nat.{ℕ, _+_, _*_, _^_, _≤_, _<_}
-use mathlib.Core.Path.{_≡_, refl, sym, ap, subst, _∙_}
-use mathlib.Core.Bool.{Bool, true, false, _&&_, _||_, not}
+use Prim.Native.Nat.{ℕ, _+_, _*_, _≤_, _<_}
+use mathlib.Core.Path.{_≡_, sym, ap, subst, _∙_}
+use mathlib.Core.Bool.{Bool, true, false, not}
 use mathlib.Core.Option.{Option, none, some}
 use mathlib.Core.List.{List, []}
 use native.Mathlib.Omega.{arith}
@@ -11,7 +11,7 @@ use lib.Dec.{eqb, ltb, leb}
 use borrow.Author.Tests.{lt-ltb, le-ltb, le-leb, lt-leb, eqb-true, eqb-false, not-true}
 use Rattle.octets.specs.Bytes.{num, items}
 use Rattle.octets.proofs.Laws.{Bytes}
-use Rattle.rules.specs.Choice.{pick, isSome, same}
+use Rattle.rules.specs.Choice.{pick, isSome}
 use Rattle.rules.specs.Group.{majority}
 use Rattle.rules.specs.Log.{goodLog}
 use Rattle.rules.specs.Wire.{Wire, bare, known, tagOf, headerIn, numbersOf}
@@ -21,7 +21,6 @@ use Rattle.rules.specs.State.{Vote, State, held}
 use Rattle.rules.specs.Image.{image, stateOf}
 use Rattle.rules.specs.Step.{Outcome, refused, done, newer, equal, viewRight, statusRight, leadsBy, fromOwn, roleRight, ownVote, entered, changing, keepsVote, onVote}
 use Rattle.rules.specs.Bytes.{Left, leaves, closes}
-use Rattle.rules.specs.declared.Entry.{Entry}
 use Rattle.rules.specs.declared.Header.{Header}
 use Rattle.rules.specs.declared.Shape.{Shape}
 use Rattle.rules.specs.declared.Message.{Message}
@@ -29,21 +28,21 @@ use Rattle.rules.specs.declared.Message.the-variants as cases
 use Rattle.rules.proofs.Choice.{by-cases, pick-true, pick-false, and-left, and-right, or-cases, clash}
 use Rattle.rules.proofs.Tests.{same-true}
 use Rattle.rules.proofs.KeptMessage.{view-wide, vote-parts}
-use Rattle.places.specs.Layout.{Laid, Stands}
+use Rattle.places.specs.Layout.{Laid}
 use Rattle.places.proofs.Sections.{stands-fits}
 use Rattle.places.proofs.Head.{view-of}
 use Rattle.handler.specs.Handler.{Ready, handled}
 use Rattle.handler.proofs.Own.{replica-below}
 use Rattle.handler.proofs.Told.{Told, told-number, told-formed, told-sender, told-length, told-entries, told-count, ready-told, ready-log}
 use Rattle.handler.proofs.Closes.{quiet, closes-refused, closes-quiet, handled-own}
-use Rattle.changes.specs.Changes.{viewsOf, leadsWith, enteredBy}
+use Rattle.changes.specs.Changes.{viewsOf, leadsWith}
 use Rattle.changes.proofs.Entered.{entered-is}
 use Rattle.changes.proofs.Said.{view-said, views-said, views-stand}
 use Rattle.rebuild.specs.Ballots.{sentLog, votesIn, Sent}
 use Rattle.rebuild.specs.declared.Cast.{Cast}
 use Rattle.votes.specs.Votes.{Brought, isSecond, countWith, cameTo, keptIn, concludes}
 use Rattle.votes.proofs.Counted.{held-more, held-none}
-use Rattle.votes.proofs.Came.{said, Comes, comes, came-entered, came-same}
+use Rattle.votes.proofs.Came.{said, Comes, comes}
 
 -- ---- the rule, test by test
 

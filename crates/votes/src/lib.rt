@@ -6,9 +6,9 @@ use rules::GroupSize;
 use rules::Message;
 use rules::Shape;
 ghost use mathlib.Core.Path.{_≡_};
+ghost use mathlib.Core.List.{[]};
 ghost use Prim.Native.Nat.{_+_, _-_, _*_, _^_, _≤_, _<_};
 ghost use lib.ListN.{length};
-ghost use mathlib.Core.List.{[]};
 ghost use Rattle.octets.specs.Bytes.{splice, flat};
 ghost use Rattle.rules.specs.Read.{lengthFor};
 ghost use Rattle.rules.specs.Image.{tableAt, image, stateOf};
@@ -65,7 +65,16 @@ fn keep_vote(shape: Shape, state: &mut [u8], view: u32, message: &[u8], cast: Ca
     let number = octets::get32(message, at) as usize;
     let normal = cast.normal as u32;
     come_to(shape, state, view, message, cast.entering);
-    places::keep_vote(shape, state, cast.sender, normal, cast.sync, message, at + 4, number);
+    places::keep_vote(
+        shape,
+        state,
+        cast.sender,
+        normal,
+        cast.sync,
+        message,
+        at + 4,
+        number,
+    );
 }
 
 // Takes over the rebuilt log as the draft, with its boundary: status 3.
@@ -166,13 +175,7 @@ fn conclude_aside(
 // ---- kind 8
 
 // Kind 8: a replica's second vote is refused; else it is kept, in a greater view after that is entered. With F+1 votes the log is rebuilt.
-pub fn on_vote(
-    shape: Shape,
-    state: &mut [u8],
-    m: Message,
-    message: &[u8],
-    out: &mut [u8],
-) -> Answer
+pub fn on_vote(shape: Shape, state: &mut [u8], m: Message, message: &[u8], out: &mut [u8]) -> Answer
     requires { ⌜ Ready shape (now state) m (now message) ⌝ }
     ensures { λ r. ⌜ left r (now (state .exit)) (now (out .exit)) ≡ handled 8 onVote shape m (now (state .entry)) (now (message .entry)) (now (out .entry)) ⌝ }
 {

@@ -1,5 +1,6 @@
 -- `arrivals::add_late` meets its contract. Assumes nothing.
 use borrow.Author.Needs.{needs}
+use native.Mathlib.Omega.{arith}
 use Rattle.arrivals.proofs.add_late.Statement.{statement}
 use Rattle.arrivals.proofs.add_late.Tie as tie
 use mathlib.Core.Path.{refl}
@@ -9,16 +10,16 @@ use Rattle.entries.proofs.Table.{decoded, is-table, and-then}
 use Rattle.arrivals.proofs.Midway.{late-here, late-comes}
 
 places-of-requires : tie.Need-places-of-requires
-places-of-requires c κs = search needs
+places-of-requires c κs = (c .before .pre .0 .fits)
 
 sub-append : tie.Need-sub-append
-sub-append c = search needs
+sub-append c = omega arith
 
 part-append-start : tie.Need-part-append-start
-part-append-start c = search needs
+part-append-start c = omega arith
 
 part-append-end : tie.Need-part-append-end
-part-append-end c = search needs
+part-append-end c = omega arith
 
 append-requires : tie.Need-append-requires
 append-requires c κs =

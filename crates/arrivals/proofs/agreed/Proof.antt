@@ -1,23 +1,23 @@
 -- `arrivals::agreed` meets its contract. Assumes nothing.
-use borrow.Author.Needs.{needs}
+use native.Mathlib.Omega.{arith}
 use Rattle.arrivals.proofs.agreed.Statement.{statement}
 use Rattle.arrivals.proofs.agreed.Tie as tie
-use Rattle.rules.specs.State.{Note, agreed, greatest}
+use Rattle.rules.specs.State.{Note, agreed}
 use Rattle.notes.proofs.Notes.{is-notes}
 use mathlib.Core.List.{List}
 use Rattle.arrivals.proofs.Midway.{notes-here, notes-read}
 
 places-of-requires : tie.Need-places-of-requires
-places-of-requires c κs = search needs
+places-of-requires c κs = (c .before .pre .fits)
 
 sub-agreed : tie.Need-sub-agreed
-sub-agreed c = search needs
+sub-agreed c = omega arith
 
 part-agreed-start : tie.Need-part-agreed-start
-part-agreed-start c = search needs
+part-agreed-start c = omega arith
 
 part-agreed-end : tie.Need-part-agreed-end
-part-agreed-end c = search needs
+part-agreed-end c = omega arith
 
 agreed-requires : tie.Need-agreed-requires
 agreed-requires c κs = is-notes _ _ _ _ (notes-here (c .before .before .before .pre) _ _ (c .before .places-of .ensures .notes) (c .before .places-of .ensures .votes))

@@ -4,7 +4,6 @@ use Rattle.arrivals.proofs.follower_takes.Statement.{statement}
 use Rattle.arrivals.proofs.follower_takes.Tie as tie
 use Rattle.arrivals.proofs.Midway.{stands-midway}
 use Rattle.arrivals.proofs.TakeWays.{early-full, early-taken, late-full, late-taken}
-use mathlib.Core.Path.{sym}
 
 may-follow-requires : tie.Need-may-follow-requires
 may-follow-requires c κs = stands-midway (c .before .before .before .pre)

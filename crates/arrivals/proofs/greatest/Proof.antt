@@ -1,23 +1,23 @@
 -- `arrivals::greatest` meets its contract. Assumes nothing.
-use borrow.Author.Needs.{needs}
+use native.Mathlib.Omega.{arith}
 use Rattle.arrivals.proofs.greatest.Statement.{statement}
 use Rattle.arrivals.proofs.greatest.Tie as tie
-use Rattle.rules.specs.State.{Note, agreed, greatest}
+use Rattle.rules.specs.State.{Note, greatest}
 use Rattle.notes.proofs.Notes.{is-notes}
 use mathlib.Core.List.{List}
 use Rattle.arrivals.proofs.Midway.{notes-here, notes-read}
 
 places-of-requires : tie.Need-places-of-requires
-places-of-requires c κs = search needs
+places-of-requires c κs = (c .before .pre .fits)
 
 sub-greatest : tie.Need-sub-greatest
-sub-greatest c = search needs
+sub-greatest c = omega arith
 
 part-greatest-start : tie.Need-part-greatest-start
-part-greatest-start c = search needs
+part-greatest-start c = omega arith
 
 part-greatest-end : tie.Need-part-greatest-end
-part-greatest-end c = search needs
+part-greatest-end c = omega arith
 
 greatest-requires : tie.Need-greatest-requires
 greatest-requires c κs = is-notes _ _ _ _ (notes-here (c .before .before .before .pre) _ _ (c .before .places-of .ensures .notes) (c .before .places-of .ensures .votes))

@@ -1,21 +1,21 @@
 -- `arrivals::in_late` meets its contract. Assumes nothing.
-use borrow.Author.Needs.{needs}
+use native.Mathlib.Omega.{arith}
 use Rattle.arrivals.proofs.in_late.Statement.{statement}
 use Rattle.arrivals.proofs.in_late.Tie as tie
 use Rattle.entries.proofs.Table.{is-table}
 use Rattle.arrivals.proofs.Midway.{late-here, late-among}
 
 places-of-requires : tie.Need-places-of-requires
-places-of-requires c κs = search needs
+places-of-requires c κs = (c .before .pre .fits)
 
 sub-is-among : tie.Need-sub-is-among
-sub-is-among c = search needs
+sub-is-among c = omega arith
 
 part-is-among-start : tie.Need-part-is-among-start
-part-is-among-start c = search needs
+part-is-among-start c = omega arith
 
 part-is-among-end : tie.Need-part-is-among-end
-part-is-among-end c = search needs
+part-is-among-end c = omega arith
 
 is-among-requires : tie.Need-is-among-requires
 is-among-requires c κs = is-table _ _ _ (late-here (c .before .before .before .pre) _ _ (c .before .places-of .ensures .late) (c .before .places-of .ensures .notes))

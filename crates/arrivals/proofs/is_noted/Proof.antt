@@ -1,21 +1,22 @@
 -- `arrivals::is_noted` meets its contract. Assumes nothing.
 use borrow.Author.Needs.{needs}
+use native.Mathlib.Omega.{arith}
 use Rattle.arrivals.proofs.is_noted.Statement.{statement}
 use Rattle.arrivals.proofs.is_noted.Tie as tie
 use Rattle.notes.proofs.Notes.{is-notes}
 use Rattle.arrivals.proofs.Midway.{notes-here, not-noted, was-noted}
 
 places-of-requires : tie.Need-places-of-requires
-places-of-requires c κs = search needs
+places-of-requires c κs = (c .before .pre .0 .fits)
 
 sub-noted : tie.Need-sub-noted
-sub-noted c = search needs
+sub-noted c = omega arith
 
 part-noted-start : tie.Need-part-noted-start
-part-noted-start c = search needs
+part-noted-start c = omega arith
 
 part-noted-end : tie.Need-part-noted-end
-part-noted-end c = search needs
+part-noted-end c = omega arith
 
 noted-requires : tie.Need-noted-requires
 noted-requires c κs = (is-notes _ _ _ _ (notes-here ((c .before .before .before .pre .0)) _ _ (c .before .places-of .ensures .notes) (c .before .places-of .ensures .votes)), (c .before .before .before .pre .1))

@@ -1,5 +1,6 @@
 -- `arrivals::keep_note` meets its contract. Assumes nothing.
 use borrow.Author.Needs.{needs}
+use native.Mathlib.Omega.{arith}
 use Rattle.arrivals.proofs.keep_note.Statement.{statement}
 use Rattle.arrivals.proofs.keep_note.Tie as tie
 use mathlib.Core.Path.{refl, sym}
@@ -13,16 +14,16 @@ use Rattle.notes.proofs.Row.{kept-sized}
 use Rattle.arrivals.proofs.Midway.{notes-here, notes-come}
 
 places-of-requires : tie.Need-places-of-requires
-places-of-requires c κs = search needs
+places-of-requires c κs = (c .before .pre .0 .fits)
 
 sub-keep : tie.Need-sub-keep
-sub-keep c = search needs
+sub-keep c = omega arith
 
 part-keep-start : tie.Need-part-keep-start
-part-keep-start c = search needs
+part-keep-start c = omega arith
 
 part-keep-end : tie.Need-part-keep-end
-part-keep-end c = search needs
+part-keep-end c = omega arith
 
 keep-requires : tie.Need-keep-requires
 keep-requires c κs =

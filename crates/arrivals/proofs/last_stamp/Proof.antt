@@ -1,5 +1,5 @@
 -- `arrivals::last_stamp` meets its contract. Assumes nothing.
-use borrow.Author.Needs.{needs}
+use native.Mathlib.Omega.{arith}
 use Rattle.arrivals.proofs.last_stamp.Statement.{statement}
 use Rattle.arrivals.proofs.last_stamp.Tie as tie
 use mathlib.Core.List.{List}
@@ -9,16 +9,16 @@ use Rattle.entries.proofs.Table.{is-table}
 use Rattle.arrivals.proofs.Midway.{log-here, log-read}
 
 places-of-requires : tie.Need-places-of-requires
-places-of-requires c κs = search needs
+places-of-requires c κs = (c .before .pre .fits)
 
 sub-last-stamp : tie.Need-sub-last-stamp
-sub-last-stamp c = search needs
+sub-last-stamp c = omega arith
 
 part-last-stamp-start : tie.Need-part-last-stamp-start
-part-last-stamp-start c = search needs
+part-last-stamp-start c = omega arith
 
 part-last-stamp-end : tie.Need-part-last-stamp-end
-part-last-stamp-end c = search needs
+part-last-stamp-end c = omega arith
 
 last-stamp-requires : tie.Need-last-stamp-requires
 last-stamp-requires c κs = is-table _ _ _ (log-here (c .before .before .before .pre) _ _ (c .before .places-of .ensures .log) (c .before .places-of .ensures .early))

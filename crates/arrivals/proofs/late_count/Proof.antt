@@ -1,22 +1,21 @@
 -- `arrivals::late_count` meets its contract. Assumes nothing.
-use borrow.Author.Needs.{needs}
+use native.Mathlib.Omega.{arith}
 use Rattle.arrivals.proofs.late_count.Statement.{statement}
 use Rattle.arrivals.proofs.late_count.Tie as tie
 use mathlib.Core.Path.{_∙_}
 use Rattle.arrivals.proofs.Midway.{late-here}
-use native.Mathlib.Omega.{arith}
 
 places-of-requires : tie.Need-places-of-requires
-places-of-requires c κs = search needs
+places-of-requires c κs = (c .before .pre .fits)
 
 sub-count : tie.Need-sub-count
-sub-count c = search needs
+sub-count c = omega arith
 
 part-count-start : tie.Need-part-count-start
-part-count-start c = search needs
+part-count-start c = omega arith
 
 part-count-end : tie.Need-part-count-end
-part-count-end c = search needs
+part-count-end c = omega arith
 
 count-requires : tie.Need-count-requires
 count-requires c κs =

@@ -1,21 +1,21 @@
 -- `arrivals::lift` meets its contract. Assumes nothing.
 use borrow.Author.Needs.{needs}
+use native.Mathlib.Omega.{arith}
 use Rattle.arrivals.proofs.lift.Statement.{statement}
 use Rattle.arrivals.proofs.lift.Tie as tie
-use Rattle.arrivals.proofs.Midway.{early-count, early-room, early-entry, lift-absent, lift-waits, lift-here}
-use native.Mathlib.Omega.{arith}
+use Rattle.arrivals.proofs.Midway.{early-count, early-room, lift-absent, lift-waits, lift-here}
 
 places-of-requires : tie.Need-places-of-requires
-places-of-requires c κs = search needs
+places-of-requires c κs = (c .before .pre .0 .fits)
 
 get32-requires : tie.Need-get32-requires
 get32-requires c κs = search needs
 
 cast-count : tie.Need-cast-count
-cast-count c = search needs
+cast-count c = omega arith
 
 add-find : tie.Need-add-find
-add-find c = search needs
+add-find c = omega arith
 
 find-requires : tie.Need-find-requires
 find-requires c κs = omega (arith, early-room ((c .before .before .before .before .before .pre .0)) _ (c .before .before .before .places-of .ensures .early), (c .before .get32 .ensures))
@@ -27,13 +27,13 @@ returns : tie.Need-returns
 returns c = lift-absent ((c .before .before .before .before .before .before .before .pre .0)) _ (c .before .before .before .before .before .places-of .ensures .early) ((c .before .before .before .before .before .before .before .pre .1)) _ _ _ (c .before .before .before .get32 .ensures) (c .before .find .ensures) (c .if1 .taken)
 
 add-entry-at : tie.Need-add-entry-at
-add-entry-at c = search needs
+add-entry-at c = omega arith
 
 mul-entry-at : tie.Need-mul-entry-at
-mul-entry-at c = search needs
+mul-entry-at c = omega arith
 
 add-entry-at-2 : tie.Need-add-entry-at-2
-add-entry-at-2 c = search needs
+add-entry-at-2 c = omega arith
 
 entry-at-requires : tie.Need-entry-at-requires
 entry-at-requires c κs = omega (arith, early-room ((c .before .before .before .before .before .before .before .before .pre .0)) _ (c .before .before .before .before .before .before .places-of .ensures .early), (c .before .before .before .before .get32 .ensures))

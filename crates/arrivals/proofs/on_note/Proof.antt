@@ -2,7 +2,7 @@
 use borrow.Author.Needs.{needs}
 use Rattle.arrivals.proofs.on_note.Statement.{statement}
 use Rattle.arrivals.proofs.on_note.Tie as tie
-use mathlib.Core.Path.{_≡_, refl, sym, ap, subst}
+use mathlib.Core.Path.{refl}
 use Rattle.rules.specs.Step.{onNote}
 use Rattle.handler.proofs.Closes.{handled-other}
 use Rattle.handler.proofs.OtherKind.{not-tag}

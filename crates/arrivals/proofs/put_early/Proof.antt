@@ -1,26 +1,26 @@
 -- `arrivals::put_early` meets its contract. Assumes nothing.
 use borrow.Author.Needs.{needs}
+use native.Mathlib.Omega.{arith}
 use Rattle.arrivals.proofs.put_early.Statement.{statement}
 use Rattle.arrivals.proofs.put_early.Tie as tie
-use mathlib.Core.Path.{refl, sym, ap}
-use Prim.Native.Nat.{_<_}
+use mathlib.Core.Path.{refl}
 use mathlib.Core.List.{List}
-use lib.ListN.{length, set}
+use lib.ListN.{set}
 use Rattle.rules.specs.declared.Entry.{Entry}
 use Rattle.entries.proofs.Table.{decoded, is-table, and-then}
 use Rattle.arrivals.proofs.Midway.{early-here, early-comes}
 
 places-of-requires : tie.Need-places-of-requires
-places-of-requires c κs = search needs
+places-of-requires c κs = (c .before .pre .0 .fits)
 
 sub-replace-at : tie.Need-sub-replace-at
-sub-replace-at c = search needs
+sub-replace-at c = omega arith
 
 part-replace-at-start : tie.Need-part-replace-at-start
-part-replace-at-start c = search needs
+part-replace-at-start c = omega arith
 
 part-replace-at-end : tie.Need-part-replace-at-end
-part-replace-at-end c = search needs
+part-replace-at-end c = omega arith
 
 replace-at-requires : tie.Need-replace-at-requires
 replace-at-requires c κs =

@@ -1,5 +1,5 @@
 -- `arrivals::room_for_note` meets its contract. Assumes nothing.
-use borrow.Author.Needs.{needs}
+use native.Mathlib.Omega.{arith}
 use Rattle.arrivals.proofs.room_for_note.Statement.{statement}
 use Rattle.arrivals.proofs.room_for_note.Tie as tie
 use mathlib.Core.Path.{ap}
@@ -12,16 +12,16 @@ use Rattle.notes.proofs.Notes.{is-notes}
 use Rattle.arrivals.proofs.Midway.{notes-here, notes-read}
 
 places-of-requires : tie.Need-places-of-requires
-places-of-requires c κs = search needs
+places-of-requires c κs = (c .before .pre .fits)
 
 sub-find : tie.Need-sub-find
-sub-find c = search needs
+sub-find c = omega arith
 
 part-find-start : tie.Need-part-find-start
-part-find-start c = search needs
+part-find-start c = omega arith
 
 part-find-end : tie.Need-part-find-end
-part-find-end c = search needs
+part-find-end c = omega arith
 
 find-requires : tie.Need-find-requires
 find-requires c κs = is-notes _ _ _ _ (notes-here (c .before .before .before .pre) _ _ (c .before .places-of .ensures .notes) (c .before .places-of .ensures .votes))

@@ -1,5 +1,4 @@
 -- `arrivals::stamped` meets its contract. Assumes nothing.
-use borrow.Author.Needs.{needs}
 use Rattle.arrivals.proofs.stamped.Statement.{statement}
 use Rattle.arrivals.proofs.stamped.Tie as tie
 use mathlib.Core.Path.{refl}

@@ -2,7 +2,7 @@
 use borrow.Author.Needs.{needs}
 use Rattle.arrivals.proofs.tell_notes.Statement.{statement}
 use Rattle.arrivals.proofs.tell_notes.Tie as tie
-use mathlib.Core.Path.{_≡_, ap, _∙_}
+use mathlib.Core.Path.{ap, _∙_}
 use native.Mathlib.Omega.{arith}
 use lib.ListN.{length}
 use Rattle.rules.proofs.Entries.{EntryFits, long-entry}

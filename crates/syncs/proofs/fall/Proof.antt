@@ -1,6 +1,4 @@
 -- `syncs::fall` meets its contract: one law for each way out. Assumes nothing.
-use native.Mathlib.Omega.{arith}
-use mathlib.Core.Path.{_≡_, refl, sym, ap, _∙_}
 use mathlib.Core.Bool.{true}
 use borrow.Author.Tests.{not-true, not-false}
 use Rattle.syncs.specs.Synced.{logIn, chosen}

@@ -1,6 +1,6 @@
 -- `syncs::fall_late` meets its contract. The invariant: of the early entries passed, those that fall stand after the last of late. Assumes nothing.
 use Prim.Native.Nat.{_≤_, _-_}
-use mathlib.Core.Path.{_≡_, refl, sym, ap, _∙_}
+use mathlib.Core.Path.{_≡_, refl, _∙_}
 use mathlib.Core.Bool.{true}
 use mathlib.Core.List.{_++_}
 use native.Mathlib.Omega.{arith}
@@ -8,7 +8,7 @@ use lib.ListN.{length, take}
 use Rattle.rules.specs.Choice.{keep}
 use Rattle.syncs.specs.Synced.{logIn, chosen}
 use Rattle.syncs.specs.Buffers.{BothHold, earlyIn, lateIn}
-use Rattle.syncs.proofs.Buffers.{is-both, both-count, fall-start, fall-turn, fall-end, fall-asked}
+use Rattle.syncs.proofs.Buffers.{both-count, fall-start, fall-turn, fall-end, fall-asked}
 use borrow.Author.Needs.{needs}
 use Rattle.syncs.proofs.fall_late.Statement.{statement}
 use Rattle.syncs.proofs.fall_late.Tie as tie

@@ -1,7 +1,5 @@
 -- `syncs::late_after` meets its contract. Assumes nothing.
-use Prim.Native.Nat.{_≤_}
 use native.Mathlib.Omega.{arith}
-use lib.ListN.{length}
 use Rattle.syncs.proofs.Buffers.{first-asked, last-asked, counted, counted-fits}
 use borrow.Author.Needs.{needs}
 use Rattle.syncs.proofs.late_after.Statement.{statement}

@@ -1,6 +1,6 @@
 -- `syncs::late_length` meets its contract. Assumes nothing.
 use Prim.Native.Nat.{_+_, _*_, _-_}
-use mathlib.Core.Path.{_≡_, _∙_}
+use mathlib.Core.Path.{_≡_}
 use native.Mathlib.Omega.{arith}
 use Rattle.syncs.specs.Synced.{logIn}
 use Rattle.syncs.proofs.Home.{is-both, late-said}

@@ -37,7 +37,7 @@ loop-less : tie.Need-loop-less Inv-loop μ-loop
 loop-less c = omega arith
 
 loop-again : tie.Need-loop-again Inv-loop μ-loop
-loop-again c = 
+loop-again c =
     let l = c .before .before .before .before .before .loop in
     let k = c .before .before .sift .ensures in
     let w = table-turn _ _ (l .i) (l .kept) _ _ _ _ (l .inv .4) (omega arith) (k .0) (k .1) in
@@ -50,7 +50,7 @@ same-length : tie.Need-same-length Inv-loop μ-loop
 same-length c = search needs
 
 returns : tie.Need-returns Inv-loop μ-loop
-returns c = 
+returns c =
     let l = c .before .before .before .before .before .loop in
     subst (λ (ds : List Entry). Holds (c .before .before .before .before .before .before .before .before .before .before .before .args .c) ds (c .before .before .truncate .last .0)) (sift-end _ _ (l .i) (l .kept) _ (l .inv .4) (omega arith)) (c .before .before .truncate .ensures)
 

@@ -1,6 +1,5 @@
 -- `syncs::slow_length` meets its contract. Assumes nothing.
-use Prim.Native.Nat.{_-_, _≤_}
-use mathlib.Core.Path.{_≡_, ap₂, _∙_}
+use Prim.Native.Nat.{_-_}
 use native.Mathlib.Omega.{arith}
 use Rattle.places.proofs.Head.{sync-of}
 use Rattle.syncs.proofs.Slow.{product}

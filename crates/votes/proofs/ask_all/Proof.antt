@@ -1,20 +1,12 @@
-use borrow.Author.Needs.{needs}
-use Rattle.votes.proofs.ask_all.Statement.{statement}
-use Rattle.votes.proofs.ask_all.Tie as tie
-use Rattle.votes.proofs.ask_all.Reads as reads
-use Rattle.votes.proofs.ask_all.Lts as lts
-use Rattle.handler.proofs.count_others.Reads as count-others-reads
-use Rattle.votes.proofs.all_groups.Reads as all-groups-reads
-use Rattle.votes.proofs.keep_vote.Reads as keep-vote-reads
-use Rattle.votes.proofs.take_draft.Reads as take-draft-reads
-use Rattle.votes.proofs.tell_all.Reads as tell-all-reads
-use Rattle.wire.proofs.kinds.length_for.Reads as length-for-reads
-use Prim.Native.Nat.{_+_, _*_, _^_, _≤_, _<_}
-use mathlib.Core.Path.{_≡_, _∙_}
+-- `votes::ask_all` meets its contract: one law for each way through it. Assumes nothing.
+use Prim.Native.Nat.{_^_, _<_}
 use native.Mathlib.Omega.{arith}
 use native.Mathlib.Nat.{mul-le-mul}
+use borrow.Author.Needs.{needs}
 use Rattle.octets.proofs.Laws.{bytes-known}
 use Rattle.votes.proofs.AskWays.{ask-need, ask-short, ask-tells, ask-sent}
+use Rattle.votes.proofs.ask_all.Statement.{statement}
+use Rattle.votes.proofs.ask_all.Tie as tie
 
 all-groups-requires : tie.Need-all-groups-requires
 all-groups-requires c κs = search needs
@@ -74,4 +66,3 @@ ask-all-spec =
     same-length-2
     same-length-3
     returns-2)
-

@@ -1,10 +1,8 @@
+-- `votes::come_to` meets its contract. Assumes nothing.
 use borrow.Author.Needs.{needs}
+use Rattle.votes.proofs.Came.{stays, enters}
 use Rattle.votes.proofs.come_to.Statement.{statement}
 use Rattle.votes.proofs.come_to.Tie as tie
-use Rattle.votes.proofs.come_to.Reads as reads
-use Rattle.votes.proofs.come_to.Lts as lts
-use Rattle.changes.proofs.enter.Reads as enter-reads
-use Rattle.votes.proofs.Came.{stays, enters}
 
 returns : tie.Need-returns
 returns c = stays _ _ _ _ (c .before .before .before .args .entering) ((c .before .before .before .pre) .0) (c .if1 .taken)
@@ -20,4 +18,3 @@ returns-2 c = enters _ _ _ _ (c .before .before .before .before .before .before 
 
 pub come-to-spec : {M : Type 1} → statement M
 come-to-spec = tie.close (tie.spec returns enter-requires same-length returns-2)
-

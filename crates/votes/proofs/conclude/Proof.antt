@@ -1,15 +1,11 @@
-use borrow.Author.Needs.{needs}
-use Rattle.votes.proofs.conclude.Statement.{statement}
-use Rattle.votes.proofs.conclude.Tie as tie
-use Rattle.votes.proofs.conclude.Reads as reads
-use Rattle.votes.proofs.conclude.Lts as lts
-use Rattle.changes.proofs.start_leading.Reads as start-leading-reads
-use Rattle.rebuild.proofs.rebuild.Reads as rebuild-reads
-use Rattle.votes.proofs.ask_all.Reads as ask-all-reads
+-- `votes::conclude` meets its contract: one law for each way through it. Assumes nothing.
 use Prim.Native.Nat.{_^_, _<_}
 use native.Mathlib.Omega.{arith}
+use borrow.Author.Needs.{needs}
 use Rattle.octets.proofs.Laws.{bytes-known}
 use Rattle.votes.proofs.ConcludeWays.{conclude-long, conclude-table, conclude-one, conclude-more}
+use Rattle.votes.proofs.conclude.Statement.{statement}
+use Rattle.votes.proofs.conclude.Tie as tie
 
 rebuild-requires : tie.Need-rebuild-requires
 rebuild-requires c κs = search needs
@@ -89,4 +85,3 @@ conclude-spec =
     same-length-7
     same-length-8
     returns-3)
-

@@ -1,11 +1,9 @@
+-- `votes::conclude_aside` meets its contract. Assumes nothing.
+use mathlib.Core.Path.{refl}
 use borrow.Author.Needs.{needs}
+use Rattle.votes.proofs.ConcludeWays.{aside-long}
 use Rattle.votes.proofs.conclude_aside.Statement.{statement}
 use Rattle.votes.proofs.conclude_aside.Tie as tie
-use Rattle.votes.proofs.conclude_aside.Reads as reads
-use Rattle.votes.proofs.conclude_aside.Lts as lts
-use Rattle.votes.proofs.conclude.Reads as conclude-reads
-use mathlib.Core.Path.{refl}
-use Rattle.votes.proofs.ConcludeWays.{aside-long}
 
 mul-end : tie.Need-mul-end
 mul-end c = search needs
@@ -47,4 +45,3 @@ conclude-aside-spec =
     same-length
     same-length-2
     returns)
-

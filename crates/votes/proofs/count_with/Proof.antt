@@ -1,7 +1,7 @@
 -- `votes::count_with` meets its contract. Assumes nothing.
 use native.Mathlib.Omega.{arith}
-use Rattle.votes.proofs.Counted.{count-entering, count-small, count-kept}
 use borrow.Author.Needs.{needs}
+use Rattle.votes.proofs.Counted.{count-entering, count-small, count-kept}
 use Rattle.votes.proofs.count_with.Statement.{statement}
 use Rattle.votes.proofs.count_with.Tie as tie
 

@@ -1,6 +1,6 @@
 -- `votes::is_second` meets its contract. Assumes nothing.
-use Rattle.votes.proofs.Counted.{second-kept}
 use borrow.Author.Needs.{needs}
+use Rattle.votes.proofs.Counted.{second-kept}
 use Rattle.votes.proofs.is_second.Statement.{statement}
 use Rattle.votes.proofs.is_second.Tie as tie
 

@@ -1,16 +1,12 @@
-use borrow.Author.Needs.{needs}
-use Rattle.votes.proofs.keep_vote.Statement.{statement}
-use Rattle.votes.proofs.keep_vote.Tie as tie
-use Rattle.votes.proofs.keep_vote.Reads as reads
-use Rattle.votes.proofs.keep_vote.Lts as lts
-use Rattle.octets.proofs.get32.Reads as get32-reads
-use Rattle.places.proofs.keep_vote.Reads as keep-vote-reads
-use Rattle.votes.proofs.come_to.Reads as come-to-reads
+-- `votes::keep_vote` meets its contract. Assumes nothing.
 use Prim.Native.Nat.{_^_, _<_}
 use mathlib.Core.Path.{refl}
 use native.Mathlib.Omega.{arith}
+use borrow.Author.Needs.{needs}
 use Rattle.octets.proofs.Laws.{bytes-known}
 use Rattle.votes.proofs.Came.{kept}
+use Rattle.votes.proofs.keep_vote.Statement.{statement}
+use Rattle.votes.proofs.keep_vote.Tie as tie
 
 get32-requires : tie.Need-get32-requires
 get32-requires c κs = search needs
@@ -50,4 +46,3 @@ keep-vote-spec =
     keep-vote-requires
     same-length
     returns)
-

@@ -1,22 +1,13 @@
-use borrow.Author.Needs.{needs}
-use Rattle.votes.proofs.on_vote.Statement.{statement}
-use Rattle.votes.proofs.on_vote.Tie as tie
-use Rattle.votes.proofs.on_vote.Reads as reads
-use Rattle.votes.proofs.on_vote.Lts as lts
-use Rattle.octets.proofs.get32.Reads as get32-reads
-use Rattle.places.proofs.get_view.Reads as get-view-reads
-use Rattle.rules.proofs.GroupSize.majority.Reads as majority-reads
-use Rattle.votes.proofs.conclude_aside.Reads as conclude-aside-reads
-use Rattle.votes.proofs.count_with.Reads as count-with-reads
-use Rattle.votes.proofs.is_second.Reads as is-second-reads
-use Rattle.votes.proofs.keep_vote.Reads as keep-vote-reads
-use Rattle.wire.proofs.kinds.entries_at.Reads as entries-at-reads
+-- `votes::on_vote` meets its contract: one law for each way through it. Assumes nothing.
 use mathlib.Core.Path.{refl}
+use borrow.Author.Needs.{needs}
 use Rattle.octets.proofs.Laws.{bytes-known}
 use Rattle.rules.specs.Step.{onVote}
 use Rattle.handler.proofs.Closes.{handled-other}
 use Rattle.handler.proofs.OtherKind.{not-tag}
 use Rattle.votes.proofs.VoteWays.{vote-counted, vote-sender, vote-second, vote-past, vote-kept, vote-few, vote-enough}
+use Rattle.votes.proofs.on_vote.Statement.{statement}
+use Rattle.votes.proofs.on_vote.Tie as tie
 
 enum-known-m : tie.Need-enum-known-m
 enum-known-m c = search needs
@@ -106,4 +97,3 @@ on-vote-spec =
     same-length-4
     same-length-5
     returns-5)
-

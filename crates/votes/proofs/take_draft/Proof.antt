@@ -1,14 +1,8 @@
+-- `votes::take_draft` meets its contract. Assumes nothing.
 use borrow.Author.Needs.{needs}
+use Rattle.votes.proofs.Came.{draft-taken}
 use Rattle.votes.proofs.take_draft.Statement.{statement}
 use Rattle.votes.proofs.take_draft.Tie as tie
-use Rattle.votes.proofs.take_draft.Reads as reads
-use Rattle.votes.proofs.take_draft.Lts as lts
-use Rattle.entries.proofs.count.Reads as count-reads
-use Rattle.places.proofs.places_of.Reads as places-of-reads
-use Rattle.places.proofs.put_boundary.Reads as put-boundary-reads
-use Rattle.places.proofs.put_status.Reads as put-status-reads
-use Rattle.places.proofs.put_table.Reads as put-table-reads
-use Rattle.votes.proofs.Came.{draft-taken}
 
 places-of-requires : tie.Need-places-of-requires
 places-of-requires c κs = search needs
@@ -42,4 +36,3 @@ take-draft-spec =
     put-status-requires
     same-length
     returns)
-

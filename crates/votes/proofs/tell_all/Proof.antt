@@ -1,11 +1,9 @@
+-- `votes::tell_all` meets its contract. Assumes nothing.
+use mathlib.Core.Path.{refl}
 use borrow.Author.Needs.{needs}
+use Rattle.handler.proofs.Leaders.{asks-verify}
 use Rattle.votes.proofs.tell_all.Statement.{statement}
 use Rattle.votes.proofs.tell_all.Tie as tie
-use Rattle.votes.proofs.tell_all.Reads as reads
-use Rattle.votes.proofs.tell_all.Lts as lts
-use Rattle.handler.proofs.tell_leaders.Reads as tell-leaders-reads
-use mathlib.Core.Path.{refl}
-use Rattle.handler.proofs.Leaders.{asks-verify}
 
 sub-tell-leaders : tie.Need-sub-tell-leaders
 sub-tell-leaders c = search needs
@@ -35,4 +33,3 @@ tell-all-spec =
     tell-leaders-requires
     same-length
     returns)
-

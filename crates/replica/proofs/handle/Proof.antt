@@ -1,0 +1,265 @@
+-- `replica::handle` meets its contract: the handler of each kind. Assumes nothing.
+use mathlib.Core.Path.{ap}
+use Rattle.rules.specs.Wire.{tagOf}
+use Rattle.rules.specs.Step.{onTransaction, onNote, onReplicaSync, onChangeView, onVote, onStartView, onSyncStatus, onCommit, onVerifyRequest, onVerifyReply, onTick}
+use Rattle.replica.proofs.Ways.{transactions, notes, syncs, changes, votes, starts, statuses, commits, requests, replies, ticks, by-kind, no-message, fast-reply, slow-reply, by-none}
+use borrow.Author.Needs.{needs}
+use Rattle.replica.proofs.handle.Statement.{statement}
+use Rattle.replica.proofs.handle.Tie as tie
+
+enum-told : tie.Need-enum-told
+enum-told c = search needs
+
+enum-told-2 : tie.Need-enum-told-2
+enum-told-2 c = search needs
+
+enum-told-3 : tie.Need-enum-told-3
+enum-told-3 c = search needs
+
+enum-told-4 : tie.Need-enum-told-4
+enum-told-4 c = search needs
+
+enum-told-5 : tie.Need-enum-told-5
+enum-told-5 c = search needs
+
+on-transaction-requires : tie.Need-on-transaction-requires
+on-transaction-requires c κs = search needs
+
+enum-told-6 : tie.Need-enum-told-6
+enum-told-6 c = search needs
+
+on-note-requires : tie.Need-on-note-requires
+on-note-requires c κs = search needs
+
+enum-told-7 : tie.Need-enum-told-7
+enum-told-7 c = search needs
+
+on-replica-sync-requires : tie.Need-on-replica-sync-requires
+on-replica-sync-requires c κs = search needs
+
+enum-told-8 : tie.Need-enum-told-8
+enum-told-8 c = search needs
+
+on-change-view-requires : tie.Need-on-change-view-requires
+on-change-view-requires c κs = search needs
+
+enum-told-9 : tie.Need-enum-told-9
+enum-told-9 c = search needs
+
+on-vote-requires : tie.Need-on-vote-requires
+on-vote-requires c κs = search needs
+
+enum-told-10 : tie.Need-enum-told-10
+enum-told-10 c = search needs
+
+on-start-view-requires : tie.Need-on-start-view-requires
+on-start-view-requires c κs = search needs
+
+enum-told-11 : tie.Need-enum-told-11
+enum-told-11 c = search needs
+
+on-sync-status-requires : tie.Need-on-sync-status-requires
+on-sync-status-requires c κs = search needs
+
+enum-told-12 : tie.Need-enum-told-12
+enum-told-12 c = search needs
+
+on-commit-requires : tie.Need-on-commit-requires
+on-commit-requires c κs = search needs
+
+enum-told-13 : tie.Need-enum-told-13
+enum-told-13 c = search needs
+
+on-verify-request-requires : tie.Need-on-verify-request-requires
+on-verify-request-requires c κs = search needs
+
+enum-told-14 : tie.Need-enum-told-14
+enum-told-14 c = search needs
+
+on-verify-reply-requires : tie.Need-on-verify-reply-requires
+on-verify-reply-requires c κs = search needs
+
+enum-told-15 : tie.Need-enum-told-15
+enum-told-15 c = search needs
+
+on-tick-requires : tie.Need-on-tick-requires
+on-tick-requires c κs = search needs
+
+returns : tie.Need-returns
+returns c = by-none 0 no-message _ (c .before .before .before .before .before .args .m) _ (c .before .before .before .before .before .args .message .now) _ (ap tagOf (c .enum-told .given .1))
+
+returns-2 : tie.Need-returns-2
+returns-2 c = by-none 0 no-message _ (c .before .before .before .before .before .args .m) _ (c .before .before .before .before .before .args .message .now) _ (ap tagOf (c .enum-told2 .given .1))
+
+returns-3 : tie.Need-returns-3
+returns-3 c = by-none 5 fast-reply _ (c .before .before .before .before .before .args .m) _ (c .before .before .before .before .before .args .message .now) _ (ap tagOf (c .enum-told3 .given .1))
+
+returns-4 : tie.Need-returns-4
+returns-4 c = by-none 6 slow-reply _ (c .before .before .before .before .before .args .m) _ (c .before .before .before .before .before .args .message .now) _ (ap tagOf (c .enum-told4 .given .1))
+
+same-length : tie.Need-same-length
+same-length c = search needs
+
+same-length-2 : tie.Need-same-length-2
+same-length-2 c = search needs
+
+returns-5 : tie.Need-returns-5
+returns-5 c = by-kind 1 onTransaction transactions _ _ _ _ _ _ (ap tagOf (c .before .before .before .before .before .before .before .enum-told5 .given .1)) (c .before .before .before .before .on-transaction .ensures)
+
+same-length-3 : tie.Need-same-length-3
+same-length-3 c = search needs
+
+same-length-4 : tie.Need-same-length-4
+same-length-4 c = search needs
+
+returns-6 : tie.Need-returns-6
+returns-6 c = by-kind 3 onNote notes _ _ _ _ _ _ (ap tagOf (c .before .before .before .before .before .before .before .enum-told6 .given .1)) (c .before .before .before .before .on-note .ensures)
+
+same-length-5 : tie.Need-same-length-5
+same-length-5 c = search needs
+
+same-length-6 : tie.Need-same-length-6
+same-length-6 c = search needs
+
+returns-7 : tie.Need-returns-7
+returns-7 c = by-kind 4 onReplicaSync syncs _ _ _ _ _ _ (ap tagOf (c .before .before .before .before .before .before .before .enum-told7 .given .1)) (c .before .before .before .before .on-replica-sync .ensures)
+
+same-length-7 : tie.Need-same-length-7
+same-length-7 c = search needs
+
+same-length-8 : tie.Need-same-length-8
+same-length-8 c = search needs
+
+returns-8 : tie.Need-returns-8
+returns-8 c = by-kind 7 onChangeView changes _ _ _ _ _ _ (ap tagOf (c .before .before .before .before .before .before .before .enum-told8 .given .1)) (c .before .before .before .before .on-change-view .ensures)
+
+same-length-9 : tie.Need-same-length-9
+same-length-9 c = search needs
+
+same-length-10 : tie.Need-same-length-10
+same-length-10 c = search needs
+
+returns-9 : tie.Need-returns-9
+returns-9 c = by-kind 8 onVote votes _ _ _ _ _ _ (ap tagOf (c .before .before .before .before .before .before .before .enum-told9 .given .1)) (c .before .before .before .before .on-vote .ensures)
+
+same-length-11 : tie.Need-same-length-11
+same-length-11 c = search needs
+
+same-length-12 : tie.Need-same-length-12
+same-length-12 c = search needs
+
+returns-10 : tie.Need-returns-10
+returns-10 c = by-kind 9 onStartView starts _ _ _ _ _ _ (ap tagOf (c .before .before .before .before .before .before .before .enum-told10 .given .1)) (c .before .before .before .before .on-start-view .ensures)
+
+same-length-13 : tie.Need-same-length-13
+same-length-13 c = search needs
+
+same-length-14 : tie.Need-same-length-14
+same-length-14 c = search needs
+
+returns-11 : tie.Need-returns-11
+returns-11 c = by-kind 10 onSyncStatus statuses _ _ _ _ _ _ (ap tagOf (c .before .before .before .before .before .before .before .enum-told11 .given .1)) (c .before .before .before .before .on-sync-status .ensures)
+
+same-length-15 : tie.Need-same-length-15
+same-length-15 c = search needs
+
+same-length-16 : tie.Need-same-length-16
+same-length-16 c = search needs
+
+returns-12 : tie.Need-returns-12
+returns-12 c = by-kind 11 onCommit commits _ _ _ _ _ _ (ap tagOf (c .before .before .before .before .before .before .before .enum-told12 .given .1)) (c .before .before .before .before .on-commit .ensures)
+
+same-length-17 : tie.Need-same-length-17
+same-length-17 c = search needs
+
+same-length-18 : tie.Need-same-length-18
+same-length-18 c = search needs
+
+returns-13 : tie.Need-returns-13
+returns-13 c = by-kind 18 onVerifyRequest requests _ _ _ _ _ _ (ap tagOf (c .before .before .before .before .before .enum-told13 .given .1)) (c .before .before .on-verify-request .ensures)
+
+same-length-19 : tie.Need-same-length-19
+same-length-19 c = search needs
+
+same-length-20 : tie.Need-same-length-20
+same-length-20 c = search needs
+
+returns-14 : tie.Need-returns-14
+returns-14 c = by-kind 19 onVerifyReply replies _ _ _ _ _ _ (ap tagOf (c .before .before .before .before .before .before .before .enum-told14 .given .1)) (c .before .before .before .before .on-verify-reply .ensures)
+
+same-length-21 : tie.Need-same-length-21
+same-length-21 c = search needs
+
+same-length-22 : tie.Need-same-length-22
+same-length-22 c = search needs
+
+returns-15 : tie.Need-returns-15
+returns-15 c = by-kind 23 onTick ticks _ _ _ _ _ _ (ap tagOf (c .before .before .before .before .before .before .before .enum-told15 .given .1)) (c .before .before .before .before .on-tick .ensures)
+
+pub handle-spec : {M : Type 1} → statement M
+handle-spec =
+    tie.close
+    (tie.spec
+    enum-told
+    enum-told-2
+    enum-told-3
+    enum-told-4
+    enum-told-5
+    on-transaction-requires
+    enum-told-6
+    on-note-requires
+    enum-told-7
+    on-replica-sync-requires
+    enum-told-8
+    on-change-view-requires
+    enum-told-9
+    on-vote-requires
+    enum-told-10
+    on-start-view-requires
+    enum-told-11
+    on-sync-status-requires
+    enum-told-12
+    on-commit-requires
+    enum-told-13
+    on-verify-request-requires
+    enum-told-14
+    on-verify-reply-requires
+    enum-told-15
+    on-tick-requires
+    returns
+    returns-2
+    returns-3
+    returns-4
+    same-length
+    same-length-2
+    returns-5
+    same-length-3
+    same-length-4
+    returns-6
+    same-length-5
+    same-length-6
+    returns-7
+    same-length-7
+    same-length-8
+    returns-8
+    same-length-9
+    same-length-10
+    returns-9
+    same-length-11
+    same-length-12
+    returns-10
+    same-length-13
+    same-length-14
+    returns-11
+    same-length-15
+    same-length-16
+    returns-12
+    same-length-17
+    same-length-18
+    returns-13
+    same-length-19
+    same-length-20
+    returns-14
+    same-length-21
+    same-length-22
+    returns-15)

@@ -1,0 +1,2 @@
+-- What the handler of verify reply cites.
+pub mod Replies
