@@ -87,7 +87,7 @@ fn entry(state: &mut [u8], table: usize, i: usize, stamp: u64, request: u64, mas
     put(state, at + 22, 2, mask);
 }
 
-// Writes whose note it is, the note of a transaction of coordinator 7.
+// Writes for which transaction of coordinator 7 note i is.
 fn note(state: &mut [u8], i: usize, request: u64) {
     if 16 <= i {
         return;
@@ -110,18 +110,21 @@ fn noted(state: &mut [u8], i: usize, j: usize, stamp: u64) {
     put(state, at + 1, 8, stamp);
 }
 
-// The head and gVec. In view 5 replica 2 leads group 1, in view 6 it does not.
-fn head(state: &mut [u8], status: u64, normal: u64, sync: u64, commit: u64, own_view: u64) {
-    put(state, 2, 1, status);
+// The views. In view 5 replica 2 leads group 1, in view 6 it does not.
+fn views(state: &mut [u8], normal: u64, own_view: u64) {
     put(state, 8, 4, 5);
     put(state, 12, 4, normal);
+    put(state, VIEWS, 4, 3);
+    put(state, VIEWS + 4, 4, own_view);
+    put(state, VIEWS + 8, 4, 4);
+}
+
+// Clock, points and boundary.
+fn points(state: &mut [u8], sync: u64, commit: u64) {
     put(state, 16, 8, 50);
     put(state, 24, 8, sync);
     put(state, 32, 8, commit);
     put(state, 40, 8, 10);
-    put(state, VIEWS, 4, 3);
-    put(state, VIEWS + 4, 4, own_view);
-    put(state, VIEWS + 8, 4, 4);
 }
 
 // Three entries logged; the last two have one timestamp.
@@ -146,13 +149,18 @@ fn late(state: &mut [u8]) {
     entry(state, LATE, 1, 7, 7, 6);
 }
 
-// The notes of both early entries, and one that came before its transaction.
-fn notes(state: &mut [u8]) {
-    put(state, NOTES, 4, 3);
+// The note of the first early entry.
+fn first_note(state: &mut [u8]) {
     note(state, 0, 4);
     noted(state, 0, 0, 30);
     noted(state, 0, 1, 25);
     noted(state, 0, 2, 28);
+}
+
+// The notes of both early entries, and one that came before its transaction.
+fn notes(state: &mut [u8]) {
+    put(state, NOTES, 4, 3);
+    first_note(state);
     note(state, 1, 5);
     noted(state, 1, 1, 20);
     note(state, 2, 8);
@@ -207,21 +215,18 @@ fn full_notes(state: &mut [u8]) {
     }
 }
 
-// A follower with every table full.
-fn full(state: &mut [u8]) {
-    head(state, 1, 5, 2, 1, 6);
+// Every table full.
+fn full_tables(state: &mut [u8]) {
     full_table(state, LOG, 100);
     full_table(state, EARLY, 200);
     full_table(state, LATE, 300);
     full_notes(state);
-    vote(state);
     full_table(state, VOTE_LOG, 100);
-    draft_and_reply(state);
     full_table(state, DRAFT, 100);
     full_table(state, REPLY_LOG, 100);
 }
 
-// What all but the fresh and the full one hold. Nothing forbids a vote, a draft or a reply in any status.
+// What all but the fresh one hold. Nothing forbids a vote, a draft or a reply in any status.
 fn held(state: &mut [u8]) {
     late(state);
     notes(state);
@@ -229,35 +234,50 @@ fn held(state: &mut [u8]) {
     draft_and_reply(state);
 }
 
-// A follower: its sync point may be below its log length, and its early entries need no notes.
-fn follower(state: &mut [u8]) {
-    head(state, 1, 5, 2, 1, 6);
-    log(state);
-    early(state);
+// A follower, without log and early buffer.
+fn follower(state: &mut [u8], sync: u64, commit: u64) {
+    views(state, 5, 6);
+    points(state, sync, commit);
     held(state);
+}
+
+// A follower with a log. Its sync point may be below its log length, and its early entries need no notes.
+fn logged(state: &mut [u8]) {
+    follower(state, 2, 1);
+    log(state);
 }
 
 // A leader, in a status, with a last normal gView and a sync point.
 fn leader(state: &mut [u8], status: u64, normal: u64, sync: u64) {
-    head(state, status, normal, sync, 1, 5);
+    put(state, 2, 1, status);
+    views(state, normal, 5);
+    points(state, sync, 1);
     heard(state);
     log(state);
     early(state);
     held(state);
 }
 
-// A follower without early entries.
-fn without_early(state: &mut [u8]) {
-    head(state, 1, 5, 2, 1, 6);
-    log(state);
-    held(state);
-}
-
-// A follower without a log.
-fn without_log(state: &mut [u8]) {
-    head(state, 1, 5, 0, 0, 6);
-    early(state);
-    held(state);
+// A follower with all of it, or without early entries, without a log, with every table full.
+fn followers(base: u64, state: &mut [u8]) {
+    if base == FOLLOWER {
+        logged(state);
+        early(state);
+        return;
+    }
+    if base == NO_EARLY {
+        logged(state);
+        return;
+    }
+    if base == NO_LOG {
+        follower(state, 0, 0);
+        early(state);
+        return;
+    }
+    if base == FULL {
+        follower(state, 2, 1);
+        full_tables(state);
+    }
 }
 
 // Writes one of the states into zeros.
@@ -266,13 +286,9 @@ pub fn build(base: u64, state: &mut [u8]) {
     put(state, 1, 1, 2);
     put(state, 2, 1, 1);
     match base {
-        0 => put(state, 2, 1, 1),
         1 => leader(state, 1, 5, 3),
-        2 => follower(state),
         3 => leader(state, 2, 4, 2),
         4 => leader(state, 3, 4, 2),
-        5 => without_early(state),
-        6 => without_log(state),
-        _ => full(state),
+        _ => followers(base, state),
     }
 }
