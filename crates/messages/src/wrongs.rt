@@ -72,7 +72,16 @@ fn transactions(failed: u64) -> u64 {
     failed = wrong(failed, b"kind 1, two entries", 1, 36, 2, 36);
     failed = wrong(failed, b"kind 1, timestamp 1", 1, 40, 1, 40);
     failed = wrong(failed, b"kind 1, request 0", 1, 56, 0, 56);
-    failed = both(failed, b"kind 1, coordinator 65535", 1, 60, 255, 61, 255, 60);
+    failed = both(
+        failed,
+        b"kind 1, coordinator 65535",
+        1,
+        60,
+        255,
+        61,
+        255,
+        60,
+    );
     failed = wrong(failed, b"kind 1, not of its group", 1, 62, 2, 62);
     failed = wrong(failed, b"kind 1, of group S", 1, 62, 5, 62);
     failed = wrong(failed, b"kind 3, not of the sender's group", 3, 54, 1, 54);
@@ -101,7 +110,14 @@ fn logs(failed: u64) -> u64 {
     failed = wrong(failed, b"kind 8, sync point 3 of 2", 8, 36, 3, 44);
     failed = wrong(failed, b"kind 9, a transaction twice", 9, 72, 1, 56);
     failed = wrong(failed, b"kind 9, request 0", 9, 72, 0, 72);
-    wrong(failed, b"kind 19, second not of the sender's group", 19, 78, 1, 78)
+    wrong(
+        failed,
+        b"kind 19, second not of the sender's group",
+        19,
+        78,
+        1,
+        78,
+    )
 }
 
 // The kinds with no entry.

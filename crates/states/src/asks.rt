@@ -12,8 +12,8 @@ fn asked(
     base: u64,
     part: &[u8],
     name: &[u8],
-    at: usize,
-    width: usize,
+    at: u64,
+    width: u64,
     value: u64,
     want: u64,
 ) -> u64 {
@@ -31,8 +31,8 @@ pub fn part_broken(
     base: u64,
     part: &[u8],
     name: &[u8],
-    at: usize,
-    width: usize,
+    at: u64,
+    width: u64,
     value: u64,
 ) -> u64 {
     asked(failed, base, part, name, at, width, value, 0)
@@ -44,19 +44,19 @@ pub fn part_good(
     base: u64,
     part: &[u8],
     name: &[u8],
-    at: usize,
-    width: usize,
+    at: u64,
+    width: u64,
     value: u64,
 ) -> u64 {
     asked(failed, base, part, name, at, width, value, 1)
 }
 
 // A conjunct is broken: no good state.
-pub fn broken(failed: u64, base: u64, name: &[u8], at: usize, width: usize, value: u64) -> u64 {
+pub fn broken(failed: u64, base: u64, name: &[u8], at: u64, width: u64, value: u64) -> u64 {
     asked(failed, base, b", broken: ", name, at, width, value, 0)
 }
 
 // A number is at its bound, or is not asked about here: a good state.
-pub fn kept(failed: u64, base: u64, name: &[u8], at: usize, width: usize, value: u64) -> u64 {
+pub fn kept(failed: u64, base: u64, name: &[u8], at: u64, width: u64, value: u64) -> u64 {
     asked(failed, base, b", good: ", name, at, width, value, 1)
 }

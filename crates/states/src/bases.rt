@@ -1,31 +1,54 @@
 // Good states of three replicas and three groups with room for 16 entries, all of replica 2 of group 1, as bytes at their offsets.
+use rules::Entry;
 use rules::Shape;
 
 // Where the sections begin: the numbers of docs/STATE.md for this shape. The head is at 0.
-pub const VIEWS: usize = 48;
-pub const HEARD: usize = 60;
-pub const LOG: usize = 87;
-pub const EARLY: usize = 475;
-pub const LATE: usize = 863;
-pub const NOTES: usize = 1251;
-pub const VOTES: usize = 1783;
-pub const DRAFT: usize = 2986;
-pub const REPLIES: usize = 3374;
-pub const LENGTH: usize = 4541;
+pub const VIEWS: u64 = 48;
+
+pub const HEARD: u64 = 60;
+
+pub const LOG: u64 = 87;
+
+pub const EARLY: u64 = 475;
+
+pub const LATE: u64 = 863;
+
+pub const NOTES: u64 = 1251;
+
+pub const VOTES: u64 = 1783;
+
+pub const DRAFT: u64 = 2986;
+
+pub const REPLIES: u64 = 3374;
+
+pub const LENGTH: u64 = 4541;
 
 // Where the tables of the first vote and of the first reply begin.
-pub const VOTE_LOG: usize = 1796;
-pub const REPLY_LOG: usize = 3375;
+pub const VOTE_LOG: u64 = 1796;
+
+pub const REPLY_LOG: u64 = 3375;
 
 // The states.
 pub const FRESH: u64 = 0;
+
 pub const LEADER: u64 = 1;
+
 pub const FOLLOWER: u64 = 2;
+
 pub const CHANGING: u64 = 3;
+
 pub const CROSSING: u64 = 4;
+
 pub const NO_EARLY: u64 = 5;
+
 pub const NO_LOG: u64 = 6;
+
 pub const FULL: u64 = 7;
+
+// The latest timestamp, and the first number past it.
+pub const LATEST: u64 = 0x7fffffffffffffff;
+
+pub const PAST: u64 = 0x8000000000000000;
 
 // The shape of them all.
 pub fn shape() -> Shape {
@@ -43,252 +66,241 @@ pub fn print_name(base: u64) {
         5 => io::write_all(1, b"no early entry"),
         6 => io::write_all(1, b"no log"),
         _ => io::write_all(1, b"full"),
-    };
+    }
+    ;
 }
 
 // Writes the lowest 1, 2, 4 or 8 bytes of a number; nothing where they have no room, so that a check of it fails.
-pub fn put(state: &mut [u8], at: usize, width: usize, value: u64) {
-    if state.len() <= at {
+pub fn put(state: &mut [u8], at: u64, width: u64, value: u64) {
+    let from = at as usize;
+    if state.len() <= from {
         return;
     }
-    if state.len() - at < width {
+    if state.len() - from < width as usize {
         return;
     }
     if width == 1 {
-        octets::put8(state, at, (value % 256) as u8);
+        octets::put8(state, from, (value % 256) as u8);
         return;
     }
     if width == 2 {
-        octets::put16(state, at, (value % 65536) as u16);
+        octets::put16(state, from, (value % 65536) as u16);
         return;
     }
     if width == 4 {
-        octets::put32(state, at, (value % 4294967296) as u32);
+        octets::put32(state, from, (value % 4294967296) as u32);
         return;
     }
     if width == 8 {
-        octets::put64(state, at, value);
+        octets::put64(state, from, value);
     }
 }
 
-// Writes an entry: request of coordinator 7, whose number is its command too.
-fn entry(state: &mut [u8], table: usize, i: usize, stamp: u64, request: u64, mask: u64) {
+// Number i of a list, 0 past its end.
+fn number(list: &[u64], i: usize) -> u64 {
+    if list.len() <= i {
+        return 0;
+    }
+    list[i]
+}
+
+// Writes number i of a list of numbers: where, how many bytes, and what.
+fn put_next(state: &mut [u8], list: &[u64], i: usize) {
+    if 100 < i {
+        return;
+    }
+    let at = 3 * i;
+    let width = number(list, at + 1);
+    put(state, number(list, at), width, number(list, at + 2));
+}
+
+// Writes a list of numbers.
+fn put_all(state: &mut [u8], list: &[u64]) {
+    let n = list.len() / 3;
+    let mut i = 0;
+    while i < n {
+        put_next(state, list, i);
+        i += 1;
+    }
+}
+
+// Writes entry i of the table at `table`: a request of coordinator 7, whose number is its command too.
+fn entry(state: &mut [u8], table: u64, i: usize, stamp: u64, request: u64, mask: u64) {
     if LENGTH < table {
         return;
     }
     if 16 <= i {
         return;
     }
-    let at = table + 4 + 24 * i;
-    put(state, at, 8, stamp);
-    put(state, at + 8, 8, request);
-    put(state, at + 16, 4, request);
-    put(state, at + 20, 2, 7);
-    put(state, at + 22, 2, mask);
-}
-
-// Writes for which transaction of coordinator 7 note i is.
-fn note(state: &mut [u8], i: usize, request: u64) {
-    if 16 <= i {
+    let at = table as usize + 4 + 24 * i;
+    if state.len() < at + 24 {
         return;
     }
-    let at = NOTES + 4 + 33 * i;
-    put(state, at, 4, request);
-    put(state, at + 4, 2, 7);
+    let e = Entry {
+        stamp,
+        command: request,
+        request: (request % 4294967296) as u32,
+        coordinator: 7,
+        mask: (mask % 65536) as u16,
+    };
+    entries::put_entry(state, at, e);
 }
 
-// Writes what note i has from group j.
-fn noted(state: &mut [u8], i: usize, j: usize, stamp: u64) {
-    if 16 <= i {
+// Writes entry i of a list of entries: timestamp, request, mask.
+fn entry_next(state: &mut [u8], table: u64, list: &[u64], i: usize) {
+    if 100 < i {
         return;
     }
-    if 3 <= j {
-        return;
+    let at = 3 * i;
+    let stamp = number(list, at);
+    let request = number(list, at + 1);
+    entry(state, table, i, stamp, request, number(list, at + 2));
+}
+
+// Writes a table of a list of entries.
+fn put_table(state: &mut [u8], table: u64, list: &[u64]) {
+    let n = list.len() / 3;
+    put(state, table, 4, n as u64);
+    let mut i = 0;
+    while i < n {
+        entry_next(state, table, list, i);
+        i += 1;
     }
-    let at = NOTES + 10 + 33 * i + 9 * j;
-    put(state, at, 1, 1);
-    put(state, at + 1, 8, stamp);
 }
 
-// The views. In view 5 replica 2 leads group 1, in view 6 it does not.
-fn views(state: &mut [u8], normal: u64, own_view: u64) {
-    put(state, 8, 4, 5);
-    put(state, 12, 4, normal);
-    put(state, VIEWS, 4, 3);
-    put(state, VIEWS + 4, 4, own_view);
-    put(state, VIEWS + 8, 4, 4);
+// The head and gVec, in gView 5. In view 5 replica 2 leads group 1, in view 6 it does not.
+fn head(state: &mut [u8], status: u64, normal: u64, sync: u64, commit: u64, own_view: u64) {
+    put_all(state, &[0, 1, 1, 1, 1, 2, 2, 1, status]);
+    put_all(state, &[8, 4, 5, 12, 4, normal, 16, 8, 50]);
+    put_all(state, &[24, 8, sync, 32, 8, commit, 40, 8, 10]);
+    put_all(state, &[48, 4, 3, 52, 4, own_view, 56, 4, 4]);
 }
 
-// Clock, points and boundary.
-fn points(state: &mut [u8], sync: u64, commit: u64) {
-    put(state, 16, 8, 50);
-    put(state, 24, 8, sync);
-    put(state, 32, 8, commit);
-    put(state, 40, 8, 10);
-}
-
-// Three entries logged; the last two have one timestamp.
+// A log of three entries; the last two have one timestamp.
 fn log(state: &mut [u8]) {
-    put(state, LOG, 4, 3);
-    entry(state, LOG, 0, 10, 1, 2);
-    entry(state, LOG, 1, 20, 2, 3);
-    entry(state, LOG, 2, 20, 3, 7);
+    put_table(state, LOG, &[10, 1, 2, 20, 2, 3, 20, 3, 7]);
 }
 
 // Two early entries: one that all three groups have noted, and one that only the own group has, as early as the log's last.
 fn early(state: &mut [u8]) {
-    put(state, EARLY, 4, 2);
-    entry(state, EARLY, 0, 30, 4, 7);
-    entry(state, EARLY, 1, 20, 5, 3);
+    put_table(state, EARLY, &[30, 4, 7, 20, 5, 3]);
 }
 
-// Two late entries.
-fn late(state: &mut [u8]) {
-    put(state, LATE, 4, 2);
-    entry(state, LATE, 0, 5, 6, 2);
-    entry(state, LATE, 1, 7, 7, 6);
-}
-
-// The note of the first early entry.
-fn first_note(state: &mut [u8]) {
-    note(state, 0, 4);
-    noted(state, 0, 0, 30);
-    noted(state, 0, 1, 25);
-    noted(state, 0, 2, 28);
-}
-
-// The notes of both early entries, and one that came before its transaction.
+// The notes: of the first early entry 30, 25 and 28, of the second 20 by the own group; and 40 by group 2 for a transaction to come.
 fn notes(state: &mut [u8]) {
-    put(state, NOTES, 4, 3);
-    first_note(state);
-    note(state, 1, 5);
-    noted(state, 1, 1, 20);
-    note(state, 2, 8);
-    noted(state, 2, 2, 40);
+    put_all(state, &[1251, 4, 3, 1255, 4, 4, 1259, 2, 7]);
+    put_all(state, &[1261, 1, 1, 1262, 8, 30, 1270, 1, 1, 1271, 8, 25]);
+    put_all(state, &[1279, 1, 1, 1280, 8, 28]);
+    put_all(state, &[1288, 4, 5, 1292, 2, 7, 1303, 1, 1, 1304, 8, 20]);
+    put_all(state, &[1321, 4, 8, 1325, 2, 7, 1345, 1, 1, 1346, 8, 40]);
 }
 
-// The point of replica 0 that was heard.
+// The point 2, heard of replica 0.
 fn heard(state: &mut [u8]) {
-    put(state, HEARD, 1, 1);
-    put(state, HEARD + 1, 8, 2);
+    put_all(state, &[60, 1, 1, 61, 8, 2]);
 }
 
-// The vote of replica 0: last normal gView 3, sync point 1, two entries.
-fn vote(state: &mut [u8]) {
-    put(state, VOTES, 1, 1);
-    put(state, VOTES + 1, 4, 3);
-    put(state, VOTES + 5, 8, 1);
-    put(state, VOTE_LOG, 4, 2);
-    entry(state, VOTE_LOG, 0, 10, 1, 2);
-    entry(state, VOTE_LOG, 1, 20, 2, 3);
-}
-
-// A draft of two entries, and the reply of group 0 with two.
-fn draft_and_reply(state: &mut [u8]) {
-    put(state, DRAFT, 4, 2);
-    entry(state, DRAFT, 0, 10, 1, 2);
-    entry(state, DRAFT, 1, 20, 2, 3);
-    put(state, REPLIES, 1, 1);
-    put(state, REPLY_LOG, 4, 2);
-    entry(state, REPLY_LOG, 0, 20, 1, 3);
-    entry(state, REPLY_LOG, 1, 21, 2, 7);
-}
-
-// Fills a table.
-fn full_table(state: &mut [u8], table: usize, first: u64) {
-    put(state, table, 4, 16);
-    let mut i: u64 = 0;
-    while i < 16 {
-        entry(state, table, i as usize, first % 1000 + i, first % 1000 + i, 7);
-        i += 1;
-    }
-}
-
-// Fills the notes.
-fn full_notes(state: &mut [u8]) {
-    put(state, NOTES, 4, 16);
-    let mut i: u64 = 0;
-    while i < 16 {
-        note(state, i as usize, 200 + i);
-        noted(state, i as usize, 1, 200 + i);
-        i += 1;
-    }
-}
-
-// Every table full.
-fn full_tables(state: &mut [u8]) {
-    full_table(state, LOG, 100);
-    full_table(state, EARLY, 200);
-    full_table(state, LATE, 300);
-    full_notes(state);
-    full_table(state, VOTE_LOG, 100);
-    full_table(state, DRAFT, 100);
-    full_table(state, REPLY_LOG, 100);
+// The vote of replica 0, with last normal gView 3 and sync point 1, and the reply of group 0.
+fn kept(state: &mut [u8]) {
+    put_all(state, &[1783, 1, 1, 1784, 4, 3, 1788, 8, 1, 3374, 1, 1]);
+    put_table(state, VOTE_LOG, &[10, 1, 2, 20, 2, 3]);
+    put_table(state, REPLY_LOG, &[20, 1, 3, 21, 2, 7]);
 }
 
 // What all but the fresh one hold. Nothing forbids a vote, a draft or a reply in any status.
 fn held(state: &mut [u8]) {
-    late(state);
+    put_table(state, LATE, &[5, 6, 2, 7, 7, 6]);
     notes(state);
-    vote(state);
-    draft_and_reply(state);
+    kept(state);
+    put_table(state, DRAFT, &[10, 1, 2, 20, 2, 3]);
 }
 
-// A follower, without log and early buffer.
-fn follower(state: &mut [u8], sync: u64, commit: u64) {
-    views(state, 5, 6);
-    points(state, sync, commit);
-    held(state);
+// Writes note i: of a request from 100, by the own group.
+fn full_note(state: &mut [u8], i: usize) {
+    if 16 <= i {
+        return;
+    }
+    let at = 1255 + 33 * i as u64;
+    let request = 100 + i as u64;
+    put_all(state, &[at, 4, request, at + 4, 2, 7]);
+    put_all(state, &[at + 15, 1, 1, at + 16, 8, request]);
 }
 
-// A follower with a log. Its sync point may be below its log length, and its early entries need no notes.
-fn logged(state: &mut [u8]) {
-    follower(state, 2, 1);
-    log(state);
+// Writes entry i of every table, and note i; log, early and late have other transactions.
+fn full_row(state: &mut [u8], i: usize) {
+    if 16 <= i {
+        return;
+    }
+    let first = 100 + i as u64;
+    entry(state, LOG, i, first, first, 7);
+    entry(state, EARLY, i, first + 100, first + 100, 7);
+    entry(state, LATE, i, first + 200, first + 200, 7);
+    entry(state, VOTE_LOG, i, first, first, 7);
+    entry(state, DRAFT, i, first, first, 7);
+    entry(state, REPLY_LOG, i, first, first, 7);
+    full_note(state, i);
+}
+
+// Writes every place of every table.
+fn full_rows(state: &mut [u8]) {
+    let mut i = 0;
+    while i < 16 {
+        full_row(state, i);
+        i += 1;
+    }
+}
+
+// Fills every table.
+fn fill(state: &mut [u8]) {
+    full_rows(state);
+    put_all(state, &[LOG, 4, 16, EARLY, 4, 16, LATE, 4, 16]);
+    put_all(state, &[NOTES, 4, 16, VOTE_LOG, 4, 16]);
+    put_all(state, &[DRAFT, 4, 16, REPLY_LOG, 4, 16]);
 }
 
 // A leader, in a status, with a last normal gView and a sync point.
 fn leader(state: &mut [u8], status: u64, normal: u64, sync: u64) {
-    put(state, 2, 1, status);
-    views(state, normal, 5);
-    points(state, sync, 1);
+    head(state, status, normal, sync, 1, 5);
     heard(state);
     log(state);
     early(state);
     held(state);
 }
 
-// A follower with all of it, or without early entries, without a log, with every table full.
-fn followers(base: u64, state: &mut [u8]) {
-    if base == FOLLOWER {
-        logged(state);
-        early(state);
+// A follower without early entries. Its sync point may be below its log length.
+fn logged(state: &mut [u8]) {
+    head(state, 1, 5, 2, 1, 6);
+    log(state);
+    held(state);
+}
+
+// A follower without a log, whose early entries need no notes.
+fn without_log(state: &mut [u8]) {
+    head(state, 1, 5, 0, 0, 6);
+    early(state);
+    held(state);
+}
+
+// A follower with early entries, or with every table full.
+fn follower(state: &mut [u8], filled: bool) {
+    logged(state);
+    if filled {
+        fill(state);
         return;
     }
-    if base == NO_EARLY {
-        logged(state);
-        return;
-    }
-    if base == NO_LOG {
-        follower(state, 0, 0);
-        early(state);
-        return;
-    }
-    if base == FULL {
-        follower(state, 2, 1);
-        full_tables(state);
-    }
+    early(state);
 }
 
 // Writes one of the states into zeros.
 pub fn build(base: u64, state: &mut [u8]) {
-    put(state, 0, 1, 1);
-    put(state, 1, 1, 2);
-    put(state, 2, 1, 1);
     match base {
         1 => leader(state, 1, 5, 3),
+        2 => follower(state, false),
         3 => leader(state, 2, 4, 2),
         4 => leader(state, 3, 4, 2),
-        _ => followers(base, state),
+        5 => logged(state),
+        6 => without_log(state),
+        7 => follower(state, true),
+        _ => put_all(state, &[0, 1, 1, 1, 1, 2, 2, 1, 1]),
     }
 }
