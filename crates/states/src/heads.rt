@@ -1,15 +1,15 @@
 // The head, the views, the points and the points heard.
-use crate::asks::broken;
-use crate::asks::kept;
-use crate::bases::CHANGING;
-use crate::bases::CROSSING;
-use crate::bases::FOLLOWER;
-use crate::bases::FRESH;
-use crate::bases::HEARD;
-use crate::bases::LATEST;
-use crate::bases::LEADER;
-use crate::bases::PAST;
-use crate::bases::VIEWS;
+use bases::CHANGING;
+use bases::CROSSING;
+use bases::FOLLOWER;
+use bases::FRESH;
+use bases::HEARD;
+use bases::LATEST;
+use bases::LEADER;
+use bases::PAST;
+use bases::VIEWS;
+use bases::broken;
+use bases::kept;
 
 // The own numbers. With entries, a group S would also be in none of their masks.
 fn own(failed: u64) -> u64 {

@@ -1,17 +1,17 @@
 // Votes and replies kept, the notes, and what a leader's early entries have to do with them.
-use crate::asks::broken;
-use crate::asks::kept;
-use crate::bases::CHANGING;
-use crate::bases::CROSSING;
-use crate::bases::EARLY;
-use crate::bases::FOLLOWER;
-use crate::bases::LATEST;
-use crate::bases::LEADER;
-use crate::bases::NOTES;
-use crate::bases::PAST;
-use crate::bases::REPLIES;
-use crate::bases::REPLY_LOG;
-use crate::bases::VOTES;
+use bases::CHANGING;
+use bases::CROSSING;
+use bases::EARLY;
+use bases::FOLLOWER;
+use bases::LATEST;
+use bases::LEADER;
+use bases::NOTES;
+use bases::PAST;
+use bases::REPLIES;
+use bases::REPLY_LOG;
+use bases::VOTES;
+use bases::broken;
+use bases::kept;
 
 // Votes: that of replica 0, and an empty one of replica 1, with which there are F + 1.
 fn votes(failed: u64) -> u64 {

@@ -1,22 +1,22 @@
 // The entries of each table: what is asked of a good log, of the early buffer and of the late one.
-use crate::asks::broken;
-use crate::asks::kept;
-use crate::asks::part_broken;
-use crate::asks::part_good;
-use crate::bases::CHANGING;
-use crate::bases::CROSSING;
-use crate::bases::DRAFT;
-use crate::bases::EARLY;
-use crate::bases::FOLLOWER;
-use crate::bases::LATE;
-use crate::bases::LATEST;
-use crate::bases::LEADER;
-use crate::bases::LOG;
-use crate::bases::NO_EARLY;
-use crate::bases::NO_LOG;
-use crate::bases::PAST;
-use crate::bases::REPLY_LOG;
-use crate::bases::VOTE_LOG;
+use bases::CHANGING;
+use bases::CROSSING;
+use bases::DRAFT;
+use bases::EARLY;
+use bases::FOLLOWER;
+use bases::LATE;
+use bases::LATEST;
+use bases::LEADER;
+use bases::LOG;
+use bases::NO_EARLY;
+use bases::NO_LOG;
+use bases::PAST;
+use bases::REPLY_LOG;
+use bases::VOTE_LOG;
+use bases::broken;
+use bases::kept;
+use bases::part_broken;
+use bases::part_good;
 
 // The last eight bytes of an entry: request 1 of coordinator 8, of every group.
 const OTHER: u64 = 0x0007000800000001;

@@ -1,10 +1,10 @@
--- `states::bases::full_rows` is safe and ends: the state keeps its length, and the turns that are left grow fewer. Assumes nothing.
+-- `bases::written::full_rows` is safe and ends: the state keeps its length, and the turns that are left grow fewer. Assumes nothing.
 use mathlib.Core.Path.{_≡_}
 use Prim.Native.Nat.{_≤_, _-_}
 use lib.ListN.{length}
 use borrow.Author.Needs.{needs}
-use Rattle.states.proofs.bases.full_rows.Statement.{statement}
-use Rattle.states.proofs.bases.full_rows.Tie as tie
+use Rattle.bases.proofs.written.full_rows.Statement.{statement}
+use Rattle.bases.proofs.written.full_rows.Tie as tie
 
 abbrev Inv-loop : tie.InvT-loop
 Inv-loop state₀ i₀ state i = (length state ≡ length state₀) × (i ≤ 16)

@@ -1,54 +1,14 @@
 // Good states of three replicas and three groups with room for 16 entries, all of replica 2 of group 1, as bytes at their offsets.
+use crate::DRAFT;
+use crate::EARLY;
+use crate::LATE;
+use crate::LENGTH;
+use crate::LOG;
+use crate::NOTES;
+use crate::REPLY_LOG;
+use crate::VOTE_LOG;
 use rules::Entry;
 use rules::Shape;
-
-// Where the sections begin: the numbers of docs/STATE.md for this shape. The head is at 0.
-pub const VIEWS: u64 = 48;
-
-pub const HEARD: u64 = 60;
-
-pub const LOG: u64 = 87;
-
-pub const EARLY: u64 = 475;
-
-pub const LATE: u64 = 863;
-
-pub const NOTES: u64 = 1251;
-
-pub const VOTES: u64 = 1783;
-
-pub const DRAFT: u64 = 2986;
-
-pub const REPLIES: u64 = 3374;
-
-pub const LENGTH: u64 = 4541;
-
-// Where the tables of the first vote and of the first reply begin.
-pub const VOTE_LOG: u64 = 1796;
-
-pub const REPLY_LOG: u64 = 3375;
-
-// The states.
-pub const FRESH: u64 = 0;
-
-pub const LEADER: u64 = 1;
-
-pub const FOLLOWER: u64 = 2;
-
-pub const CHANGING: u64 = 3;
-
-pub const CROSSING: u64 = 4;
-
-pub const NO_EARLY: u64 = 5;
-
-pub const NO_LOG: u64 = 6;
-
-pub const FULL: u64 = 7;
-
-// The latest timestamp, and the first number past it.
-pub const LATEST: u64 = 0x7fffffffffffffff;
-
-pub const PAST: u64 = 0x8000000000000000;
 
 // The shape of them all.
 pub fn shape() -> Shape {

@@ -1,8 +1,8 @@
 // One question of a state with one number changed.
-use crate::bases::build;
-use crate::bases::print_name;
-use crate::bases::put;
-use crate::bases::shape;
+use crate::written::build;
+use crate::written::print_name;
+use crate::written::put;
+use crate::written::shape;
 use lines::more;
 use lines::same;
 

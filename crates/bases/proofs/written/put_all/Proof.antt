@@ -1,10 +1,10 @@
--- `states::bases::put_all` is safe and ends: the state keeps its length, and the turns that are left grow fewer. Assumes nothing.
+-- `bases::written::put_all` is safe and ends: the state keeps its length, and the turns that are left grow fewer. Assumes nothing.
 use mathlib.Core.Path.{_≡_}
 use Prim.Native.Nat.{_≤_, _-_}
 use lib.ListN.{length}
 use borrow.Author.Needs.{needs}
-use Rattle.states.proofs.bases.put_all.Statement.{statement}
-use Rattle.states.proofs.bases.put_all.Tie as tie
+use Rattle.bases.proofs.written.put_all.Statement.{statement}
+use Rattle.bases.proofs.written.put_all.Tie as tie
 
 abbrev Inv-loop : tie.InvT-loop
 Inv-loop state₀ list n i₀ state i = (length state ≡ length state₀) × (i ≤ n)

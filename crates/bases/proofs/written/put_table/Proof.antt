@@ -1,10 +1,10 @@
--- `states::bases::put_table` is safe and ends: the state keeps its length, and the turns that are left grow fewer. Assumes nothing.
+-- `bases::written::put_table` is safe and ends: the state keeps its length, and the turns that are left grow fewer. Assumes nothing.
 use mathlib.Core.Path.{_≡_}
 use Prim.Native.Nat.{_≤_, _-_}
 use lib.ListN.{length}
 use borrow.Author.Needs.{needs}
-use Rattle.states.proofs.bases.put_table.Statement.{statement}
-use Rattle.states.proofs.bases.put_table.Tie as tie
+use Rattle.bases.proofs.written.put_table.Statement.{statement}
+use Rattle.bases.proofs.written.put_table.Tie as tie
 
 abbrev Inv-loop : tie.InvT-loop
 Inv-loop state₀ table list n i₀ state i = (length state ≡ length state₀) × (i ≤ n)
