@@ -1,6 +1,6 @@
 // The commit rule, at replica 0 as the leader.
-use crate::line::more;
-use crate::line::same;
+use lines::more;
+use lines::same;
 
 // Of five replicas, with seven entries logged: 4, 6 and 2 heard, the last not.
 fn some_heard() -> u64 {

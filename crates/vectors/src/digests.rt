@@ -1,6 +1,6 @@
 // FNV-1a at 64 bits: the published vectors, and one past 64 bytes.
-use crate::line::more;
-use crate::line::same;
+use lines::more;
+use lines::same;
 
 // The digest of a text that stands in the check's name.
 fn known(text: &[u8], want: u64) -> u64 {

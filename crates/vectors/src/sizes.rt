@@ -1,6 +1,6 @@
 // The sizes that follow from n: F, F + 1 and R.
-use crate::line::more;
-use crate::line::same;
+use lines::more;
+use lines::same;
 
 // The two counts of one n.
 fn sizes(name: &[u8], n: u64, majority: u64, recovery: u64) -> u64 {

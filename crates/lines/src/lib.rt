@@ -1,4 +1,4 @@
-// The line of a check.
+// The line of a check, for the programs that print one for each.
 
 // Both counts of failed checks; a count that would wrap stays.
 pub fn more(failed: u64, here: u64) -> u64 {
@@ -23,4 +23,11 @@ pub fn same(name: &[u8], got: u64, want: u64) -> u64 {
     io::print_hex(1, want, 16);
     io::write_all(1, b"\n");
     1
+}
+
+// The last line: how many checks failed.
+pub fn total(failed: u64) {
+    io::write_all(1, b"failed: ");
+    io::print_decimal(1, failed);
+    io::write_all(1, b"\n");
 }

@@ -157,3 +157,19 @@ pub fn write_in(n: u64, s: u64, kind: u8, out: &mut [u8]) -> Answer {
     }
     wire::write(n, s, m, &views, b"", out)
 }
+
+// The message that the first `length` bytes are.
+pub fn read_first(bytes: &[u8], length: usize) -> Message {
+    if bytes.len() < length {
+        return Message::WrongSizes;
+    }
+    wire::read(3, 2, &bytes[0..length])
+}
+
+// Whether two headers are the same.
+pub fn same_header(a: Header, b: Header) -> bool {
+    let kind = a.kind == b.kind;
+    let to = (a.to_group == b.to_group) & (a.to_mask == b.to_mask);
+    let from = (a.from_group == b.from_group) & (a.from_replica == b.from_replica);
+    kind & to & from & (a.view == b.view)
+}

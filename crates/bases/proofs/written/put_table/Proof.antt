@@ -1,0 +1,52 @@
+-- `bases::written::put_table` is safe and ends: the state keeps its length, and the turns that are left grow fewer. Assumes nothing.
+use mathlib.Core.Path.{_≡_}
+use Prim.Native.Nat.{_≤_, _-_}
+use lib.ListN.{length}
+use borrow.Author.Needs.{needs}
+use Rattle.bases.proofs.written.put_table.Statement.{statement}
+use Rattle.bases.proofs.written.put_table.Tie as tie
+
+abbrev Inv-loop : tie.InvT-loop
+Inv-loop state₀ table list n i₀ state i = (length state ≡ length state₀) × (i ≤ n)
+
+abbrev μ-loop : tie.MeasureT-loop
+μ-loop state₀ table list n i₀ state i = n - i
+
+put-requires : tie.Need-put-requires Inv-loop μ-loop
+put-requires c κs = search needs
+
+loop-holds : tie.Need-loop-holds Inv-loop μ-loop
+loop-holds c = search needs
+
+entry-next-requires : tie.Need-entry-next-requires Inv-loop μ-loop
+entry-next-requires c κs = search needs
+
+add-i : tie.Need-add-i Inv-loop μ-loop
+add-i c = search needs
+
+loop-less : tie.Need-loop-less Inv-loop μ-loop
+loop-less c = search needs
+
+loop-again : tie.Need-loop-again Inv-loop μ-loop
+loop-again c = search needs
+
+same-length : tie.Need-same-length Inv-loop μ-loop
+same-length c = search needs
+
+returns : tie.Need-returns Inv-loop μ-loop
+returns c = search needs
+
+pub put-table-spec : {M : Type 1} → statement M
+put-table-spec =
+    tie.close
+    (tie.spec
+    Inv-loop
+    μ-loop
+    put-requires
+    loop-holds
+    entry-next-requires
+    add-i
+    loop-less
+    loop-again
+    same-length
+    returns)
