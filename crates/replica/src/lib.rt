@@ -11,13 +11,7 @@ ghost use Rattle.rules.specs.Step as steps;
 ghost use Rattle.handler.specs.Handler.{Ready};
 
 // The handler of the message's kind.
-fn handle(
-    shape: Shape,
-    state: &mut [u8],
-    m: Message,
-    message: &[u8],
-    out: &mut [u8],
-) -> Answer
+fn handle(shape: Shape, state: &mut [u8], m: Message, message: &[u8], out: &mut [u8]) -> Answer
     requires { ⌜ Ready shape (now state) m (now message) ⌝ }
     ensures { λ r. ⌜ left r (now (state .exit)) (now (out .exit)) ≡ closes shape (now (state .entry)) (now (out .entry)) (steps.handle (tagOf m) shape (stateOf shape (now (state .entry))) (wireIn (shape .s) (now (message .entry)))) ⌝ }
 {
