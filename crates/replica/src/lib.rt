@@ -1,14 +1,21 @@
 // The public face: a site's start and step on lent bytes, and the functions that hosts link.
 use rules::Answer;
+use rules::Header;
 use rules::Message;
 use rules::Shape;
+use wire::Parts;
 ghost use mathlib.Core.Path.{_≡_};
+ghost use mathlib.Core.List.{[], _∷_};
 ghost use Rattle.rules.specs.Wire.{tagOf};
-ghost use Rattle.rules.specs.Read.{wireIn};
-ghost use Rattle.rules.specs.Image.{stateOf};
-ghost use Rattle.rules.specs.Bytes.{left, closes, stepBytes};
+ghost use Rattle.rules.specs.Choice.{pick};
+ghost use Rattle.rules.specs.Digest.{digestFrom};
+ghost use Rattle.rules.specs.Read.{wireIn, decoded, answerOf};
+ghost use Rattle.rules.specs.Image.{stateOf, goodBytes};
+ghost use Rattle.rules.specs.Bytes.{left, closes, stepBytes, startBytes};
 ghost use Rattle.rules.specs.Step as steps;
+ghost use Rattle.places.specs.Layout.{lengthFor};
 ghost use Rattle.handler.specs.Handler.{Ready};
+ghost use Rattle.replica.specs.Face.{codeOf, Gives, Puts, narrow, writesFrom};
 
 // The handler of the message's kind.
 fn handle(shape: Shape, state: &mut [u8], m: Message, message: &[u8], out: &mut [u8]) -> Answer
@@ -47,4 +54,161 @@ pub fn step(shape: Shape, state: &mut [u8], message: &[u8], out: &mut [u8]) -> A
         return Answer::Refused(number);
     }
     handle(shape, state, m, message, out)
+}
+
+// ---- for hosts: the same under C names, every number one of 64 bits, a slice as a pointer and a length
+
+// An answer as one number: the number of the table, and 256 times the outgoing length.
+fn code(answer: Answer) -> u64
+    ensures { λ r. ⌜ r ≡ codeOf answer ⌝ }
+{
+    match answer {
+        Answer::Done(sent) => (sent as u64) << 8,
+        Answer::Refused(number) => number as u64,
+    }
+}
+
+// The state's length, 0 for wrong sizes.
+#[no_mangle]
+pub extern "C" fn jallumere_state_length(n: u64, s: u64, c: u64) -> u64
+    ensures { λ r. ⌜ r ≡ lengthFor (record { n = n; s = s; c = c }) ⌝ }
+{
+    places::state_length(n, s, c)
+}
+
+// 0 and the fresh state's bytes, or 1 and all as it came.
+#[no_mangle]
+pub extern "C" fn jallumere_start(
+    n: u64,
+    s: u64,
+    c: u64,
+    group: u64,
+    replica: u64,
+    state: &mut [u8],
+) -> u64
+    ensures { λ r. ⌜ Gives (startBytes (record { n = n; s = s; c = c }) group replica (now (state .entry))) r (now (state .exit)) [] ⌝ }
+{
+    code(places::start(Shape { n, s, c }, group, replica, state))
+}
+
+// One step: the number of the table, and 256 times the outgoing length.
+#[no_mangle]
+pub extern "C" fn jallumere_step(
+    n: u64,
+    s: u64,
+    c: u64,
+    state: &mut [u8],
+    message: &[u8],
+    out: &mut [u8],
+) -> u64
+    ensures { λ r. ⌜ Gives (stepBytes (record { n = n; s = s; c = c }) (now (state .entry)) (now (message .entry)) (now (out .entry))) r (now (state .exit)) (now (out .exit)) ⌝ }
+{
+    code(step(Shape { n, s, c }, state, message, out))
+}
+
+// 0 where the bytes are those of a good state, else 1.
+#[no_mangle]
+pub extern "C" fn jallumere_good(n: u64, s: u64, c: u64, state: &[u8]) -> u64
+    ensures { λ r. ⌜ r ≡ pick (goodBytes (record { n = n; s = s; c = c }) (now (state .entry))) 0 1 ⌝ }
+{
+    if good::good(Shape { n, s, c }, state) {
+        return 0;
+    }
+    1
+}
+
+// 0 for a message, 1 for wrong sizes, 2 for bytes that are none.
+#[no_mangle]
+pub extern "C" fn jallumere_read(n: u64, s: u64, message: &[u8]) -> u64
+    ensures { λ r. ⌜ r ≡ answerOf (decoded n s (now (message .entry))) ⌝ }
+{
+    let m = wire::read(n, s, message);
+    match m {
+        Message::WrongSizes => 1,
+        Message::Malformed(_) => 2,
+        Message::Transaction(_, _, _) => 0,
+        Message::Note(_) => 0,
+        Message::ReplicaSync(_) => 0,
+        Message::FastReply(_, _, _, _) => 0,
+        Message::SlowReply(_, _) => 0,
+        Message::ChangeView(_) => 0,
+        Message::Vote(_, _, _) => 0,
+        Message::StartView(_) => 0,
+        Message::SyncStatus(_, _) => 0,
+        Message::Commit(_, _) => 0,
+        Message::VerifyRequest(_, _) => 0,
+        Message::VerifyReply(_) => 0,
+        Message::Tick(_, _) => 0,
+    }
+}
+
+// FNV-1a run on from `start`.
+#[no_mangle]
+pub extern "C" fn jallumere_digest(start: u64, bytes: &[u8]) -> u64
+    ensures { λ r. ⌜ r ≡ digestFrom start (now (bytes .entry)) ⌝ }
+{
+    digest::digest_on(start, bytes)
+}
+
+// Whether each field of a header fits its bytes.
+fn is_narrow(
+    kind: u64,
+    to_group: u64,
+    to_mask: u64,
+    from_group: u64,
+    from_replica: u64,
+    view: u64,
+) -> bool
+    ensures { λ r. ⌜ r ≡ narrow (record { kind = kind; toGroup = «to_group»; toMask = «to_mask»; fromGroup = «from_group»; fromReplica = «from_replica»; view = view }) ⌝ }
+{
+    let groups = (from_group < 256) & ((from_replica < 256) & (view < 4294967296));
+    (kind < 256) & ((to_group < 256) & ((to_mask < 256) & groups))
+}
+
+// Writes the message of these fields: 0, 1, 2 or 9, and 256 times its length. Numbers that the kind does not have are not looked at.
+#[no_mangle]
+pub extern "C" fn jallumere_write(
+    n: u64,
+    s: u64,
+    kind: u64,
+    to_group: u64,
+    to_mask: u64,
+    from_group: u64,
+    from_replica: u64,
+    view: u64,
+    first: u64,
+    second: u64,
+    third: u64,
+    views: &[u8],
+    entries: &[u8],
+    out: &mut [u8],
+) -> u64
+    ensures { λ r. ⌜ Puts (writesFrom n s (record { kind = kind; toGroup = «to_group»; toMask = «to_mask»; fromGroup = «from_group»; fromReplica = «from_replica»; view = view }) (first ∷ second ∷ third ∷ []) (now (views .entry)) (now (entries .entry)) (now (out .entry))) r (now (out .exit)) ⌝ }
+{
+    if !is_narrow(kind, to_group, to_mask, from_group, from_replica, view) {
+        if group::sizes_fit(n, s) {
+            return 2;
+        }
+        return 1;
+    }
+    let header = Header {
+        kind: kind as u8,
+        to_group: to_group as u8,
+        to_mask: to_mask as u8,
+        from_group: from_group as u8,
+        from_replica: from_replica as u8,
+        view: view as u32,
+    };
+    let parts = Parts {
+        header,
+        zeros: 0,
+        views: 0,
+        numbers: 0,
+        first,
+        second,
+        third,
+        entries: 0,
+    };
+    let m = wire::decode::case_with(parts);
+    code(wire::write(n, s, m, views, entries, out))
 }

@@ -1,0 +1,65 @@
+-- What a host is given: one number for an answer, and the memory as the statements say.
+use Prim.Native.Nat.{ℕ, _+_, _*_, _%_, _^_}
+use mathlib.Core.Path.{_≡_}
+use mathlib.Core.Bool.{Bool}
+use mathlib.Core.List.{List, [], _∷_}
+use lib.ListN.{getD}
+use lib.Dec.{ltb}
+use Rattle.rules.specs.Choice.{pick, allOf}
+use Rattle.rules.specs.Group.{sizesFit}
+use Rattle.rules.specs.Wire.{caseWith}
+use Rattle.rules.specs.Write.{Written, writes}
+use Rattle.rules.specs.Bytes.{Left}
+use Rattle.rules.specs.declared.Header.{Header}
+use Rattle.rules.specs.declared.Answer.{Answer}
+use Rattle.rules.specs.declared.Answer.the-variants.{Done, Refused}
+
+-- the number of the table, and 256 times the outgoing length in the bits above it
+abbrev pub coded : ℕ → ℕ → ℕ
+coded number sent = number + sent * 2 ^ 8 % 2 ^ 64
+
+-- of an answer
+abbrev pub codeOf : Answer → ℕ
+codeOf (Done sent) = coded 0 sent
+codeOf (Refused number) = coded number 0
+
+-- what a call leaves, as a host has it
+pub record Gives (l : Left) (r : ℕ) (b o : List ℕ) : Type 0 where
+  pub number : r ≡ coded (l .number) (l .sent)
+  pub state : b ≡ l .state
+  pub out : o ≡ l .out
+
+-- what the writer leaves, as a host has it
+pub record Puts (w : Written) (r : ℕ) (o : List ℕ) : Type 0 where
+  pub number : r ≡ coded (w .number) (w .sent)
+  pub out : o ≡ w .out
+
+-- a header as a host gives it, each field one of 64 bits
+pub record Given : Type 0 where
+  pub kind : ℕ
+  pub toGroup : ℕ
+  pub toMask : ℕ
+  pub fromGroup : ℕ
+  pub fromReplica : ℕ
+  pub view : ℕ
+
+-- each field fits its bytes
+unfoldable pub narrow : Given → Bool
+narrow g =
+    allOf
+    (ltb (g .kind) 256
+    ∷ ltb (g .toGroup) 256
+    ∷ ltb (g .toMask) 256
+    ∷ ltb (g .fromGroup) 256
+    ∷ ltb (g .fromReplica) 256
+    ∷ ltb (g .view) 4294967296
+    ∷ [])
+
+abbrev pub headerOf : Given → Header
+headerOf g =
+    record { kind = g .kind; «to_group» = g .toGroup; «to_mask» = g .toMask; «from_group» = g .fromGroup; «from_replica» = g .fromReplica; view = g .view }
+
+-- what the writer leaves: a field that is too wide is malformed
+unfoldable pub writesFrom : ℕ → ℕ → Given → List ℕ → List ℕ → List ℕ → List ℕ → Written
+writesFrom n s g numbers views entries out =
+    pick (narrow g) (writes n s (caseWith (headerOf g) (λ i. getD numbers i 0)) views entries out) (record { number = pick (sizesFit n s) 2 1; sent = 0; out = out })

@@ -1,0 +1,2 @@
+-- What the functions that hosts link give.
+pub mod Face
