@@ -12,8 +12,8 @@ use Rattle.rules.specs.Step.{here, viewRight, statusRight, roleRight}
 use Rattle.rules.specs.declared.Shape.{Shape}
 use Rattle.rules.specs.declared.Message.{Message}
 use Rattle.rules.specs.declared.Message.the-variants as m
-use Rattle.wire.specs.Parts.{saidOf}
-use Rattle.wire.specs.declared.Said.{Said}
+use Rattle.writer.specs.Said.{saidOf}
+use Rattle.writer.specs.declared.Said.{Said}
 use Rattle.handler.proofs.Told.{told, told-sender}
 use Rattle.admit.specs.Refusal.{refusalOf, Heads}
 

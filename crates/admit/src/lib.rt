@@ -68,7 +68,7 @@ fn view_right(shape: Shape, state: &[u8], kind: u8, h: Header, message: &[u8]) -
     requires { ⌜ Stands shape (stateOf shape (now state)) (now state) × Heads shape kind h (now message) ⌝ }
     ensures { λ r. ⌜ r ≡ viewRight kind (stateOf shape (now (state .entry))) (wireIn (shape .s) (now (message .entry))) ⌝ }
 {
-    if wire::kinds::bare(kind) {
+    if kinds::bare(kind) {
         return true;
     }
     if kind == 7 {
@@ -141,10 +141,10 @@ pub fn refusal(shape: Shape, state: &[u8], m: Message, message: &[u8]) -> u8
     requires { ⌜ Stands shape (stateOf shape (now state)) (now state) × (m ≡ decoded (shape .n) (shape .s) (now message)) ⌝ }
     ensures { λ r. ⌜ r ≡ refusalOf shape (stateOf shape (now (state .entry))) (tagOf m) (wireIn (shape .s) (now (message .entry))) ⌝ }
 {
-    let said = wire::put::said_of(m);
+    let said = writer::said_of(m);
     let kind = said.tag;
     let h = said.header;
-    if (kind == 0) | wire::kinds::to_outside(kind) {
+    if (kind == 0) | kinds::to_outside(kind) {
         return 2;
     }
     if !is_here(shape, state, kind, h, message) {

@@ -304,7 +304,7 @@ fn notes_length(shape: Shape, state: &[u8], e: Entry) -> usize
     ensures { λ r. ⌜ r ≡ length (flat wireBytes (noteSends shape (stateOf shape (now (state .entry))) e)) ⌝ }
 {
     let others = handler::count_others(shape, state, e.mask) as usize;
-    wire::kinds::length_for(shape.s, 3, 1) * others
+    kinds::length_for(shape.s, 3, 1) * others
 }
 
 // Writes them first into the outgoing buffer, and says where the last ends.

@@ -129,7 +129,7 @@ pub fn on_change_view(
         return Answer::Done(0);
     }
     let count = log_count(shape, state);
-    if out.len() < wire::kinds::length_for(shape.s, 8, count) {
+    if out.len() < kinds::length_for(shape.s, 8, count) {
         return Answer::Refused(9);
     }
     enter(shape, state, view, false, message);
@@ -195,7 +195,7 @@ pub fn on_start_view(
         return Answer::Refused(2);
     };
     let view = h.view;
-    let at = wire::kinds::entries_at(shape.s, 9);
+    let at = kinds::entries_at(shape.s, 9);
     let number = octets::get32(message, at) as usize;
     if (shape.c as usize) < number {
         return Answer::Refused(8);
@@ -217,7 +217,7 @@ pub fn start_leading(
     ensures { λ r. ⌜ left r (now (state .exit)) (now (out .exit)) ≡ closes shape (now (state .entry)) (now (out .entry)) (ledBy shape (stateOf shape (now (state .entry))) view (viewsOf shape (now (message .entry))) (tableAt (shape .c) (now (draft .entry)) 0)) ⌝ }
 {
     let number = entries::count(draft);
-    if out.len() < wire::kinds::length_for(shape.s, 9, number) {
+    if out.len() < kinds::length_for(shape.s, 9, number) {
         return Answer::Refused(9);
     }
     begin(shape, state, view, message, draft, 4, number);

@@ -112,7 +112,7 @@ pub fn on_sync_status(
     if len < point {
         return Answer::Refused(7);
     }
-    if out.len() < wire::kinds::length_for(shape.s, 11, 0) {
+    if out.len() < kinds::length_for(shape.s, 11, 0) {
         return Answer::Refused(9);
     }
     let commit = keep_status(shape, state, from, point, len);

@@ -29,7 +29,7 @@ use Rattle.places.specs.Layout.{startOf, Laid}
 use Rattle.places.proofs.Sections.{lent, drop-all}
 use Rattle.places.proofs.Head.{get-head}
 use Rattle.places.proofs.Rows.{row-at}
-use Rattle.wire.proofs.Writer.{length-bytes}
+use Rattle.writer.proofs.Writer.{length-bytes}
 use Rattle.handler.specs.Sending.{messageBytes, headedIn}
 
 -- the header of what a site sends

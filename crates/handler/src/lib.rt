@@ -34,7 +34,7 @@ pub fn first_entry(shape: Shape, state: &[u8], m: Message, message: &[u8], kind:
     requires { ⌜ Ready shape (now state) m (now message) × (tagOf m ≡ kind) × (withOne kind ≡ true) ⌝ }
     ensures { λ r. ⌜ r ≡ firstEntry (wireIn (shape .s) (now (message .entry))) ⌝ }
 {
-    entries::entry_at(message, wire::kinds::entries_at(shape.s, kind) + 4)
+    entries::entry_at(message, kinds::entries_at(shape.s, kind) + 4)
 }
 
 // The header of what the site sends.
@@ -67,7 +67,7 @@ pub fn tell(
     let places = places::places_of(shape);
     let start = places.views;
     let end = places.heard;
-    wire::put::put_message(out, at, m, &state[start..end], entries)
+    writer::put_message(out, at, m, &state[start..end], entries)
 }
 
 // Whether j is another group, and in the mask.

@@ -1,9 +1,9 @@
 // The public face: a site's start and step on lent bytes, and the functions that hosts link.
+use fields::Parts;
 use rules::Answer;
 use rules::Header;
 use rules::Message;
 use rules::Shape;
-use wire::Parts;
 ghost use mathlib.Core.Path.{_≡_};
 ghost use mathlib.Core.List.{[], _∷_};
 ghost use Rattle.rules.specs.Wire.{tagOf};

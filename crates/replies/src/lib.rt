@@ -82,7 +82,7 @@ pub fn on_verify_reply(
     if places::reply_flag(shape, state, from) {
         return Answer::Refused(7);
     }
-    let at = wire::kinds::entries_at(shape.s, 19);
+    let at = kinds::entries_at(shape.s, 19);
     let number = octets::get32(message, at) as usize;
     if (shape.c as usize) < number {
         return Answer::Refused(8);

@@ -367,7 +367,7 @@ fn slow_length(shape: Shape, state: &[u8], message: &[u8], log: NewLog) -> usize
     ensures { λ r. ⌜ r ≡ lengthFor (shape .s) 6 1 * (log .count - stateOf shape (now (state .entry)) .sync) ⌝ }
 {
     let sync = places::get_sync(state) as usize;
-    wire::kinds::length_for(shape.s, 6, 1) * (log.count - sync)
+    kinds::length_for(shape.s, 6, 1) * (log.count - sync)
 }
 
 // Writes kind 6 for each position past the sync point, and says where the last ends.
@@ -489,7 +489,7 @@ pub fn on_replica_sync(
     let Message::ReplicaSync(_) = m else {
         return Answer::Refused(2);
     };
-    let place = wire::kinds::entries_at(shape.s, 4);
+    let place = kinds::entries_at(shape.s, 4);
     let count = octets::get32(message, place) as usize;
     if count as u64 <= places::get_sync(state) {
         return Answer::Refused(7);

@@ -106,7 +106,7 @@ fn replies_length(s: u64, k: usize) -> usize
     requires { ⌜ (s ≤ 8) × (k ≤ 4096) ⌝ }
     ensures { λ r. ⌜ (r ≡ lengthFor s 5 1 * k) × (r ≤ 425984) ⌝ }
 {
-    wire::kinds::length_for(s, 5, 1) * k
+    kinds::length_for(s, 5, 1) * k
 }
 
 // Puts the clock and the sync point.
@@ -136,7 +136,7 @@ fn leader_waits(
         settle(shape, state, time, n as u64);
         return Answer::Done(0);
     }
-    if out.len() < wire::kinds::length_for(shape.s, 5, 1) {
+    if out.len() < kinds::length_for(shape.s, 5, 1) {
         return Answer::Refused(9);
     }
     let end = tell_unplaced(shape, state, out, time);
@@ -159,7 +159,7 @@ fn leader_releases(shape: Shape, state: &mut [u8], out: &mut [u8], time: u64) ->
         return Answer::Refused(8);
     }
     let k = fitting(shape.c as usize, n, run);
-    if out.len() < replies_length(shape.s, k) + wire::kinds::length_for(shape.s, 4, n + k) {
+    if out.len() < replies_length(shape.s, k) + kinds::length_for(shape.s, 4, n + k) {
         return Answer::Refused(9);
     }
     let at = release(shape, state, out, time, n, k);
@@ -179,7 +179,7 @@ fn follower_releases(shape: Shape, state: &mut [u8], out: &mut [u8], time: u64) 
         return Answer::Refused(8);
     }
     let k = fitting(shape.c as usize, n, due);
-    if out.len() < replies_length(shape.s, k) + wire::kinds::length_for(shape.s, 10, 0) {
+    if out.len() < replies_length(shape.s, k) + kinds::length_for(shape.s, 10, 0) {
         return Answer::Refused(9);
     }
     let at = release(shape, state, out, time, n, k);

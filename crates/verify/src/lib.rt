@@ -140,7 +140,7 @@ pub fn on_verify_request(
     let asker = h.from_group as u64;
     let t = source_of(shape, state);
     let count = count_asked(t, boundary, asker);
-    if out.len() < wire::kinds::length_for(shape.s, 19, count) {
+    if out.len() < kinds::length_for(shape.s, 19, count) {
         return Answer::Refused(9);
     }
     let end = tell_none(shape, state, out, h.from_group, h.from_replica as u64);

@@ -123,7 +123,7 @@ fn ask_all(
 {
     let mask = all_groups(shape.s);
     let count = handler::count_others(shape, state, mask) as usize;
-    if out.len() < wire::kinds::length_for(shape.s, 18, 0) * count {
+    if out.len() < kinds::length_for(shape.s, 18, 0) * count {
         return Answer::Refused(9);
     }
     keep_vote(shape, state, view, message, cast);
@@ -187,7 +187,7 @@ pub fn on_vote(shape: Shape, state: &mut [u8], m: Message, message: &[u8], out: 
         sender: h.from_replica as u64,
         normal,
         sync,
-        at: wire::kinds::entries_at(shape.s, 8),
+        at: kinds::entries_at(shape.s, 8),
         entering: places::get_view(state) < view,
     };
     if is_second(shape, state, cast) {

@@ -26,12 +26,14 @@ use Rattle.rules.proofs.Tests.{and-l, and-r, and-both, split, join, _also_, eac
 use Rattle.rules.proofs.Verdicts.{not-fine, is-fine, verdict-ext}
 use Rattle.rules.proofs.Messages.{formed-fits}
 use Rattle.rules.proofs.Case.{PartsAre, parts-are}
-use Rattle.wire.specs.declared.Parts.{Parts}
-use Rattle.wire.specs.declared.Said.{Said}
-use Rattle.wire.specs.Parts.{numberOf, fieldsFrom, saidOf, partsFrom, sizeOf, Room}
-use Rattle.wire.specs.Rows.{rowIn}
+use Rattle.fields.specs.declared.Parts.{Parts}
+use Rattle.writer.specs.declared.Said.{Said}
+use Rattle.fields.specs.Parts.{numberOf, fieldsFrom}
+use Rattle.writer.specs.Said.{saidOf, sizeOf, Room}
+use Rattle.wire.specs.Parts.{partsFrom}
+use Rattle.verdicts.specs.Rows.{rowIn}
 use Rattle.wire.proofs.Reader.{numbers-few}
-use Rattle.wire.proofs.Writer.{length-bytes}
+use Rattle.writer.proofs.Writer.{length-bytes}
 
 -- the parts that a case says, and its blocks
 abbrev partsSaid : Said → List ℕ → List ℕ → Parts

@@ -20,8 +20,9 @@ use Rattle.rules.specs.declared.Verdict.{Verdict}
 use Rattle.rules.specs.declared.Verdict.the-variants.{Fine, Wrong}
 use Rattle.rules.proofs.Tests.{sizes}
 use Rattle.rules.proofs.Verdicts.{verdict-ext}
-use Rattle.wire.specs.Parts.{numberOf, fieldsFrom, headerIn, partsIn, judgedAs}
-use Rattle.wire.specs.Rows.{rowIn}
+use Rattle.fields.specs.Parts.{numberOf, fieldsFrom}
+use Rattle.wire.specs.Parts.{headerIn, partsIn, judgedAs}
+use Rattle.verdicts.specs.Rows.{rowIn}
 
 module _ (n s : ℕ) (r : Bool) (e : r ≡ sizesFit n s) (h : not r ≡ false) where
   pub fits : sizesFit n s ≡ true

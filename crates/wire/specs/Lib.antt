@@ -1,3 +1,2 @@
 -- What the functions of the crate pass between them.
 pub mod Parts
-pub mod Rows

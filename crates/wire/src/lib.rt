@@ -1,9 +1,5 @@
 // The messages of document 01: read from bytes, and written to bytes.
 pub mod decode;
-mod fields;
-pub mod kinds;
-mod log;
-pub mod put;
 
 ghost use mathlib.Core.Path.{_≡_};
 ghost use Prim.Native.Nat.{ℕ, _+_, _*_, _^_, _≤_, _<_};
@@ -11,34 +7,12 @@ ghost use lib.ListN.{length};
 ghost use Rattle.rules.specs.Read as reading;
 ghost use Rattle.rules.specs.Wire as kinds;
 ghost use Rattle.rules.specs.Write as writing;
+use fields::Parts;
 use kinds::entries_at;
 use kinds::length_for;
 use rules::Answer;
-use rules::Header;
 use rules::Message;
 use rules::Verdict;
-
-// What a message says beside its entries: the header, the three zeros, the three counts, and its numbers, 0 where it has none.
-pub struct Parts {
-    pub header: Header,
-    pub zeros: u64,
-    pub views: u64,
-    pub numbers: u64,
-    pub first: u64,
-    pub second: u64,
-    pub third: u64,
-    pub entries: u64,
-}
-
-// What a message's case says: its number, the header, how many numbers it has, and those, 0 where it has none.
-pub struct Said {
-    pub tag: u8,
-    pub header: Header,
-    pub numbers: u64,
-    pub first: u64,
-    pub second: u64,
-    pub third: u64,
-}
 
 // How many entries from `from` on the bytes have room for.
 fn whole_in(len: usize, from: usize) -> usize
@@ -62,8 +36,8 @@ pub fn read(n: u64, s: u64, b: &[u8]) -> Message
     let count = p.entries as usize;
     let from = entries_at(s, h.kind) + 4;
     let whole = whole_in(b.len(), from);
-    let seen = log::smaller(count, whole + 1);
-    let v = log::message_wrong(n, s, p, b, from, whole, seen);
+    let seen = verdicts::smaller(count, whole + 1);
+    let v = verdicts::message_wrong(n, s, p, b, from, whole, seen);
     decode::judged(
         b.len(),
         length_for(s, h.kind, count),
@@ -77,7 +51,7 @@ fn parts_formed(n: u64, s: u64, m: Message, views: &[u8], entries: &[u8]) -> boo
     requires { ⌜ s ≤ 8 ⌝ }
     ensures { λ r. ⌜ r ≡ writing.partsFormed n s m (now (views .entry)) (now (entries .entry)) ⌝ }
 {
-    let said = put::said_of(m);
+    let said = writer::said_of(m);
     let header = said.header;
     let items = views.len() / 4;
     let count = entries.len() / 24;
@@ -103,7 +77,7 @@ fn parts_formed(n: u64, s: u64, m: Message, views: &[u8], entries: &[u8]) -> boo
         third: said.third,
         entries: count as u64,
     };
-    let v = log::message_wrong(n, s, p, entries, 0, count, count);
+    let v = verdicts::message_wrong(n, s, p, entries, 0, count, count);
     match v {
         Verdict::Fine => true,
         Verdict::Wrong(_, _) => false,
@@ -115,7 +89,7 @@ fn size_of(m: Message, views: usize, entries: usize) -> usize
     requires { ⌜ (views ≤ 32) × (entries < 24 * 2 ^ 32) ⌝ }
     ensures { λ r. ⌜ r ≡ 24 + views + 8 * length (kinds.numbersOf m) + entries ⌝ }
 {
-    let said = put::said_of(m);
+    let said = writer::said_of(m);
     24 + views + 8 * said.numbers as usize + entries
 }
 
@@ -132,6 +106,6 @@ pub fn write(n: u64, s: u64, m: Message, views: &[u8], entries: &[u8], out: &mut
     if out.len() < size_of(m, views.len(), entries.len()) {
         return Answer::Refused(9);
     }
-    let end = put::put_message(out, 0, m, views, entries);
+    let end = writer::put_message(out, 0, m, views, entries);
     Answer::Done(end)
 }

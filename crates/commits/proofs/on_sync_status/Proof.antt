@@ -14,7 +14,7 @@ use Rattle.commits.proofs.is_stale.Reads as is-stale-reads
 use Rattle.commits.proofs.keep_status.Reads as keep-status-reads
 use Rattle.commits.proofs.log_length.Reads as log-length-reads
 use Rattle.commits.proofs.tell_commit.Reads as tell-commit-reads
-use Rattle.wire.proofs.kinds.length_for.Reads as length-for-reads
+use Rattle.kinds.proofs.length_for.Reads as length-for-reads
 
 -- src/lib.rt:104:29
 enum-known-m : tie.Need-enum-known-m

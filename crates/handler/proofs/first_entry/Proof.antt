@@ -8,7 +8,7 @@ use Rattle.handler.proofs.first_entry.Tie as tie
 use Rattle.handler.proofs.first_entry.Reads as reads
 use Rattle.handler.proofs.first_entry.Lts as lts
 use Rattle.entries.proofs.entry_at.Reads as entry-at-reads
-use Rattle.wire.proofs.kinds.entries_at.Reads as entries-at-reads
+use Rattle.kinds.proofs.entries_at.Reads as entries-at-reads
 
 -- src/lib.rt:37:32
 entries-at-requires : tie.Need-entries-at-requires

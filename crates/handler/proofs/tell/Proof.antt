@@ -9,7 +9,7 @@ use Rattle.handler.proofs.tell.Tie as tie
 use Rattle.handler.proofs.tell.Reads as reads
 use Rattle.handler.proofs.tell.Lts as lts
 use Rattle.places.proofs.places_of.Reads as places-of-reads
-use Rattle.wire.proofs.put.put_message.Reads as put-message-reads
+use Rattle.writer.proofs.put_message.Reads as put-message-reads
 
 -- src/lib.rt:60:9
 places-of-requires : tie.Need-places-of-requires

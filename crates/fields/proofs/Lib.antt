@@ -1,0 +1,2 @@
+-- The laws of rows and of tests by places.
+pub mod Rows

@@ -1,0 +1,2 @@
+-- What the functions of the crate pass between them.
+pub mod Parts

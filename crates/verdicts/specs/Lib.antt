@@ -1,0 +1,2 @@
+-- What is looked at in a row of entries.
+pub mod Rows

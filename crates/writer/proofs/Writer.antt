@@ -1,0 +1,170 @@
+-- Writes one after the other are one write of the message's bytes, and how long those are. Assumes nothing.
+use Prim.Native.Nat.{ℕ, zero, suc, _+_, _*_, _/_, _≤_, _<_}
+use mathlib.Core.Path.{_≡_, refl, sym, ap, ap₂, _∙_}
+use mathlib.Core.List.{List, [], _∷_, _++_, append-assoc, append-nil}
+use native.Mathlib.Omega.{arith}
+use lib.ListN.{length, take, drop, getD, replicate, length-append, length-replicate, drop-of-length-le}
+use Rattle.octets.specs.Bytes.{le, flat, items, num, splice}
+use Rattle.octets.specs.Sections.{concat}
+use Rattle.octets.proofs.Laws.{Bytes, length-le, splice-next}
+use Rattle.octets.proofs.Codecs.{Exact, length-items, peel-all, exact-number}
+use Rattle.rules.specs.Wire.{Wire, entryBytes, headBytes, wireBytes, numbersOf}
+use Rattle.rules.specs.Wire as Wires
+use Rattle.rules.specs.Read.{entryAt}
+use Rattle.rules.specs.Write.{wireFrom}
+use Rattle.rules.specs.declared.Header.{Header}
+use Rattle.rules.specs.declared.Message.{Message}
+use Rattle.rules.specs.declared.Message.the-variants.{WrongSizes, Malformed, Transaction, Note, ReplicaSync, FastReply, SlowReply, ChangeView, Vote, StartView, SyncStatus, Commit, VerifyRequest, VerifyReply, Tick}
+use Rattle.rules.proofs.Entries.{exact-entry}
+use Rattle.writer.specs.declared.Said.{Said}
+use Rattle.writer.specs.Said.{saidOf, numbersSaid, bareWire, sizeOf, Room}
+
+-- y is written where x ends
+next : (b : List ℕ) (at j i : ℕ) (x y m e : List ℕ) → at + j ≤ length b → length x ≡ j → i ≡ at + j → m ≡ splice b at x → e ≡ splice m i y → e ≡ splice b at (x ++ y)
+next b at j i x y m e h l q hm he = splice-next b at j x y m e h l hm (rw q at he)
+
+-- ---- the header
+
+pub header-put : (b : List ℕ) (at : ℕ) (h : Header) (m₁ m₂ m₃ m₄ m₅ m₆ m₇ : List ℕ)
+    → at + 12 ≤ length b
+    → m₁ ≡ splice b at (le 1 (h .kind))
+    → m₂ ≡ splice m₁ (at + 1) (le 1 (h .«to_group»))
+    → m₃ ≡ splice m₂ (at + 2) (le 1 (h .«to_mask»))
+    → m₄ ≡ splice m₃ (at + 3) (le 1 (h .«from_group»))
+    → m₅ ≡ splice m₄ (at + 4) (le 1 (h .«from_replica»))
+    → m₆ ≡ splice m₅ (at + 5) (replicate 3 0)
+    → m₇ ≡ splice m₆ (at + 8) (le 4 (h .view))
+    → m₇ ≡ splice b at (headBytes (bareWire h))
+unfolding headBytes concat
+header-put b at h m₁ m₂ m₃ m₄ m₅ m₆ m₇ r e₁ e₂ e₃ e₄ e₅ e₆ e₇ =
+    let k = le 1 (h .kind) in
+    let g = le 1 (h .«to_group») in
+    let m = le 1 (h .«to_mask») in
+    let f = le 1 (h .«from_group») in
+    let p = le 1 (h .«from_replica») in
+    let z : List ℕ = replicate 3 0 in
+    let s₂ : m₂ ≡ splice b at (k ++ g) = splice-next b at 1 k g m₁ m₂ (omega arith) (length-le 1 (h .kind)) e₁ e₂ in
+    let s₃ : m₃ ≡ splice b at ((k ++ g) ++ m) = splice-next b at 2 (k ++ g) m m₂ m₃ (omega arith) (simp (length-append, length-le)) s₂ e₃ in
+    let s₄ : m₄ ≡ splice b at (((k ++ g) ++ m) ++ f) = splice-next b at 3 ((k ++ g) ++ m) f m₃ m₄ (omega arith) (simp (length-append, length-le)) s₃ e₄ in
+    let s₅ : m₅ ≡ splice b at ((((k ++ g) ++ m) ++ f) ++ p) = splice-next b at 4 (((k ++ g) ++ m) ++ f) p m₄ m₅ (omega arith) (simp (length-append, length-le)) s₄ e₅ in
+    let s₆ : m₆ ≡ splice b at (((((k ++ g) ++ m) ++ f) ++ p) ++ z) = splice-next b at 5 ((((k ++ g) ++ m) ++ f) ++ p) z m₅ m₆ (omega arith) (simp (length-append, length-le)) s₅ e₆ in
+    let s₇ : m₇ ≡ splice b at ((((((k ++ g) ++ m) ++ f) ++ p) ++ z) ++ le 4 (h .view)) = splice-next b at 8 (((((k ++ g) ++ m) ++ f) ++ p) ++ z) (le 4 (h .view)) m₆ m₇ (omega arith) (simp (length-append, length-le, length-replicate)) s₆ e₇ in
+    s₇ ∙ ap (splice b at) (simp (append-assoc, append-nil))
+
+long-header : (h : Header) → length (headBytes (bareWire h)) ≡ 12
+unfolding headBytes concat
+long-header h = simp (length-append, length-le)
+
+-- ---- the numbers, after their count
+
+long-eights : (xs : List ℕ) → length (flat (le 8) xs) ≡ 8 * length xs
+unfolding flat
+long-eights [] = refl
+long-eights (x ∷ xs) = length-append (le 8 x) (flat (le 8) xs) ∙ omega (arith, length-le 8 x, long-eights xs)
+
+module _ (b : List ℕ) (at : ℕ) (p : Said) where
+  abbrev run : List ℕ
+  run = le 4 (p .numbers) ++ flat (le 8) (numbersSaid p)
+
+  pub none-put : (m₁ : List ℕ) → p .numbers ≡ 0 → m₁ ≡ splice b at (le 4 (p .numbers)) → m₁ ≡ splice b at run
+  unfolding flat
+  none-put m₁ e e₁ = e₁ ∙ ap (splice b at) (rw e (sym (append-nil (le 4 0))))
+
+  module _ (m₁ m₂ : List ℕ) (r : at + 4 + 8 * p .numbers ≤ length b) where
+    pub one-put : p .numbers ≡ 1 → m₁ ≡ splice b at (le 4 (p .numbers)) → m₂ ≡ splice m₁ (at + 4) (le 8 (p .first)) → m₂ ≡ splice b at run
+    unfolding flat
+    one-put e e₁ e₂ =
+        splice-next b at 4 (le 4 (p .numbers)) (le 8 (p .first)) m₁ m₂ (omega arith) (length-le 4 (p .numbers)) e₁ e₂
+        ∙ ap (splice b at) (rw e (simp append-nil))
+
+  module _ (m₁ m₂ m₃ : List ℕ) (r : at + 4 + 8 * p .numbers ≤ length b) where
+    pub two-put : p .numbers ≡ 2 → m₁ ≡ splice b at (le 4 (p .numbers)) → m₂ ≡ splice m₁ (at + 4) (le 8 (p .first)) → m₃ ≡ splice m₂ (at + 12) (le 8 (p .second)) → m₃ ≡ splice b at run
+    unfolding flat
+    two-put e e₁ e₂ e₃ =
+        let s₂ : m₂ ≡ splice b at (le 4 (p .numbers) ++ le 8 (p .first)) = splice-next b at 4 (le 4 (p .numbers)) (le 8 (p .first)) m₁ m₂ (omega arith) (length-le 4 (p .numbers)) e₁ e₂ in
+        splice-next b at 12 (le 4 (p .numbers) ++ le 8 (p .first)) (le 8 (p .second)) m₂ m₃ (omega arith) (simp (length-append, length-le)) s₂ e₃
+        ∙ ap (splice b at) (rw e (simp (append-assoc, append-nil)))
+
+  module _ (m₁ m₂ m₃ m₄ : List ℕ) (r : at + 4 + 8 * p .numbers ≤ length b) where
+    pub three-put : p .numbers ≡ 3 → m₁ ≡ splice b at (le 4 (p .numbers)) → m₂ ≡ splice m₁ (at + 4) (le 8 (p .first)) → m₃ ≡ splice m₂ (at + 12) (le 8 (p .second)) → m₄ ≡ splice m₃ (at + 20) (le 8 (p .third)) → m₄ ≡ splice b at run
+    unfolding flat
+    three-put e e₁ e₂ e₃ e₄ =
+        let x = le 4 (p .numbers) ++ le 8 (p .first) in
+        let s₂ : m₂ ≡ splice b at x = splice-next b at 4 (le 4 (p .numbers)) (le 8 (p .first)) m₁ m₂ (omega arith) (length-le 4 (p .numbers)) e₁ e₂ in
+        let s₃ : m₃ ≡ splice b at (x ++ le 8 (p .second)) = splice-next b at 12 x (le 8 (p .second)) m₂ m₃ (omega arith) (simp (length-append, length-le)) s₂ e₃ in
+        splice-next b at 20 (x ++ le 8 (p .second)) (le 8 (p .third)) m₃ m₄ (omega arith) (simp (length-append, length-le)) s₃ e₄
+        ∙ ap (splice b at) (rw e (simp (append-assoc, append-nil)))
+
+numbers-said : (m : Message) → numbersSaid (saidOf m) ≡ numbersOf m
+numbers-said WrongSizes = refl
+numbers-said (Malformed at) = refl
+numbers-said (Transaction h x y) = refl
+numbers-said (Note h) = refl
+numbers-said (ReplicaSync h) = refl
+numbers-said (FastReply h x y z) = refl
+numbers-said (SlowReply h x) = refl
+numbers-said (ChangeView h) = refl
+numbers-said (Vote h x y) = refl
+numbers-said (StartView h) = refl
+numbers-said (SyncStatus h x) = refl
+numbers-said (Commit h x) = refl
+numbers-said (VerifyRequest h x) = refl
+numbers-said (VerifyReply h) = refl
+numbers-said (Tick h x) = refl
+
+-- ---- a message
+
+-- a block that is whole is the bytes of what stands in it
+block : {A : Type 0} {k : ℕ} {put : A → List ℕ} {get : List ℕ → ℕ → A} → Exact A k put get → (b : List ℕ) → Bytes b → k * (length b / k) ≡ length b → flat put (items (get b) k 0 (length b / k)) ≡ b
+block {k = k} {put = put} {get = get} c b bs e =
+    let n = length b / k in
+    let q : 0 + k * n ≡ length b = omega arith in
+    let none : drop (0 + k * n) b ≡ [] = drop-of-length-le b {i = 0 + k * n} (omega arith) in
+    sym (append-nil (flat put (items (get b) k 0 n))) ∙ rw none at (peel-all c b 0 n bs (omega arith))
+
+module _ (m : Message) (views entries : List ℕ) where
+  abbrev bytes : List ℕ
+  bytes = wireBytes (wireFrom m views entries)
+
+  module _ (wv : 4 * (length views / 4) ≡ length views) (we : 24 * (length entries / 24) ≡ length entries) (bv : Bytes views) (be : Bytes entries) where
+    bytes-are : bytes ≡ headBytes (bareWire (Wires.headerIn m)) ++ (le 4 (length views / 4) ++ (views ++ ((le 4 (length (numbersOf m)) ++ flat (le 8) (numbersOf m)) ++ (le 4 (length entries / 24) ++ entries))))
+    unfolding wireBytes wireFrom headBytes concat
+    bytes-are =
+        let ev : flat (le 4) (items (λ a. num views a 4) 4 0 (length views / 4)) ≡ views = block (exact-number 4) views bv wv in
+        let ee : flat entryBytes (items (entryAt entries) 24 0 (length entries / 24)) ≡ entries = block exact-entry entries be we in
+        simp (ev, ee, length-items, append-assoc, append-nil)
+
+    pub length-bytes : length bytes ≡ sizeOf m views entries
+    length-bytes = ap length bytes-are ∙ simp (length-append, length-le, long-header, long-eights) (omega arith)
+
+  module _ (at size : ℕ) (r : Room m views entries at size) (p : Said) (e : p ≡ saidOf m) (bv : Bytes views) (be : Bytes entries) where
+    pub message-end : at + 16 + length views + 4 + 8 * p .numbers + 4 + length entries ≡ at + length bytes
+    message-end = rw (e, length-bytes (r .wholeViews) (r .wholeEntries) bv be) (omega arith)
+
+  module _ (at : ℕ) (b : List ℕ) (r : Room m views entries at (length b)) (p : Said) (e : p ≡ saidOf m) (bv : Bytes views) (be : Bytes entries) (m₁ m₂ m₃ m₄ m₅ m₆ : List ℕ) where
+    pub message-put : m₁ ≡ splice b at (headBytes (bareWire (p .header)))
+        → m₂ ≡ splice m₁ (at + 12) (le 4 (length views / 4))
+        → m₃ ≡ splice m₂ (at + 16) views
+        → m₄ ≡ splice m₃ (at + 16 + length views) (le 4 (p .numbers) ++ flat (le 8) (numbersSaid p))
+        → m₅ ≡ splice m₄ (at + 16 + length views + 4 + 8 * p .numbers) (le 4 (length entries / 24))
+        → m₆ ≡ splice m₅ (at + 16 + length views + 4 + 8 * p .numbers + 4) entries
+        → m₆ ≡ splice b at bytes
+    message-put e₁ e₂ e₃ e₄ e₅ e₆ =
+        let H = headBytes (bareWire (Wires.headerIn m)) in
+        let lh : length H ≡ 12 = long-header (Wires.headerIn m) in
+        let c = le 4 (length views / 4) in
+        let N : List ℕ = le 4 (length (numbersOf m)) ++ flat (le 8) (numbersOf m) in
+        let n = length (numbersOf m) in
+        let ln : length N ≡ 4 + 8 * n = simp (length-append, length-le, long-eights) in
+        let k = le 4 (length entries / 24) in
+        let room : at + sizeOf m views entries ≤ length b = r .room in
+        let f₁ : m₁ ≡ splice b at H = rw e at e₁ in
+        let f₄ : m₄ ≡ splice m₃ (at + 16 + length views) N = rw (e, numbers-said m) at e₄ in
+        let f₅ : m₅ ≡ splice m₄ (at + 16 + length views + 4 + 8 * n) k = rw e at e₅ in
+        let f₆ : m₆ ≡ splice m₅ (at + 16 + length views + 4 + 8 * n + 4) entries = rw e at e₆ in
+        let s₂ : m₂ ≡ splice b at (H ++ c) = next b at 12 (at + 12) H c m₁ m₂ (omega arith) lh refl f₁ e₂ in
+        let s₃ : m₃ ≡ splice b at ((H ++ c) ++ views) = next b at 16 (at + 16) (H ++ c) views m₂ m₃ (omega arith) (simp (length-append, length-le, lh)) refl s₂ e₃ in
+        let s₄ : m₄ ≡ splice b at (((H ++ c) ++ views) ++ N) = next b at (16 + length views) (at + 16 + length views) ((H ++ c) ++ views) N m₃ m₄ (omega arith) (simp (length-append, length-le, lh)) (omega arith) s₃ f₄ in
+        let s₅ : m₅ ≡ splice b at ((((H ++ c) ++ views) ++ N) ++ k) = next b at (16 + length views + 4 + 8 * n) (at + 16 + length views + 4 + 8 * n) (((H ++ c) ++ views) ++ N) k m₄ m₅ (omega arith) (simp (length-append, length-le, lh, long-eights) (omega arith)) (omega arith) s₄ f₅ in
+        let s₆ : m₆ ≡ splice b at (((((H ++ c) ++ views) ++ N) ++ k) ++ entries) = next b at (16 + length views + 4 + 8 * n + 4) (at + 16 + length views + 4 + 8 * n + 4) ((((H ++ c) ++ views) ++ N) ++ k) entries m₅ m₆ (omega arith) (simp (length-append, length-le, lh, long-eights) (omega arith)) (omega arith) s₅ f₆ in
+        s₆ ∙ ap (splice b at) (sym (bytes-are (r .wholeViews) (r .wholeEntries) bv be ∙ simp append-assoc))
