@@ -13,7 +13,7 @@ use Rattle.rules.specs.declared.Shape.{Shape}
 use Rattle.rules.proofs.Image.{length-total}
 use Rattle.places.specs.Layout.{startOf, Laid}
 use Rattle.places.proofs.Sections.{lay}
-use Rattle.places.proofs.Fresh.{table-zeros, notes-zeros, votes-zeros, replies-zeros}
+use Rattle.places.proofs.Zeros.{table-zeros, notes-zeros, votes-zeros, replies-zeros}
 use Rattle.changes.specs.Changes.{emptied, tablesLength}
 
 -- ---- sections in a row, the last of them replaced

@@ -47,7 +47,7 @@ pub fn enter(shape: Shape, state: &mut [u8], view: u32, leads: bool, message: &[
     places::put_boundary(state, 0);
     empty_tables(shape, state);
     if leads {
-        places::keep_own_vote(shape, state);
+        keeping::keep_own_vote(shape, state);
     }
 }
 

@@ -62,7 +62,7 @@ pub fn holds(state: &[u8], log: u64, early: u64) -> u64 {
 
 // Starts replica 1, a follower in view 0.
 fn start(state: &mut [u8]) -> u64 {
-    number_of(places::start(shape(), 0, 1, state))
+    number_of(fresh::start(shape(), 0, 1, state))
 }
 
 // A transaction with that request arrives, due at that time. Answers the step's number, or 1000 where it was not written.

@@ -27,7 +27,7 @@ use Rattle.places.proofs.Rows.{within, Even, long-row, places-row, get-
 use Rattle.places.proofs.Head.{get-head}
 use Rattle.places.proofs.Tables.{log-part}
 use Rattle.places.proofs.Spots.{count-like}
-use Rattle.places.proofs.Fresh.{heard-zeros, votes-zeros, replies-zeros}
+use Rattle.places.proofs.Zeros.{heard-zeros, votes-zeros, replies-zeros}
 
 -- ---- lengths
 

@@ -27,6 +27,10 @@ placed sh i k n r start size e f m h =
 pub moved : (b b′ x x′ : List ℕ) (a a′ : ℕ) → b′ ≡ splice b a x → a ≡ a′ → x ≡ x′ → b′ ≡ splice b a′ x′
 moved b b′ x x′ a a′ w e f = rw (w, e, f)
 
+-- a number read there
+pub read-at : (b : List ℕ) (a a′ j k v : ℕ) → v ≡ num b (a + j) k → a ≡ a′ → v ≡ num b (a′ + j) k
+read-at b a a′ j k v w e = w ∙ ap (λ (x : ℕ). num b (x + j) k) e
+
 -- zeros from a up to z
 pub zeroed : (b b′ : List ℕ) (a z a′ n : ℕ) → b′ ≡ splice b a (replicate (z - a) 0) → a ≡ a′ → z ≡ a′ + n → b′ ≡ splice b a′ (replicate n 0)
 zeroed b b′ a z a′ n w e f =

@@ -1,19 +1,16 @@
 // Where the parts of a state stand in its bytes: the layout, and reads and writes of each part in place.
-use rules::Answer;
 use rules::Shape;
 ghost use mathlib.Core.Path.{_≡_};
 ghost use mathlib.Core.Bool.{not};
 ghost use mathlib.Core.Option.{some};
-ghost use mathlib.Core.List.{[], _++_};
 ghost use Prim.Native.Nat.{_+_, _*_, _≤_, _<_};
 ghost use lib.Dec.{eqb};
-ghost use lib.ListN.{length, replicate};
+ghost use lib.ListN.{length};
 ghost use Rattle.octets.specs.Bytes.{le, num, part, splice, items};
 ghost use Rattle.rules.specs.Choice.{count, isSome};
 ghost use Rattle.rules.specs.Read.{entryAt};
-ghost use Rattle.rules.specs.Image.{tableLength, voteLength, replyLength, pointBytes, tableBytes, voteBytes, replyBytes, pointAt, voteAt, replyAt};
-ghost use Rattle.rules.specs.Bytes.{left, startBytes};
-ghost use Rattle.places.specs.Layout.{startOf, Marks, Fits, PlaceAt, Sized, lengthFor, ownBytes};
+ghost use Rattle.rules.specs.Image.{tableLength, voteLength, replyLength, pointBytes, tableBytes, pointAt, voteAt, replyAt};
+ghost use Rattle.places.specs.Layout.{startOf, Marks, Fits, PlaceAt, Sized};
 
 // Where each section begins after the head, where the last ends, and how long a table, a note, a vote and a reply are.
 pub struct Places {
@@ -68,40 +65,6 @@ pub fn places_of(shape: Shape) -> Places
         vote,
         reply,
     }
-}
-
-// How many bytes a state has, 0 for sizes that are not permitted.
-pub fn state_length(n: u64, s: u64, c: u64) -> u64
-    ensures { λ r. ⌜ r ≡ lengthFor (record { n = n; s = s; c = c }) ⌝ }
-{
-    let shape = Shape { n, s, c };
-    if !group::shape_fits(shape) {
-        return 0;
-    }
-    places_of(shape).end as u64
-}
-
-// Writes the fresh state of a replica; nothing of the old bytes is read.
-pub fn start(shape: Shape, group: u64, replica: u64, state: &mut [u8]) -> Answer
-    ensures { λ r. ⌜ left r (now (state .exit)) [] ≡ startBytes shape group replica (now (state .entry)) ⌝ }
-{
-    if !group::shape_fits(shape) {
-        return Answer::Refused(1);
-    }
-    if shape.s <= group {
-        return Answer::Refused(1);
-    }
-    if shape.n <= replica {
-        return Answer::Refused(1);
-    }
-    if state.len() != places_of(shape).end {
-        return Answer::Refused(1);
-    }
-    octets::fill_zero(state, 0, state.len());
-    octets::put8(state, 0, group as u8);
-    octets::put8(state, 1, replica as u8);
-    octets::put8(state, 2, 1);
-    Answer::Done(0)
 }
 
 // ---- the head
@@ -353,15 +316,6 @@ pub fn put_heard(shape: Shape, state: &mut [u8], r: u64, p: u64)
     octets::put64(state, at + 1, p);
 }
 
-// Forgets every point heard.
-pub fn clear_heard(shape: Shape, state: &mut [u8])
-    requires { ⌜ Sized shape (now state) ⌝ }
-    ensures { λ _. ⌜ now (state .exit) ≡ splice (now (state .entry)) (startOf shape 2) (replicate (9 * shape .n) 0) ⌝ }
-{
-    let places = places_of(shape);
-    octets::fill_zero(state, places.heard, places.log - places.heard);
-}
-
 // ---- the votes
 
 // Whether a vote of replica r is kept.
@@ -397,57 +351,6 @@ pub fn held_votes(shape: Shape, state: &[u8]) -> u64
     flags(state, places.votes, places.vote, shape.n)
 }
 
-// Forgets every vote.
-pub fn clear_votes(shape: Shape, state: &mut [u8])
-    requires { ⌜ Sized shape (now state) ⌝ }
-    ensures { λ _. ⌜ now (state .exit) ≡ splice (now (state .entry)) (startOf shape 7) (replicate (voteLength (shape .c) * shape .n) 0) ⌝ }
-{
-    let places = places_of(shape);
-    octets::fill_zero(state, places.votes, places.draft - places.votes);
-}
-
-// Writes what stands before the log of a vote.
-fn begin_vote(state: &mut [u8], place: usize, normal: u32, sync: u64)
-    requires { ⌜ place + 13 ≤ length (now state) ⌝ }
-    ensures { λ _. ⌜ now (state .exit) ≡ splice (now (state .entry)) place (le 1 1 ++ (le 4 normal ++ le 8 sync)) ⌝ }
-{
-    octets::put8(state, place, 1);
-    octets::put32(state, place + 1, normal);
-    octets::put64(state, place + 5, sync);
-}
-
-// Keeps the vote of replica r: its log are the `number` entries that stand in `src` from `at` on.
-pub fn keep_vote(
-    shape: Shape,
-    state: &mut [u8],
-    r: u64,
-    normal: u32,
-    sync: u64,
-    src: &[u8],
-    at: usize,
-    number: usize,
-)
-    requires { ⌜ Sized shape (now state) × (r < shape .n) × (number ≤ shape .c) × (at + 24 * number ≤ length (now src)) ⌝ }
-    ensures { λ _. ⌜ now (state .exit) ≡ splice (now (state .entry)) (startOf shape 7 + voteLength (shape .c) * r) (voteBytes (shape .c) (some (record { normal = normal; sync = sync; log = items (entryAt (now (src .entry))) 24 at number }))) ⌝ }
-{
-    let place = vote_place(shape, r);
-    begin_vote(state, place, normal, sync);
-    put_table(shape, state, place + 13, src, at, number);
-}
-
-// Keeps the own vote: the log is copied as it stands.
-pub fn keep_own_vote(shape: Shape, state: &mut [u8])
-    requires { ⌜ Sized shape (now state) × (num (now state) 1 1 < shape .n) ⌝ }
-    ensures { λ _. ⌜ now (state .exit) ≡ splice (now (state .entry)) (startOf shape 7 + voteLength (shape .c) * num (now (state .entry)) 1 1) (ownBytes shape (now (state .entry))) ⌝ }
-{
-    let normal = get_normal(state);
-    let sync = get_sync(state);
-    let place = vote_place(shape, get_replica(state));
-    let places = places_of(shape);
-    begin_vote(state, place, normal, sync);
-    octets::move_up(state, place + 13, places.log, places.table);
-}
-
 // ---- the replies
 
 // Whether a reply of group j is kept.
@@ -458,16 +361,6 @@ pub fn reply_flag(shape: Shape, state: &[u8], j: u64) -> bool
     flag(state, reply_place(shape, j))
 }
 
-// Keeps the reply of group j: the `number` entries that stand in `src` from `at` on.
-pub fn keep_reply(shape: Shape, state: &mut [u8], j: u64, src: &[u8], at: usize, number: usize)
-    requires { ⌜ Sized shape (now state) × (j < shape .s) × (number ≤ shape .c) × (at + 24 * number ≤ length (now src)) ⌝ }
-    ensures { λ _. ⌜ now (state .exit) ≡ splice (now (state .entry)) (startOf shape 9 + replyLength (shape .c) * j) (replyBytes (shape .c) (some (items (entryAt (now (src .entry))) 24 at number))) ⌝ }
-{
-    let place = reply_place(shape, j);
-    octets::put8(state, place, 1);
-    put_table(shape, state, place + 1, src, at, number);
-}
-
 // How many replies are kept.
 pub fn held_replies(shape: Shape, state: &[u8]) -> u64
     requires { ⌜ Sized shape (now state) ⌝ }
@@ -475,13 +368,4 @@ pub fn held_replies(shape: Shape, state: &[u8]) -> u64
 {
     let places = places_of(shape);
     flags(state, places.replies, places.reply, shape.s)
-}
-
-// Forgets every reply.
-pub fn clear_replies(shape: Shape, state: &mut [u8])
-    requires { ⌜ Sized shape (now state) ⌝ }
-    ensures { λ _. ⌜ now (state .exit) ≡ splice (now (state .entry)) (startOf shape 9) (replicate (replyLength (shape .c) * shape .s) 0) ⌝ }
-{
-    let places = places_of(shape);
-    octets::fill_zero(state, places.replies, places.end - places.replies);
 }

@@ -79,11 +79,11 @@ fn digest_first(bytes: &[u8], length: usize) -> u64 {
 
 // Starts a replica of these sizes on the state's bytes.
 fn start_on(mut run: Run, shape: Shape, group: u64, replica: u64, state: &mut [u8]) -> Run {
-    let length = places::state_length(shape.n, shape.s, shape.c) as usize;
+    let length = fresh::state_length(shape.n, shape.s, shape.c) as usize;
     if state.len() < length {
         return broken(run, b"no room for the state");
     }
-    let number = number_of(places::start(shape, group, replica, &mut state[0..length]));
+    let number = number_of(fresh::start(shape, group, replica, &mut state[0..length]));
     run.shape = shape;
     run.length = length;
     run.starts = line::one_more(run.starts);

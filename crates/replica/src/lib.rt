@@ -73,7 +73,7 @@ fn code(answer: Answer) -> u64
 pub extern "C" fn jallumere_state_length(n: u64, s: u64, c: u64) -> u64
     ensures { λ r. ⌜ r ≡ lengthFor (record { n = n; s = s; c = c }) ⌝ }
 {
-    places::state_length(n, s, c)
+    fresh::state_length(n, s, c)
 }
 
 // 0 and the fresh state's bytes, or 1 and all as it came.
@@ -88,7 +88,7 @@ pub extern "C" fn jallumere_start(
 ) -> u64
     ensures { λ r. ⌜ Gives (startBytes (record { n = n; s = s; c = c }) group replica (now (state .entry))) r (now (state .exit)) [] ⌝ }
 {
-    code(places::start(Shape { n, s, c }, group, replica, state))
+    code(fresh::start(Shape { n, s, c }, group, replica, state))
 }
 
 // One step: the number of the table, and 256 times the outgoing length.

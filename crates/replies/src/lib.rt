@@ -88,7 +88,7 @@ pub fn on_verify_reply(
         return Answer::Refused(8);
     }
     if places::held_replies(shape, state) + 1 < shape.s - 1 {
-        places::keep_reply(shape, state, from, message, at + 4, number);
+        keeping::keep_reply(shape, state, from, message, at + 4, number);
         return Answer::Done(0);
     }
     merge_and_start(shape, state, from, message, at + 4, number, out)

@@ -17,7 +17,7 @@ pub fn start_in(shape: Shape, group: u64, replica: u64, buffer: &mut [u8], lengt
     if buffer.len() < length {
         return 1000;
     }
-    number_of(places::start(shape, group, replica, &mut buffer[0..length]))
+    number_of(fresh::start(shape, group, replica, &mut buffer[0..length]))
 }
 
 // What is refused on the bytes of the state of n = 3, S = 1, C = 16.
@@ -78,22 +78,22 @@ fn refusals() -> u64 {
 
 // The lengths that are worked out by hand, and none for sizes that are not permitted.
 fn lengths() -> u64 {
-    let mut failed = same(b"least state", places::state_length(3, 1, 16), 3467);
+    let mut failed = same(b"least state", fresh::state_length(3, 1, 16), 3467);
     failed = more(
         failed,
-        same(b"greatest state", places::state_length(7, 8, 4096), 2187586),
+        same(b"greatest state", fresh::state_length(7, 8, 4096), 2187586),
     );
     failed = more(
         failed,
-        same(b"no state of n = 4", places::state_length(4, 1, 16), 0),
+        same(b"no state of n = 4", fresh::state_length(4, 1, 16), 0),
     );
     failed = more(
         failed,
-        same(b"no state of S = 9", places::state_length(7, 9, 16), 0),
+        same(b"no state of S = 9", fresh::state_length(7, 9, 16), 0),
     );
     more(
         failed,
-        same(b"no state of C = 15", places::state_length(7, 8, 15), 0),
+        same(b"no state of C = 15", fresh::state_length(7, 8, 15), 0),
     )
 }
 

@@ -82,7 +82,7 @@ fn right(n: u64, s: u64, c: u64, replica: u64, memory: &mut [u8]) -> u64 {
         return 0;
     }
     let shape = Shape { n, s, c };
-    let length = places::state_length(n, s, c) as usize;
+    let length = fresh::state_length(n, s, c) as usize;
     fill(memory);
     let others = others_refused(shape, replica, memory, length);
     let exact = start_in(shape, s - 1, replica, memory, length) == 0;

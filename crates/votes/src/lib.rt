@@ -65,7 +65,7 @@ fn keep_vote(shape: Shape, state: &mut [u8], view: u32, message: &[u8], cast: Ca
     let number = octets::get32(message, at) as usize;
     let normal = cast.normal as u32;
     come_to(shape, state, view, message, cast.entering);
-    places::keep_vote(
+    keeping::keep_vote(
         shape,
         state,
         cast.sender,

@@ -1,4 +1,5 @@
 -- `places::heard_point` meets its contract. Assumes nothing.
+use Rattle.places.proofs.Spots.{read-at}
 use borrow.Author.Needs.{needs}
 use Rattle.places.proofs.heard_point.Statement.{statement}
 use Rattle.places.proofs.heard_point.Tie as tie
@@ -13,7 +14,7 @@ get64-requires : tie.Need-get64-requires
 get64-requires c κs = search needs
 
 returns : tie.Need-returns
-returns c = cc
+returns c = read-at _ _ _ _ _ _ (c .get64 .ensures) (c .before .heard-place .ensures .at)
 
 pub heard-point-spec : {M : Type 1} → statement M
 heard-point-spec = tie.close (tie.spec heard-place-requires add-get64 get64-requires returns)

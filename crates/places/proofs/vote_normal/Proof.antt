@@ -1,4 +1,5 @@
 -- `places::vote_normal` meets its contract. Assumes nothing.
+use Rattle.places.proofs.Spots.{read-at}
 use borrow.Author.Needs.{needs}
 use Rattle.places.proofs.vote_normal.Statement.{statement}
 use Rattle.places.proofs.vote_normal.Tie as tie
@@ -13,7 +14,7 @@ get32-requires : tie.Need-get32-requires
 get32-requires c κs = search needs
 
 returns : tie.Need-returns
-returns c = cc
+returns c = read-at _ _ _ _ _ _ (c .get32 .ensures) (c .before .vote-place .ensures .at)
 
 pub vote-normal-spec : {M : Type 1} → statement M
 vote-normal-spec = tie.close (tie.spec vote-place-requires add-get32 get32-requires returns)

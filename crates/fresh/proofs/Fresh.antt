@@ -1,75 +1,27 @@
 -- The fresh state's bytes: zeros but for the own group, the own replica and status 1. Assumes nothing.
-use Prim.Native.Nat.{ℕ, zero, suc, _+_, _-_, _*_, _≤_, _<_}
-use mathlib.Core.Path.{_≡_, refl, sym, ap, ap₂, _∙_}
+use Prim.Native.Nat.{ℕ, _≤_, _<_}
+use mathlib.Core.Path.{_≡_, refl, sym, ap, _∙_}
 use mathlib.Core.Bool.{Bool, true, false, _&&_}
-use mathlib.Core.Option.{none}
-use mathlib.Core.List.{List, [], _∷_, _++_, map}
-use native.Mathlib.Omega.{arith}
-use lib.ListN.{length, replicate, length-replicate, replicate-append-replicate}
+use mathlib.Core.List.{List, [], map}
+use lib.ListN.{length, replicate, length-replicate}
 use lib.Dec.{eqb, ltb}
 use borrow.Author.Tests.{lt-ltb, le-ltb, eq-eqb, ne-eqb}
-use Rattle.octets.specs.Bytes.{le, splice, flat}
-use Rattle.octets.specs.Sections.{concat, total}
+use Rattle.octets.specs.Bytes.{le, splice}
+use Rattle.octets.specs.Sections.{concat}
 use Rattle.octets.proofs.Laws.{le-zero}
 use Rattle.octets.proofs.Sections.{splice-whole}
 use Rattle.rules.specs.Group.{shapeFits}
 use Rattle.rules.specs.State.{State, fresh}
-use Rattle.rules.specs.Image.{tableLength, noteLength, voteLength, replyLength, lengths, stateLength, zeroBytes, headSection, pointBytes, tableBytes, notesSection, voteBytes, replyBytes, sections, image}
+use Rattle.rules.specs.Image.{lengths, stateLength, zeroBytes, headSection, sections, image}
 use Rattle.rules.specs.Bytes.{left, startBytes}
 use Rattle.rules.specs.declared.Shape.{Shape}
 use Rattle.rules.specs.declared.Answer.the-variants.{Done, Refused}
 use Rattle.rules.proofs.Tests.{and-both, pick-true, pick-false}
 use Rattle.places.specs.Layout.{lengthFor, Laid}
 use Rattle.places.specs.With.{withStatus}
 use Rattle.places.proofs.Sections.{lay}
 use Rattle.places.proofs.Head.{put-group, put-replica, put-status}
-
--- ---- zeros in sections
-
-concat-zeros : (ns : List ℕ) → concat (map zeroBytes ns) ≡ zeroBytes (total ns)
-unfolding concat
-concat-zeros [] = refl
-concat-zeros (n ∷ ns) = ap (λ (x : List ℕ). zeroBytes n ++ x) (concat-zeros ns) ∙ replicate-append-replicate {A = ℕ} n (total ns) 0
-
-long-zeros : (ns : List ℕ) → map length (map zeroBytes ns) ≡ ns
-long-zeros [] = refl
-long-zeros (n ∷ ns) = ap₂ _∷_ (length-replicate {A = ℕ} n 0) (long-zeros ns)
-
--- things in a row, each of them zeros
-flat-zeros : {A : Type 0} (put : A → List ℕ) (k n : ℕ) (x : A) → put x ≡ zeroBytes k → flat put (replicate n x) ≡ zeroBytes (k * n)
-unfolding flat
-flat-zeros put k zero x e =
-    let z : k * 0 ≡ 0 = omega arith in
-    rw z
-flat-zeros put k (suc n) x e =
-    let m : k * suc n ≡ k + k * n = omega arith in
-    rw (e, flat-zeros put k n x e, m) (replicate-append-replicate {A = ℕ} k (k * n) 0)
-
--- a count of 0, and free places alone
-rows-zeros : (k c : ℕ) → le 4 0 ++ zeroBytes (k * (c - 0)) ≡ zeroBytes (4 + k * c)
-rows-zeros k c =
-    let z : c - 0 ≡ c = omega arith in
-    rw (z, le-zero 4) (replicate-append-replicate {A = ℕ} 4 (k * c) 0)
-
-pub table-zeros : (c : ℕ) → tableBytes c [] ≡ zeroBytes (tableLength c)
-unfolding tableBytes flat
-table-zeros c = rows-zeros 24 c
-
-pub notes-zeros : (sh : Shape) → notesSection sh [] ≡ zeroBytes (4 + noteLength (sh .s) * sh .c)
-unfolding notesSection flat
-notes-zeros sh = rows-zeros (noteLength (sh .s)) (sh .c)
-
-pub heard-zeros : (n : ℕ) → flat pointBytes (replicate n none) ≡ zeroBytes (9 * n)
-unfolding pointBytes
-heard-zeros n = flat-zeros pointBytes 9 n none refl
-
-pub votes-zeros : (c n : ℕ) → flat (voteBytes c) (replicate n none) ≡ zeroBytes (voteLength c * n)
-unfolding voteBytes
-votes-zeros c n = flat-zeros (voteBytes c) (voteLength c) n none refl
-
-pub replies-zeros : (c n : ℕ) → flat (replyBytes c) (replicate n none) ≡ zeroBytes (replyLength c * n)
-unfolding replyBytes
-replies-zeros c n = flat-zeros (replyBytes c) (replyLength c) n none refl
+use Rattle.places.proofs.Zeros.{concat-zeros, long-zeros, flat-zeros, heard-zeros, table-zeros, notes-zeros, votes-zeros, replies-zeros}
 
 -- ---- the state whose bytes are all zero
 

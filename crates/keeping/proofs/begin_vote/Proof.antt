@@ -1,8 +1,8 @@
--- `places::begin_vote` meets its contract: three writes in a row. Assumes nothing.
-use Rattle.places.proofs.Writes.{vote-begun}
+-- `keeping::begin_vote` meets its contract: three writes in a row. Assumes nothing.
+use Rattle.keeping.proofs.Writes.{vote-begun}
 use borrow.Author.Needs.{needs}
-use Rattle.places.proofs.begin_vote.Statement.{statement}
-use Rattle.places.proofs.begin_vote.Tie as tie
+use Rattle.keeping.proofs.begin_vote.Statement.{statement}
+use Rattle.keeping.proofs.begin_vote.Tie as tie
 
 put8-requires : tie.Need-put8-requires
 put8-requires c κs = search needs

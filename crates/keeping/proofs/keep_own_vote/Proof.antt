@@ -1,9 +1,9 @@
--- `places::keep_own_vote` meets its contract. Assumes nothing.
+-- `keeping::keep_own_vote` meets its contract. Assumes nothing.
 use native.Mathlib.Omega.{arith}
-use Rattle.places.proofs.Writes.{own-kept}
+use Rattle.keeping.proofs.Writes.{own-kept}
 use borrow.Author.Needs.{needs}
-use Rattle.places.proofs.keep_own_vote.Statement.{statement}
-use Rattle.places.proofs.keep_own_vote.Tie as tie
+use Rattle.keeping.proofs.keep_own_vote.Statement.{statement}
+use Rattle.keeping.proofs.keep_own_vote.Tie as tie
 
 get-normal-requires : tie.Need-get-normal-requires
 get-normal-requires c κs = search needs

@@ -1,11 +1,11 @@
--- `places::keep_vote` meets its contract. Assumes nothing.
+-- `keeping::keep_vote` meets its contract. Assumes nothing.
 use Prim.Native.Nat.{_+_, _≤_}
 use native.Mathlib.Omega.{arith}
 use lib.ListN.{length}
-use Rattle.places.proofs.Writes.{vote-kept}
+use Rattle.keeping.proofs.Writes.{vote-kept}
 use borrow.Author.Needs.{needs}
-use Rattle.places.proofs.keep_vote.Statement.{statement}
-use Rattle.places.proofs.keep_vote.Tie as tie
+use Rattle.keeping.proofs.keep_vote.Statement.{statement}
+use Rattle.keeping.proofs.keep_vote.Tie as tie
 
 vote-place-requires : tie.Need-vote-place-requires
 vote-place-requires c κs = search needs

@@ -1,13 +1,13 @@
--- `places::state_length` meets its contract. Assumes nothing.
+-- `fresh::state_length` meets its contract. Assumes nothing.
 use mathlib.Core.Path.{_≡_, sym, _∙_}
 use mathlib.Core.Bool.{true}
 use borrow.Author.Needs.{needs}
 use borrow.Author.Tests.{not-true, not-false}
 use Rattle.rules.specs.Group.{shapeFits}
 use Rattle.places.proofs.Sections.{fits}
-use Rattle.places.proofs.Fresh.{length-none, length-some}
-use Rattle.places.proofs.state_length.Statement.{statement}
-use Rattle.places.proofs.state_length.Tie as tie
+use Rattle.fresh.proofs.Fresh.{length-none, length-some}
+use Rattle.fresh.proofs.state_length.Statement.{statement}
+use Rattle.fresh.proofs.state_length.Tie as tie
 
 shaped : (s : tie.Else1) → shapeFits (record { n = s .before .before .args .n; s = s .before .before .args .s; c = s .before .before .args .c }) ≡ true
 shaped s = sym (s .before .shape-fits .ensures) ∙ not-false _ (s .if1 .left)

@@ -1,4 +1,4 @@
--- `places::start` meets its contract: the fresh state is zeros but for three bytes of the head. Assumes nothing.
+-- `fresh::start` meets its contract: the fresh state is zeros but for three bytes of the head. Assumes nothing.
 use mathlib.Core.Path.{_≡_, sym, _∙_}
 use mathlib.Core.Bool.{true}
 use Prim.Native.Nat.{_<_}
@@ -8,11 +8,11 @@ use borrow.Author.Needs.{needs}
 use borrow.Author.Tests.{not-true, not-false}
 use Rattle.rules.specs.Group.{shapeFits}
 use Rattle.rules.specs.Image.{stateLength}
 use Rattle.places.specs.Layout.{Fits}
 use Rattle.places.proofs.Sections.{fits}
-use Rattle.places.proofs.Fresh.{fresh-laid, started, wrong-shape, wrong-group, wrong-replica, wrong-size}
-use Rattle.places.proofs.start.Statement.{statement}
-use Rattle.places.proofs.start.Tie as tie
+use Rattle.fresh.proofs.Fresh.{fresh-laid, started, wrong-shape, wrong-group, wrong-replica, wrong-size}
+use Rattle.fresh.proofs.start.Statement.{statement}
+use Rattle.fresh.proofs.start.Tie as tie
 
 shaped : (s : tie.Else1) → shapeFits (s .before .before .before .args .shape) ≡ true
 shaped s = sym (s .before .shape-fits .ensures) ∙ not-false _ (s .if1 .left)

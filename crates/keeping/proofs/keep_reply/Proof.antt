@@ -1,11 +1,11 @@
--- `places::keep_reply` meets its contract. Assumes nothing.
+-- `keeping::keep_reply` meets its contract. Assumes nothing.
 use Prim.Native.Nat.{_+_, _≤_}
 use native.Mathlib.Omega.{arith}
 use lib.ListN.{length}
-use Rattle.places.proofs.Writes.{reply-kept}
+use Rattle.keeping.proofs.Writes.{reply-kept}
 use borrow.Author.Needs.{needs}
-use Rattle.places.proofs.keep_reply.Statement.{statement}
-use Rattle.places.proofs.keep_reply.Tie as tie
+use Rattle.keeping.proofs.keep_reply.Statement.{statement}
+use Rattle.keeping.proofs.keep_reply.Tie as tie
 
 reply-place-requires : tie.Need-reply-place-requires
 reply-place-requires c κs = search needs

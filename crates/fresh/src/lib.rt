@@ -1,0 +1,41 @@
+// The fresh state of a replica, and how long a state is.
+use rules::Answer;
+use rules::Shape;
+ghost use mathlib.Core.Path.{_≡_};
+ghost use mathlib.Core.List.{[]};
+ghost use Rattle.rules.specs.Bytes.{left, startBytes};
+ghost use Rattle.places.specs.Layout.{lengthFor};
+
+// How many bytes a state has, 0 for sizes that are not permitted.
+pub fn state_length(n: u64, s: u64, c: u64) -> u64
+    ensures { λ r. ⌜ r ≡ lengthFor (record { n = n; s = s; c = c }) ⌝ }
+{
+    let shape = Shape { n, s, c };
+    if !group::shape_fits(shape) {
+        return 0;
+    }
+    places::places_of(shape).end as u64
+}
+
+// Writes the fresh state of a replica; nothing of the old bytes is read.
+pub fn start(shape: Shape, group: u64, replica: u64, state: &mut [u8]) -> Answer
+    ensures { λ r. ⌜ left r (now (state .exit)) [] ≡ startBytes shape group replica (now (state .entry)) ⌝ }
+{
+    if !group::shape_fits(shape) {
+        return Answer::Refused(1);
+    }
+    if shape.s <= group {
+        return Answer::Refused(1);
+    }
+    if shape.n <= replica {
+        return Answer::Refused(1);
+    }
+    if state.len() != places::places_of(shape).end {
+        return Answer::Refused(1);
+    }
+    octets::fill_zero(state, 0, state.len());
+    octets::put8(state, 0, group as u8);
+    octets::put8(state, 1, replica as u8);
+    octets::put8(state, 2, 1);
+    Answer::Done(0)
+}

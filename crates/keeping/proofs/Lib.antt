@@ -1,0 +1,2 @@
+-- The laws of what is kept.
+mod Writes
