@@ -26,7 +26,8 @@ use Rattle.handler.specs.Sending.{messageBytes}
 use Rattle.handler.proofs.Own.{group-below}
 use Rattle.handler.proofs.Closes.{quiet, closes-quiet, closes-one, closes-short, handled-own}
 use Rattle.handler.proofs.Sends.{Sender, own-group}
-use Rattle.changes.specs.Changes.{viewsOf, leadsWith, enteredBy, logIn, voteIn}
+use Rattle.views.specs.Views.{viewsOf}
+use Rattle.changes.specs.Changes.{leadsWith, enteredBy, logIn, voteIn}
 use Rattle.changes.proofs.Entered.{entered-is, entered-laid, entered-sender}
 use Rattle.changes.proofs.Logged.{vote-room, log-counted, vote-sent, vote-long}
 use Rattle.changes.proofs.Said.{view-said, view-fits, views-said, views-stand, leads-said}

@@ -1,62 +1,39 @@
 -- A view entered: what is written, as one state; and the own role by the gVec of a message. Assumes nothing.
 use Prim.Native.Nat.{ℕ, zero, suc, _+_, _*_, _%_, _^_, _≤_, _<_}
-use mathlib.Core.Path.{_≡_, refl, sym, ap, _∙_}
+use mathlib.Core.Path.{_≡_, refl, _∙_}
 use mathlib.Core.Bool.{Bool, true, false}
 use mathlib.Core.Option.{none}
 use mathlib.Core.List.{List}
 use native.Mathlib.Omega.{arith}
 use lib.ListN.{length, getD, replicate, length-replicate}
 use lib.Dec.{eqb, lit<, lit≤}
-use Rattle.octets.specs.Bytes.{le, num, part, splice}
-use Rattle.octets.proofs.Laws.{Bytes, length-le, num-lt}
-use Rattle.octets.proofs.Codecs.{All, length-items, getD-items}
+use Rattle.octets.specs.Bytes.{le, num, splice}
+use Rattle.octets.proofs.Laws.{Bytes, length-le}
+use Rattle.octets.proofs.Codecs.{getD-items}
 use Rattle.rules.specs.Choice.{pick}
 use Rattle.rules.specs.Wire.{Wire}
 use Rattle.rules.specs.State.{State}
 use Rattle.rules.specs.Image.{voteLength, voteBytes, image}
 use Rattle.rules.specs.Step.{entered}
 use Rattle.rules.specs.declared.Shape.{Shape}
-use Rattle.rules.proofs.Tests.{all-items}
 use Rattle.places.specs.Layout.{startOf, ownBytes, Laid, Stands}
-use Rattle.places.specs.With.{withView, withGVec}
 use Rattle.places.proofs.Sections.{stands-fits, stands-laid}
-use Rattle.places.proofs.Head.{get-head, put-view, put-status, put-boundary, group-of, replica-of}
+use Rattle.places.proofs.Head.{get-head, put-status, put-boundary, group-of, replica-of}
 use Rattle.places.proofs.Rows.{Even}
-use Rattle.places.proofs.Kept.{put-views, put-own-vote, views-in}
+use Rattle.places.proofs.Kept.{put-own-vote}
 use Rattle.handler.proofs.Own.{group-below, replica-below}
 use Rattle.handler.proofs.Sends.{Sender}
-use Rattle.changes.specs.Changes.{viewsOf, leadsWith, enteredBy, tablesLength, takenIn}
-use Rattle.changes.proofs.Emptied.{empty-laid}
+use Rattle.views.specs.Views.{viewsOf, tablesLength, takenIn}
+use Rattle.views.proofs.Emptied.{empty-laid}
+use Rattle.views.proofs.Taken.{laid-as, views-long, views-fit, view-taken}
+use Rattle.changes.specs.Changes.{leadsWith, enteredBy}
 
--- bytes that are a state's image are laid as any other that are
-pub laid-as : {sh : Shape} {st : State} {b b′ : List ℕ} → Laid sh st b → b′ ≡ image sh st → Laid sh st b′
-laid-as l e = record { bytes = e; long = l .long; size = ap length (e ∙ sym (l .bytes)) ∙ l .size }
-
--- ---- the views of a message
-
-module _ (sh : Shape) (msg : List ℕ) where
-  pub views-long : length (viewsOf sh msg) ≡ sh .s
-  views-long = length-items (λ a. num msg a 4) 4 16 (sh .s)
-
-  pub views-fit : Bytes msg → 16 + 4 * sh .s ≤ length msg → All (λ v. v < 256 ^ 4) (viewsOf sh msg)
-  views-fit bs h = all-items (λ v. v < 256 ^ 4) (λ a. num msg a 4) 4 16 (sh .s) (λ i l. num-lt msg (16 + 4 * i) 4 bs (omega arith))
-
--- by them the own replica leads or not
+-- by the views of a message the own replica leads or not
 pub leads-with : {sh : Shape} {st : State} {b : List ℕ} (s : Stands sh st b) (msg : List ℕ) (own view replica : ℕ) (r : Bool) → own ≡ num b 0 1 → view ≡ num msg (16 + 4 * own) 4 → replica ≡ num b 1 1 → r ≡ eqb replica (view % sh .n) → r ≡ leadsWith sh st (viewsOf sh msg)
 leads-with {sh} {st} s msg own view replica r e v q h =
     let g : own ≡ st .group = e ∙ group-of s in
     let x : getD (viewsOf sh msg) (st .group) 0 ≡ num msg (16 + 4 * st .group) 4 = getD-items (λ a. num msg a 4) 4 16 (sh .s) (st .group) 0 (group-below s) in
     h ∙ rw (q ∙ replica-of s, v, g, x)
-
--- ---- what is written
-
-pub taken-in : (sh : Shape) (b b₁ b₂ msg : List ℕ) (view : ℕ) → b₁ ≡ splice b 8 (le 4 view) → b₂ ≡ splice b₁ (startOf sh 1) (part msg 16 (4 * sh .s)) → b₂ ≡ takenIn sh b view msg
-taken-in sh b b₁ b₂ msg view w₁ w₂ = w₂ ∙ rw w₁
-
-module _ {sh : Shape} {st : State} {b : List ℕ} (l : Laid sh st b) where
-  pub view-taken : {b′ : List ℕ} (view : ℕ) (msg : List ℕ) → Bytes msg → 16 + 4 * sh .s ≤ length msg → b′ ≡ takenIn sh b view msg → Laid sh (withGVec (withView st view) (viewsOf sh msg)) b′
-  view-taken view msg bs h w =
-      put-views (put-view l view refl) (viewsOf sh msg) (views-long sh msg) (w ∙ ap (splice (splice b 8 (le 4 view)) (startOf sh 1)) (views-in msg 16 (sh .s) bs h))
 
 even-none : (c n : ℕ) → Even (voteBytes c) (voteLength c) (replicate n none)
 unfolding voteBytes

@@ -22,9 +22,11 @@ use Rattle.handler.specs.Sending.{messageBytes}
 use Rattle.handler.proofs.Own.{replica-below}
 use Rattle.handler.proofs.Closes.{closes-one, closes-short}
 use Rattle.handler.proofs.Sends.{Sender, own-replica}
-use Rattle.changes.specs.Changes.{viewsOf, ledBy, logIn, startIn}
+use Rattle.views.specs.Views.{viewsOf}
+use Rattle.views.proofs.Begun.{begun-laid}
+use Rattle.changes.specs.Changes.{ledBy, logIn, startIn}
 use Rattle.changes.proofs.Logged.{start-room, log-counted, start-sent, start-long}
-use Rattle.changes.proofs.Started.{begun-laid, begun-sender, table-row}
+use Rattle.changes.proofs.Started.{begun-sender, table-row}
 
 module _ {sh : Shape} {st : State} {b : List ℕ} (s : Stands sh st b) (view : ℕ) (v : view < 256 ^ 4) (msg : List ℕ) (bs : Bytes msg) (h : 16 + 4 * sh .s ≤ length msg) (draft : List ℕ) (t : Table (sh .c) draft) (out : List ℕ) (number : ℕ) (n : number ≡ num draft 0 4) where
   abbrev log : List Entry
@@ -46,7 +48,7 @@ module _ {sh : Shape} {st : State} {b : List ℕ} (s : Stands sh st b) (view : �
   next-laid b′ i = begun-laid s view msg bs h log (t .room) i
 
   next-sender : Sender sh next
-  next-sender = begun-sender s view msg bs h log (t .room) v
+  next-sender = begun-sender s view msg bs h log v
 
   long : length (wireBytes sent-log) ≡ lengthFor (sh .s) 9 number
   long = start-long (next-laid (image sh next) refl) table next-sender ∙ ap (lengthFor (sh .s) 9) (sym number-is)

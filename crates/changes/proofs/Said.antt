@@ -19,7 +19,8 @@ use Rattle.rules.proofs.Choice.{pick-false}
 use Rattle.rules.proofs.Messages.{formed-fits}
 use Rattle.handler.specs.Handler.{Ready}
 use Rattle.handler.proofs.Told.{Told, told-views, told-length, told-formed, ready-told}
-use Rattle.changes.specs.Changes.{viewsOf, leadsWith}
+use Rattle.views.specs.Views.{viewsOf}
+use Rattle.changes.specs.Changes.{leadsWith}
 
 module _ (sh : Shape) (b msg : List ℕ) (m : Message) (r : Ready sh b m msg) (k : known (tagOf m) ≡ true) where
   abbrev told-so : Told (sh .n) (sh .s) m msg

@@ -23,7 +23,7 @@ use Rattle.rules.proofs.Choice.{pick-true, pick-false}
 use Rattle.handler.specs.Handler.{Ready, handled}
 use Rattle.handler.proofs.Told.{Told, told-length, told-entries, told-count, ready-told}
 use Rattle.handler.proofs.Closes.{quiet, closes-refused, closes-quiet, handled-own}
-use Rattle.changes.specs.Changes.{viewsOf}
+use Rattle.views.specs.Views.{viewsOf}
 use Rattle.changes.proofs.Said.{view-said, views-said, views-stand}
 
 -- ---- the rule, by the number of entries

@@ -1,16 +1,14 @@
 -- Entering a view and starting one, over what the bytes of the state and of the message give.
-use Prim.Native.Nat.{ℕ, _+_, _*_, min}
+use Prim.Native.Nat.{ℕ, _+_, _*_}
 use mathlib.Core.Bool.{Bool}
 use mathlib.Core.Option.{Option, none, some}
 use mathlib.Core.List.{List, [], _∷_}
-use lib.ListN.{set, drop, replicate}
+use lib.ListN.{set, replicate}
 use lib.Dec.{eqb}
-use Rattle.octets.specs.Bytes.{le, num, part, splice, items}
-use Rattle.octets.specs.Sections.{total}
+use Rattle.octets.specs.Bytes.{num, part}
 use Rattle.rules.specs.Choice.{pick}
 use Rattle.rules.specs.Group.{leader, only, others}
 use Rattle.rules.specs.State.{Vote, State}
-use Rattle.rules.specs.Image.{lengths}
 use Rattle.rules.specs.Step.{Outcome, done, sendFollowers, ownVote, started}
 use Rattle.rules.specs.declared.Entry.{Entry}
 use Rattle.rules.specs.declared.Shape.{Shape}
@@ -21,10 +19,6 @@ use Rattle.handler.specs.Sending.{headedIn, leaderIn}
 
 -- ---- states
 
--- the gVec that stands in a message
-abbrev pub viewsOf : Shape → List ℕ → List ℕ
-viewsOf sh msg = items (λ a. num msg a 4) 4 16 (sh .s)
-
 -- whether the own replica leads its group by a gVec
 abbrev pub leadsWith : Shape → State → List ℕ → Bool
 leadsWith sh st gVec = eqb (st .replica) (leader (sh .n) gVec (st .group))
@@ -32,30 +26,6 @@ leadsWith sh st gVec = eqb (st .replica) (leader (sh .n) gVec (st .group))
 -- a leader's own vote alone, or none
 abbrev pub firstKept : Shape → State → Bool → List (Option Vote)
 firstKept sh st leads = pick leads (set (replicate (sh .n) none) (st .replica) (some (ownVote st))) (replicate (sh .n) none)
-
--- early, late, notes, votes, draft and replies empty
-abbrev pub emptied : Shape → State → State
-emptied sh st =
-    record {
-      group = st .group;
-      replica = st .replica;
-      view = st .view;
-      gVec = st .gVec;
-      normal = st .normal;
-      status = st .status;
-      clock = st .clock;
-      sync = st .sync;
-      commit = st .commit;
-      log = st .log;
-      early = [];
-      late = [];
-      notes = [];
-      votes = replicate (sh .n) none;
-      draft = [];
-      boundary = st .boundary;
-      replies = replicate (sh .s) none;
-      heard = st .heard;
-    }
 
 -- a view entered, by whether the site leads in it
 abbrev pub enteredBy : Shape → State → ℕ → List ℕ → Bool → State
@@ -86,18 +56,6 @@ abbrev pub ledBy : Shape → State → ℕ → List ℕ → List Entry → Outco
 ledBy sh st view gVec draft = done (started sh st view gVec draft) (sendFollowers sh (started sh st view gVec draft) 9 draft ∷ [])
 
 -- ---- bytes
-
--- how many bytes there are from early on
-abbrev pub tablesLength : Shape → ℕ
-tablesLength sh = total (drop 4 (lengths sh))
-
--- the gView and the gVec of a message written
-abbrev pub takenIn : Shape → List ℕ → ℕ → List ℕ → List ℕ
-takenIn sh b view msg = splice (splice b 8 (le 4 view)) (startOf sh 1) (part msg 16 (4 * sh .s))
-
--- the numbers of a view that starts with a log of this length written
-abbrev pub begunIn : List ℕ → ℕ → ℕ → List ℕ
-begunIn b view len = splice (splice (splice (splice (splice b 2 (le 1 1)) 12 (le 4 view)) 24 (le 8 len)) 32 (le 8 (min (num b 32 8) len))) 40 (le 8 0)
 
 -- the entries of the log, as they stand
 abbrev pub logIn : Shape → List ℕ → List ℕ

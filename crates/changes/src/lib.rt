@@ -3,49 +3,31 @@ use rules::Answer;
 use rules::Message;
 use rules::Shape;
 ghost use mathlib.Core.Path.{_≡_};
-ghost use Prim.Native.Nat.{_+_, _*_, _≤_, _<_, min};
-ghost use lib.ListN.{length, replicate};
-ghost use Rattle.octets.specs.Bytes.{num, splice, items};
+ghost use Prim.Native.Nat.{_+_, _*_, _≤_, _<_};
+ghost use lib.ListN.{length};
+ghost use Rattle.octets.specs.Bytes.{num, splice};
 ghost use Rattle.rules.specs.Wire.{numbersOf};
-ghost use Rattle.rules.specs.Read.{entryAt};
 ghost use Rattle.rules.specs.Image.{tableAt, image, stateOf};
-ghost use Rattle.rules.specs.Step.{started, onChangeView, onStartView};
+ghost use Rattle.rules.specs.Step.{onChangeView, onStartView};
 ghost use Rattle.rules.specs.Bytes.{left, closes};
 ghost use Rattle.entries.specs.Table.{Table};
 ghost use Rattle.places.specs.Layout.{startOf, Sized, Stands};
 ghost use Rattle.handler.specs.Handler.{Ready, handled};
 ghost use Rattle.handler.specs.Sending.{messageBytes};
-ghost use Rattle.changes.specs.Changes.{viewsOf, leadsWith, enteredBy, ledBy, tablesLength, takenIn, begunIn, logIn, voteIn, startIn};
+ghost use Rattle.views.specs.Views.{viewsOf};
+ghost use Rattle.changes.specs.Changes.{leadsWith, enteredBy, ledBy, logIn, voteIn, startIn};
 
 // ---- entering a view
-
-// Empties early, late, notes, votes, draft and replies: they stand side by side to the end.
-fn empty_tables(shape: Shape, state: &mut [u8])
-    requires { ⌜ Sized shape (now state) ⌝ }
-    ensures { λ _. ⌜ now (state .exit) ≡ splice (now (state .entry)) (startOf shape 4) (replicate (tablesLength shape) 0) ⌝ }
-{
-    let places = places::places_of(shape);
-    octets::fill_zero(state, places.early, places.end - places.early);
-}
-
-// Takes over the gView, and the gVec that stands in the message.
-fn take_view(shape: Shape, state: &mut [u8], view: u32, message: &[u8])
-    requires { ⌜ Sized shape (now state) × (16 + 4 * shape .s ≤ length (now message)) ⌝ }
-    ensures { λ _. ⌜ now (state .exit) ≡ takenIn shape (now (state .entry)) view (now (message .entry)) ⌝ }
-{
-    places::put_view(state, view);
-    places::put_views(shape, state, message, 16);
-}
 
 // Enters the view: status 2, no boundary, empty tables; a leader keeps its own vote.
 pub fn enter(shape: Shape, state: &mut [u8], view: u32, leads: bool, message: &[u8])
     requires { ⌜ Stands shape (stateOf shape (now state)) (now state) × (16 + 4 * shape .s ≤ length (now message)) ⌝ }
     ensures { λ _. ⌜ now (state .exit) ≡ image shape (enteredBy shape (stateOf shape (now (state .entry))) view (viewsOf shape (now (message .entry))) leads) ⌝ }
 {
-    take_view(shape, state, view, message);
+    views::take_view(shape, state, view, message);
     places::put_status(state, 2);
     places::put_boundary(state, 0);
-    empty_tables(shape, state);
+    views::empty_tables(shape, state);
     if leads {
         keeping::keep_own_vote(shape, state);
     }
@@ -139,47 +121,6 @@ pub fn on_change_view(
 
 // ---- starting a view
 
-// The smaller of two.
-fn smaller(a: u64, b: u64) -> u64
-    ensures { λ r. ⌜ r ≡ min a b ⌝ }
-{
-    if a <= b { a } else { b }
-}
-
-// Writes the numbers of a view that starts with a log of this length.
-fn begin_head(state: &mut [u8], view: u32, len: u64)
-    requires { ⌜ 48 ≤ length (now state) ⌝ }
-    ensures { λ _. ⌜ now (state .exit) ≡ begunIn (now (state .entry)) view len ⌝ }
-{
-    let commit = smaller(places::get_commit(state), len);
-    places::put_status(state, 1);
-    places::put_normal(state, view);
-    places::put_sync(state, len);
-    places::put_commit(state, commit);
-    places::put_boundary(state, 0);
-}
-
-// Starts the view: its log are the `number` entries that stand in `src` from `at` on, and every other table is empty.
-pub fn begin(
-    shape: Shape,
-    state: &mut [u8],
-    view: u32,
-    message: &[u8],
-    src: &[u8],
-    at: usize,
-    number: usize,
-)
-    requires { ⌜ Stands shape (stateOf shape (now state)) (now state) × (16 + 4 * shape .s ≤ length (now message)) × (number ≤ shape .c) × (at + 24 * number ≤ length (now src)) ⌝ }
-    ensures { λ _. ⌜ now (state .exit) ≡ image shape (started shape (stateOf shape (now (state .entry))) view (viewsOf shape (now (message .entry))) (items (entryAt (now (src .entry))) 24 at number)) ⌝ }
-{
-    take_view(shape, state, view, message);
-    begin_head(state, view, number as u64);
-    let layout = places::places_of(shape);
-    octets::fill_zero(state, layout.heard, layout.log - layout.heard);
-    places::put_table(shape, state, layout.log, src, at, number);
-    empty_tables(shape, state);
-}
-
 // Kind 9: the view starts with the log that the leader sent.
 pub fn on_start_view(
     shape: Shape,
@@ -200,7 +141,7 @@ pub fn on_start_view(
     if (shape.c as usize) < number {
         return Answer::Refused(8);
     }
-    begin(shape, state, view, message, message, at + 4, number);
+    views::begin(shape, state, view, message, message, at + 4, number);
     Answer::Done(0)
 }
 
@@ -220,7 +161,7 @@ pub fn start_leading(
     if out.len() < kinds::length_for(shape.s, 9, number) {
         return Answer::Refused(9);
     }
-    begin(shape, state, view, message, draft, 4, number);
+    views::begin(shape, state, view, message, draft, 4, number);
     let sent = tell_start(shape, state, out);
     Answer::Done(sent)
 }

@@ -39,7 +39,8 @@ use Rattle.handler.proofs.Told.{Told, told-length, told-entries, told-sender, r
 use Rattle.handler.proofs.Closes.{quiet, closes-refused, closes-quiet, handled-own}
 use Rattle.merge.specs.Taken.{Taken}
 use Rattle.merge.specs.Merged.{repliesWith, mergedWith}
-use Rattle.changes.specs.Changes.{viewsOf, ledBy}
+use Rattle.views.specs.Views.{viewsOf}
+use Rattle.changes.specs.Changes.{ledBy}
 use Rattle.changes.proofs.Said.{views-said, views-stand}
 use Rattle.replies.specs.Replies.{startsWith}
 use Rattle.replies.proofs.Kept.{held-more, held-counted}

@@ -12,7 +12,7 @@ ghost use Rattle.rules.specs.Bytes.{left, closes};
 ghost use Rattle.places.specs.Layout.{Stands};
 ghost use Rattle.handler.specs.Handler.{Ready, handled};
 ghost use Rattle.merge.specs.Merged.{mergedWith};
-ghost use Rattle.changes.specs.Changes.{viewsOf};
+ghost use Rattle.views.specs.Views.{viewsOf};
 ghost use Rattle.replies.specs.Replies.{startsWith};
 
 // Merges the replies into the draft, that of group `from` as its `number` entries stand in the message, and starts the view with what this gives.

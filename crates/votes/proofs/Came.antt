@@ -28,8 +28,10 @@ use Rattle.places.proofs.Rows.{Even, even-set}
 use Rattle.places.proofs.Kept.{vote-long, put-vote, even-votes}
 use Rattle.handler.proofs.Own.{replica-below}
 use Rattle.handler.proofs.Sends.{Sender, sender}
-use Rattle.changes.specs.Changes.{viewsOf, enteredBy}
-use Rattle.changes.proofs.Entered.{laid-as, entered-laid, entered-sender}
+use Rattle.views.specs.Views.{viewsOf}
+use Rattle.views.proofs.Taken.{laid-as}
+use Rattle.changes.specs.Changes.{enteredBy}
+use Rattle.changes.proofs.Entered.{entered-laid, entered-sender}
 use Rattle.changes.proofs.Started.{table-row}
 use Rattle.rebuild.specs.Ballots.{sentLog, votesIn}
 use Rattle.rebuild.specs.declared.Cast.{Cast}

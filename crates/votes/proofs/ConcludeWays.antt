@@ -20,7 +20,8 @@ use Rattle.rules.proofs.Choice.{by-test, pick-true, pick-false}
 use Rattle.entries.specs.Table.{Holds, Table}
 use Rattle.entries.proofs.Table.{decoded, is-table}
 use Rattle.handler.proofs.Closes.{closes-refused}
-use Rattle.changes.specs.Changes.{viewsOf, ledBy}
+use Rattle.views.specs.Views.{viewsOf}
+use Rattle.changes.specs.Changes.{ledBy}
 use Rattle.rebuild.specs.Ballots.{votesIn}
 use Rattle.rebuild.specs.Rebuild.{Gives}
 use Rattle.rebuild.specs.declared.Cast.{Cast}

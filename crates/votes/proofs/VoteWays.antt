@@ -35,7 +35,8 @@ use Rattle.handler.specs.Handler.{Ready, handled}
 use Rattle.handler.proofs.Own.{replica-below}
 use Rattle.handler.proofs.Told.{Told, told-number, told-formed, told-sender, told-length, told-entries, told-count, ready-told, ready-log}
 use Rattle.handler.proofs.Closes.{quiet, closes-refused, closes-quiet, handled-own}
-use Rattle.changes.specs.Changes.{viewsOf, leadsWith}
+use Rattle.views.specs.Views.{viewsOf}
+use Rattle.changes.specs.Changes.{leadsWith}
 use Rattle.changes.proofs.Entered.{entered-is}
 use Rattle.changes.proofs.Said.{view-said, views-said, views-stand}
 use Rattle.rebuild.specs.Ballots.{sentLog, votesIn, Sent}

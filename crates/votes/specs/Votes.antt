@@ -16,7 +16,8 @@ use Rattle.rules.specs.declared.Entry.{Entry}
 use Rattle.rules.specs.declared.Shape.{Shape}
 use Rattle.places.specs.Layout.{startOf}
 use Rattle.places.specs.With.{withVotes}
-use Rattle.changes.specs.Changes.{viewsOf, enteredBy}
+use Rattle.views.specs.Views.{viewsOf}
+use Rattle.changes.specs.Changes.{enteredBy}
 use Rattle.rebuild.specs.Ballots.{votesIn, Given}
 use Rattle.rebuild.specs.declared.Cast.{Cast}
 

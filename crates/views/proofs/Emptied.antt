@@ -1,8 +1,8 @@
 -- Zeros from early to the end are the bytes of empty tables. Assumes nothing.
 use Prim.Native.Nat.{ℕ, _+_, _-_}
-use mathlib.Core.Path.{_≡_, refl, sym, ap, ap₂, _∙_}
+use mathlib.Core.Path.{_≡_, sym, ap, _∙_}
 use mathlib.Core.List.{List, [], _∷_, _++_, map}
-use lib.ListN.{length, take, drop, replicate, length-replicate, replicate-append-replicate}
+use lib.ListN.{length, take, drop, replicate}
 use Rattle.octets.specs.Bytes.{splice}
 use Rattle.octets.specs.Sections.{concat, total}
 use Rattle.octets.proofs.Laws.{splice-back}
@@ -13,8 +13,8 @@ use Rattle.rules.specs.declared.Shape.{Shape}
 use Rattle.rules.proofs.Image.{length-total}
 use Rattle.places.specs.Layout.{startOf, Laid}
 use Rattle.places.proofs.Sections.{lay}
-use Rattle.places.proofs.Zeros.{table-zeros, notes-zeros, votes-zeros, replies-zeros}
-use Rattle.changes.specs.Changes.{emptied, tablesLength}
+use Rattle.places.proofs.Zeros.{concat-zeros, long-zeros, table-zeros, notes-zeros, votes-zeros, replies-zeros}
+use Rattle.views.specs.Views.{emptied, tablesLength}
 
 -- ---- sections in a row, the last of them replaced
 
@@ -22,15 +22,6 @@ splice-last : (xs ys zs : List (List ℕ)) → length (concat zs) ≡ length (co
 unfolding concat
 splice-last [] ys zs e = splice-whole (concat ys) (concat zs) e
 splice-last (x ∷ xs) ys zs e = splice-back x (concat (xs ++ ys)) (total (map length xs)) (concat zs) ∙ ap (λ (z : List ℕ). x ++ z) (splice-last xs ys zs e)
-
-zeros-concat : (ns : List ℕ) → concat (map zeroBytes ns) ≡ zeroBytes (total ns)
-unfolding concat
-zeros-concat [] = refl
-zeros-concat (n ∷ ns) = ap (λ (x : List ℕ). zeroBytes n ++ x) (zeros-concat ns) ∙ replicate-append-replicate {A = ℕ} n (total ns) 0
-
-zeros-long : (ns : List ℕ) → map length (map zeroBytes ns) ≡ ns
-zeros-long [] = refl
-zeros-long (n ∷ ns) = ap₂ _∷_ (length-replicate {A = ℕ} n 0) (zeros-long ns)
 
 -- ---- of a state
 
@@ -50,8 +41,8 @@ module _ {sh : Shape} {st : State} {b : List ℕ} (l : Laid sh st b) where
       let ys = drop 4 (sections sh st) in
       let zs = after sh st in
       let at : startOf sh 4 ≡ total (map length xs) = sym (ap (λ (ns : List ℕ). total (take 4 ns)) (l .long)) in
-      let z : zeroBytes (tablesLength sh) ≡ concat zs = sym (zeros-concat (drop 4 (lengths sh))) in
-      let n : length (concat zs) ≡ length (concat ys) = length-total zs ∙ ap total (zeros-long (drop 4 (lengths sh))) ∙ sym (length-total ys ∙ ap (λ (ns : List ℕ). total (drop 4 ns)) (l .long)) in
+      let z : zeroBytes (tablesLength sh) ≡ concat zs = sym (concat-zeros (drop 4 (lengths sh))) in
+      let n : length (concat zs) ≡ length (concat ys) = length-total zs ∙ ap total (long-zeros (drop 4 (lengths sh))) ∙ sym (length-total ys ∙ ap (λ (ns : List ℕ). total (drop 4 ns)) (l .long)) in
       lay
       (w
       ∙ ap (λ (y : List ℕ). splice y (startOf sh 4) (zeroBytes (tablesLength sh))) (l .bytes)
@@ -61,4 +52,4 @@ module _ {sh : Shape} {st : State} {b : List ℕ} (l : Laid sh st b) where
       ∙ ap concat (sym (emptied-sections sh st)))
       (ap (map length) (emptied-sections sh st)
       ∙ ap (λ (ns : List ℕ). take 4 ns ++ map length zs) (l .long)
-      ∙ ap (λ (ns : List ℕ). take 4 (lengths sh) ++ ns) (zeros-long (drop 4 (lengths sh))))
+      ∙ ap (λ (ns : List ℕ). take 4 (lengths sh) ++ ns) (long-zeros (drop 4 (lengths sh))))

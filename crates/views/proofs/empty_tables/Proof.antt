@@ -1,10 +1,10 @@
--- `changes::empty_tables` meets its contract. Assumes nothing.
+-- `views::empty_tables` meets its contract. Assumes nothing.
 use native.Mathlib.Omega.{arith}
 use Rattle.places.proofs.Spots.{zeroed}
-use Rattle.changes.specs.Changes.{tablesLength}
+use Rattle.views.specs.Views.{tablesLength}
 use borrow.Author.Needs.{needs}
-use Rattle.changes.proofs.empty_tables.Statement.{statement}
-use Rattle.changes.proofs.empty_tables.Tie as tie
+use Rattle.views.proofs.empty_tables.Statement.{statement}
+use Rattle.views.proofs.empty_tables.Tie as tie
 
 places-of-requires : tie.Need-places-of-requires
 places-of-requires c κs = search needs

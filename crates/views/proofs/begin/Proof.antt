@@ -1,12 +1,12 @@
--- `changes::begin` meets its contract. Assumes nothing.
+-- `views::begin` meets its contract. Assumes nothing.
 use Prim.Native.Nat.{_*_}
 use native.Mathlib.Omega.{arith}
 use Rattle.octets.proofs.Laws.{bytes-known}
 use Rattle.places.proofs.Spots.{zeroed}
-use Rattle.changes.proofs.Started.{begun-room, begun-sized, begun}
+use Rattle.views.proofs.Begun.{begun-room, begun-sized, begun}
 use borrow.Author.Needs.{needs}
-use Rattle.changes.proofs.begin.Statement.{statement}
-use Rattle.changes.proofs.begin.Tie as tie
+use Rattle.views.proofs.begin.Statement.{statement}
+use Rattle.views.proofs.begin.Tie as tie
 
 take-view-requires : tie.Need-take-view-requires
 take-view-requires c κs = search needs

@@ -1,8 +1,8 @@
--- `changes::take_view` meets its contract. Assumes nothing.
-use Rattle.changes.proofs.Entered.{taken-in}
+-- `views::take_view` meets its contract. Assumes nothing.
+use Rattle.views.proofs.Taken.{taken-in}
 use borrow.Author.Needs.{needs}
-use Rattle.changes.proofs.take_view.Statement.{statement}
-use Rattle.changes.proofs.take_view.Tie as tie
+use Rattle.views.proofs.take_view.Statement.{statement}
+use Rattle.views.proofs.take_view.Tie as tie
 
 put-view-requires : tie.Need-put-view-requires
 put-view-requires c κs = search needs

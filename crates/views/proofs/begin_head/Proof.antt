@@ -1,8 +1,8 @@
--- `changes::begin_head` meets its contract. Assumes nothing.
-use Rattle.changes.proofs.Started.{begun-in}
+-- `views::begin_head` meets its contract. Assumes nothing.
+use Rattle.views.proofs.Begun.{begun-in}
 use borrow.Author.Needs.{needs}
-use Rattle.changes.proofs.begin_head.Statement.{statement}
-use Rattle.changes.proofs.begin_head.Tie as tie
+use Rattle.views.proofs.begin_head.Statement.{statement}
+use Rattle.views.proofs.begin_head.Tie as tie
 
 get-commit-requires : tie.Need-get-commit-requires
 get-commit-requires c κs = search needs

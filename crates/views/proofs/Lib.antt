@@ -1,0 +1,4 @@
+-- The laws that callers cite: tables emptied at once (Emptied), a view taken over (Taken), a view started (Begun).
+pub mod Emptied
+pub mod Taken
+pub mod Begun

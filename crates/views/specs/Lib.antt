@@ -1,0 +1,2 @@
+-- What a new view leaves.
+pub mod Views
