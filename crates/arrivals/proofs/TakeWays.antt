@@ -33,9 +33,9 @@ use Rattle.handler.proofs.Closes.{quiet, closes-refused, closes-sent, closes-ti
 use Rattle.handler.proofs.Rows.{sends-length}
 use Rattle.handler.proofs.Sends.{sender, sent-length}
 use Rattle.handler.proofs.Leaders.{others-are, notes-sent}
-use Rattle.arrivals.specs.Midway.{Midway}
+use Rattle.stamps.specs.Midway.{Midway}
 use Rattle.arrivals.specs.Taken.{noteSends, ownNoted, takenEarly}
-use Rattle.arrivals.proofs.Midway.{midway-as}
+use Rattle.stamps.proofs.Midway.{midway-as}
 use Rattle.arrivals.proofs.NoteWays.{room-is}
 
 -- ---- the rules, by their tests

@@ -1,3 +1,2 @@
--- What the handlers of kinds 1 and 3 cite beside the rules: a state on the way, and what a leader does with an entry.
-pub mod Midway
+-- What the handlers of kinds 1 and 3 cite beside the rules: what a leader does with an entry.
 pub mod Taken

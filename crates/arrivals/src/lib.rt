@@ -1,5 +1,4 @@
 // The handlers of transaction (kind 1) and timestamp note (kind 3): what arrives is put into the early or the late buffer, and the notes are kept.
-use notes::Point;
 use rules::Answer;
 use rules::Entry;
 use rules::Message;
@@ -9,13 +8,10 @@ ghost use mathlib.Core.Bool.{true, false};
 ghost use mathlib.Core.List.{[], _∷_, _++_};
 ghost use Prim.Native.Nat.{_<_, _≤_};
 ghost use lib.Dec.{ltb};
-ghost use lib.ListN.{length, set};
+ghost use lib.ListN.{length};
 ghost use Rattle.octets.specs.Bytes.{splice, flat};
 ghost use Rattle.rules.specs.Entry.{among};
-ghost use Rattle.rules.specs.Entry as order;
 ghost use Rattle.rules.specs.Log.{distinct};
-ghost use Rattle.rules.specs.Choice.{isSome};
-ghost use Rattle.rules.specs.State as rule;
 ghost use Rattle.rules.specs.Image.{tableAt, image, stateOf};
 ghost use Rattle.rules.specs.Wire.{wireBytes};
 ghost use Rattle.rules.specs.Step.{keepNote, lifted, knownTo, buffered, leaderTakes, followerTakes, onTransaction, onNote};
@@ -25,54 +21,8 @@ ghost use Rattle.notes.specs.Notes.{row};
 ghost use Rattle.places.specs.Layout.{Stands};
 ghost use Rattle.places.specs.With.{withEarly, withLate, withNotes};
 ghost use Rattle.handler.specs.Handler.{Ready, handled};
-ghost use Rattle.arrivals.specs.Midway.{Midway};
+ghost use Rattle.stamps.specs.Midway.{Midway};
 ghost use Rattle.arrivals.specs.Taken.{noteSends, takenEarly};
-
-// ---- entries and their timestamps
-
-// The same entry at another timestamp.
-fn stamped(stamp: u64, e: Entry) -> Entry
-    ensures { λ r. ⌜ r ≡ order.stamped stamp e ⌝ }
-{
-    Entry {
-        stamp,
-        command: e.command,
-        request: e.request,
-        coordinator: e.coordinator,
-        mask: e.mask,
-    }
-}
-
-// The timestamp of the log's last entry, 0 where it is empty.
-fn last_stamp(shape: Shape, state: &[u8]) -> u64
-    requires { ⌜ Midway shape (stateOf shape (now state)) (now state) ⌝ }
-    ensures { λ r. ⌜ r ≡ order.lastStamp (stateOf shape (now (state .entry)) .log) ⌝ }
-{
-    let layout = places::places_of(shape);
-    let start = layout.log;
-    let end = layout.early;
-    logs::last_stamp(&state[start..end], shape.c as usize)
-}
-
-// Whether e may follow the log's last.
-fn may_follow(shape: Shape, state: &[u8], e: Entry) -> bool
-    requires { ⌜ Midway shape (stateOf shape (now state)) (now state) ⌝ }
-    ensures { λ r. ⌜ r ≡ order.followsLast (stateOf shape (now (state .entry)) .log) e ⌝ }
-{
-    last_stamp(shape, state) <= e.stamp
-}
-
-// The timestamp that a leader gives: the greater of due and the log's last.
-fn leader_stamp(shape: Shape, state: &[u8], due: u64) -> u64
-    requires { ⌜ Midway shape (stateOf shape (now state)) (now state) ⌝ }
-    ensures { λ r. ⌜ r ≡ order.leaderStamp (stateOf shape (now (state .entry)) .log) due ⌝ }
-{
-    let last = last_stamp(shape, state);
-    if due < last {
-        return last;
-    }
-    due
-}
 
 // ---- what stands in the tables
 
@@ -85,59 +35,7 @@ fn is_among(t: &[u8], c: usize, e: Entry) -> bool
     entries::find(t, 4, n, e.request, e.coordinator) < n
 }
 
-// Whether notes from every group of the entry's mask are held.
-fn agreed(shape: Shape, state: &[u8], e: Entry) -> bool
-    requires { ⌜ Midway shape (stateOf shape (now state)) (now state) ⌝ }
-    ensures { λ r. ⌜ r ≡ rule.agreed shape (stateOf shape (now (state .entry)) .notes) e ⌝ }
-{
-    let layout = places::places_of(shape);
-    let start = layout.notes;
-    let end = layout.votes;
-    notes::agreed(&state[start..end], shape.c as usize, shape.s as usize, e)
-}
-
-// The greatest of the notes from groups of the entry's mask.
-fn greatest(shape: Shape, state: &[u8], e: Entry) -> u64
-    requires { ⌜ Midway shape (stateOf shape (now state)) (now state) ⌝ }
-    ensures { λ r. ⌜ r ≡ rule.greatest shape (stateOf shape (now (state .entry)) .notes) e ⌝ }
-{
-    let layout = places::places_of(shape);
-    let start = layout.notes;
-    let end = layout.votes;
-    notes::greatest(&state[start..end], shape.c as usize, shape.s as usize, e)
-}
-
 // ---- what changes them
-
-// Puts d in the place of early entry i.
-fn put_early(shape: Shape, state: &mut [u8], i: usize, d: Entry)
-    requires { ⌜ Midway shape (stateOf shape (now state)) (now state) × (i < length (stateOf shape (now state) .early)) ⌝ }
-    ensures { λ _. ⌜ Midway shape (withEarly (stateOf shape (now (state .entry))) (set (stateOf shape (now (state .entry)) .early) i d)) (now (state .exit)) ⌝ }
-{
-    let layout = places::places_of(shape);
-    let start = layout.early;
-    let end = layout.late;
-    entries::replace_at(&mut state[start..end], shape.c as usize, i, d);
-}
-
-// The early entry of e's transaction, once notes from every group of its mask are held, gets their greatest as its timestamp.
-fn lift(shape: Shape, state: &mut [u8], e: Entry)
-    requires { ⌜ Midway shape (stateOf shape (now state)) (now state) × (distinct (stateOf shape (now state) .early) ≡ true) ⌝ }
-    ensures { λ _. ⌜ Midway shape (withEarly (stateOf shape (now (state .entry))) (lifted shape (stateOf shape (now (state .entry)) .notes) e (stateOf shape (now (state .entry)) .early))) (now (state .exit)) ⌝ }
-{
-    let start = places::places_of(shape).early;
-    let count = octets::get32(state, start) as usize;
-    let i = entries::find(state, start + 4, count, e.request, e.coordinator);
-    if count <= i {
-        return;
-    }
-    let d = entries::entry_at(state, start + 4 + 24 * i);
-    if !agreed(shape, state, d) {
-        return;
-    }
-    let stamp = greatest(shape, state, d);
-    put_early(shape, state, i, stamped(stamp, d));
-}
 
 // Keeps group j's timestamp of e's transaction.
 fn keep_note(shape: Shape, state: &mut [u8], e: Entry, j: u64, stamp: u64)
@@ -158,7 +56,7 @@ fn keep_and_lift(shape: Shape, state: &mut [u8], e: Entry, j: u64, stamp: u64)
     ensures { λ _. ⌜ now (state .exit) ≡ image shape (buffered (stateOf shape (now (state .entry))) (lifted shape (keepNote shape e j stamp (stateOf shape (now (state .entry)) .notes)) e (stateOf shape (now (state .entry)) .early)) (stateOf shape (now (state .entry)) .late) (keepNote shape e j stamp (stateOf shape (now (state .entry)) .notes))) ⌝ }
 {
     keep_note(shape, state, e, j, stamp);
-    lift(shape, state, e);
+    stamps::lift(shape, state, e);
 }
 
 // ---- what is known already
@@ -202,22 +100,6 @@ fn known(shape: Shape, state: &[u8], e: Entry) -> bool
     ensures { λ r. ⌜ r ≡ knownTo (stateOf shape (now (state .entry))) e ⌝ }
 {
     in_log(shape, state, e) | (in_early(shape, state, e) | in_late(shape, state, e))
-}
-
-// Whether group j's timestamp of e's transaction is held.
-fn is_noted(shape: Shape, state: &[u8], e: Entry, j: u64) -> bool
-    requires { ⌜ Midway shape (stateOf shape (now state)) (now state) × (j < shape .s) ⌝ }
-    ensures { λ r. ⌜ r ≡ isSome (rule.noted (stateOf shape (now (state .entry)) .notes) e j) ⌝ }
-{
-    let layout = places::places_of(shape);
-    let start = layout.notes;
-    let end = layout.votes;
-    let c = shape.c as usize;
-    let s = shape.s as usize;
-    match notes::noted(&state[start..end], c, s, e, j as usize) {
-        Point::Unheard => false,
-        Point::Heard(_) => true,
-    }
 }
 
 // Whether there is room for a note of e's transaction: it has one, or there are fewer than fit.
@@ -284,7 +166,7 @@ fn follower_takes(shape: Shape, state: &mut [u8], e: Entry, out: &mut [u8]) -> A
     requires { ⌜ Stands shape (stateOf shape (now state)) (now state) ⌝ }
     ensures { λ r. ⌜ left r (now (state .exit)) (now (out .exit)) ≡ closes shape (now (state .entry)) (now (out .entry)) (followerTakes shape (stateOf shape (now (state .entry))) e) ⌝ }
 {
-    if may_follow(shape, state, e) {
+    if stamps::may_follow(shape, state, e) {
         if shape.c <= early_count(shape, state) {
             return Answer::Refused(8);
         }
@@ -361,7 +243,7 @@ pub fn on_note(shape: Shape, state: &mut [u8], m: Message, message: &[u8], out: 
     if in_log(shape, state, e) {
         return Answer::Refused(7);
     }
-    if is_noted(shape, state, e, from) {
+    if stamps::is_noted(shape, state, e, from) {
         return Answer::Refused(7);
     }
     if !room_for_note(shape, state, e) {
@@ -391,8 +273,8 @@ pub fn on_transaction(
     }
     let due = send_time + bound;
     if handler::leads(shape, state) {
-        let stamp = leader_stamp(shape, state, due);
-        return leader_takes(shape, state, stamped(stamp, e), out);
+        let stamp = stamps::leader_stamp(shape, state, due);
+        return leader_takes(shape, state, stamps::stamped(stamp, e), out);
     }
-    follower_takes(shape, state, stamped(due, e), out)
+    follower_takes(shape, state, stamps::stamped(due, e), out)
 }

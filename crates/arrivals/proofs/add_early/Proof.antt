@@ -7,7 +7,7 @@ use mathlib.Core.Path.{refl}
 use mathlib.Core.List.{List, [], _∷_, _++_}
 use Rattle.rules.specs.declared.Entry.{Entry}
 use Rattle.entries.proofs.Table.{decoded, is-table, and-then}
-use Rattle.arrivals.proofs.Midway.{early-here, early-comes}
+use Rattle.stamps.proofs.Midway.{early-here, early-comes}
 
 places-of-requires : tie.Need-places-of-requires
 places-of-requires c κs = (c .before .pre .0 .fits)

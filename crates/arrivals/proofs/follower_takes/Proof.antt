@@ -2,7 +2,7 @@
 use borrow.Author.Needs.{needs}
 use Rattle.arrivals.proofs.follower_takes.Statement.{statement}
 use Rattle.arrivals.proofs.follower_takes.Tie as tie
-use Rattle.arrivals.proofs.Midway.{stands-midway}
+use Rattle.stamps.proofs.Midway.{stands-midway}
 use Rattle.arrivals.proofs.TakeWays.{early-full, early-taken, late-full, late-taken}
 
 may-follow-requires : tie.Need-may-follow-requires

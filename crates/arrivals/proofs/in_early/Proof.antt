@@ -3,7 +3,7 @@ use native.Mathlib.Omega.{arith}
 use Rattle.arrivals.proofs.in_early.Statement.{statement}
 use Rattle.arrivals.proofs.in_early.Tie as tie
 use Rattle.entries.proofs.Table.{is-table}
-use Rattle.arrivals.proofs.Midway.{early-here, early-among}
+use Rattle.stamps.proofs.Midway.{early-here, early-among}
 
 places-of-requires : tie.Need-places-of-requires
 places-of-requires c κs = (c .before .pre .fits)

@@ -3,7 +3,7 @@ use native.Mathlib.Omega.{arith}
 use Rattle.arrivals.proofs.in_log.Statement.{statement}
 use Rattle.arrivals.proofs.in_log.Tie as tie
 use Rattle.entries.proofs.Table.{is-table}
-use Rattle.arrivals.proofs.Midway.{log-here, log-among}
+use Rattle.stamps.proofs.Midway.{log-here, log-among}
 
 places-of-requires : tie.Need-places-of-requires
 places-of-requires c κs = (c .before .pre .fits)

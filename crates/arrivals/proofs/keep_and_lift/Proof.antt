@@ -3,7 +3,7 @@ use borrow.Author.Needs.{needs}
 use Rattle.arrivals.proofs.keep_and_lift.Statement.{statement}
 use Rattle.arrivals.proofs.keep_and_lift.Tie as tie
 use Rattle.rules.specs.Image.{stateOf}
-use Rattle.arrivals.proofs.Midway.{midway-here, still-once, kept-lifted}
+use Rattle.stamps.proofs.Midway.{midway-here, still-once, kept-lifted}
 
 keep-note-requires : tie.Need-keep-note-requires
 keep-note-requires c κs = ((c .before .before .pre .0), (c .before .before .pre .2), (c .before .before .pre .3))

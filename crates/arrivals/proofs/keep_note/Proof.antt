@@ -11,7 +11,7 @@ use Rattle.notes.specs.Notes.{sized}
 use Rattle.rules.specs.Image.{stateOf}
 use Rattle.notes.proofs.Notes.{decoded, is-notes, and-then}
 use Rattle.notes.proofs.Row.{kept-sized}
-use Rattle.arrivals.proofs.Midway.{notes-here, notes-come}
+use Rattle.stamps.proofs.Midway.{notes-here, notes-come}
 
 places-of-requires : tie.Need-places-of-requires
 places-of-requires c κs = (c .before .pre .0 .fits)

@@ -3,7 +3,7 @@ use native.Mathlib.Omega.{arith}
 use Rattle.arrivals.proofs.late_count.Statement.{statement}
 use Rattle.arrivals.proofs.late_count.Tie as tie
 use mathlib.Core.Path.{_∙_}
-use Rattle.arrivals.proofs.Midway.{late-here}
+use Rattle.stamps.proofs.Midway.{late-here}
 
 places-of-requires : tie.Need-places-of-requires
 places-of-requires c κs = (c .before .pre .fits)

@@ -2,7 +2,7 @@
 use borrow.Author.Needs.{needs}
 use Rattle.arrivals.proofs.leader_takes.Statement.{statement}
 use Rattle.arrivals.proofs.leader_takes.Tie as tie
-use Rattle.arrivals.proofs.Midway.{stands-midway}
+use Rattle.stamps.proofs.Midway.{stands-midway}
 use Rattle.arrivals.proofs.NoteWays.{room-below}
 use Rattle.arrivals.proofs.TakeWays.{place-full, note-full, out-full, taken}
 

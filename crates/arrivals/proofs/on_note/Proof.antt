@@ -6,7 +6,7 @@ use mathlib.Core.Path.{refl}
 use Rattle.rules.specs.Step.{onNote}
 use Rattle.handler.proofs.Closes.{handled-other}
 use Rattle.handler.proofs.OtherKind.{not-tag}
-use Rattle.arrivals.proofs.Midway.{stands-midway, early-once}
+use Rattle.stamps.proofs.Midway.{stands-midway, early-once}
 use Rattle.arrivals.proofs.NoteWays.{from-below, in-log-way, noted-way, full-way, kept-way, room-below}
 
 enum-known-m : tie.Need-enum-known-m

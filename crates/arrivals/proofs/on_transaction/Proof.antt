@@ -7,7 +7,7 @@ use native.Mathlib.Omega.{arith}
 use Rattle.rules.specs.Step.{onTransaction}
 use Rattle.handler.proofs.Closes.{handled-other}
 use Rattle.handler.proofs.OtherKind.{not-tag}
-use Rattle.arrivals.proofs.Midway.{stands-midway}
+use Rattle.stamps.proofs.Midway.{stands-midway}
 use Rattle.arrivals.proofs.TransactionWays.{due-low, known-way, not-early, leader-way, follower-way}
 
 enum-known-m : tie.Need-enum-known-m

@@ -9,7 +9,7 @@ use lib.Dec.{ltb}
 use Rattle.rules.specs.State.{Note}
 use Rattle.notes.specs.Notes.{row}
 use Rattle.notes.proofs.Notes.{is-notes}
-use Rattle.arrivals.proofs.Midway.{notes-here, notes-read}
+use Rattle.stamps.proofs.Midway.{notes-here, notes-read}
 
 places-of-requires : tie.Need-places-of-requires
 places-of-requires c κs = (c .before .pre .fits)

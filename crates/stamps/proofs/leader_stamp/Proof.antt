@@ -1,8 +1,8 @@
--- `arrivals::leader_stamp` meets its contract. Assumes nothing.
+-- `stamps::leader_stamp` meets its contract. Assumes nothing.
 use borrow.Author.Needs.{needs}
-use Rattle.arrivals.proofs.leader_stamp.Statement.{statement}
-use Rattle.arrivals.proofs.leader_stamp.Tie as tie
-use Rattle.arrivals.proofs.Stamps.{stamp-last, stamp-due}
+use Rattle.stamps.proofs.leader_stamp.Statement.{statement}
+use Rattle.stamps.proofs.leader_stamp.Tie as tie
+use Rattle.stamps.proofs.Stamps.{stamp-last, stamp-due}
 
 last-stamp-requires : tie.Need-last-stamp-requires
 last-stamp-requires c κs = search needs

@@ -1,11 +1,11 @@
--- `arrivals::agreed` meets its contract. Assumes nothing.
+-- `stamps::agreed` meets its contract. Assumes nothing.
 use native.Mathlib.Omega.{arith}
-use Rattle.arrivals.proofs.agreed.Statement.{statement}
-use Rattle.arrivals.proofs.agreed.Tie as tie
+use Rattle.stamps.proofs.agreed.Statement.{statement}
+use Rattle.stamps.proofs.agreed.Tie as tie
 use Rattle.rules.specs.State.{Note, agreed}
 use Rattle.notes.proofs.Notes.{is-notes}
 use mathlib.Core.List.{List}
-use Rattle.arrivals.proofs.Midway.{notes-here, notes-read}
+use Rattle.stamps.proofs.Midway.{notes-here, notes-read}
 
 places-of-requires : tie.Need-places-of-requires
 places-of-requires c κs = (c .before .pre .fits)

@@ -1,12 +1,12 @@
--- `arrivals::last_stamp` meets its contract. Assumes nothing.
+-- `stamps::last_stamp` meets its contract. Assumes nothing.
 use native.Mathlib.Omega.{arith}
-use Rattle.arrivals.proofs.last_stamp.Statement.{statement}
-use Rattle.arrivals.proofs.last_stamp.Tie as tie
+use Rattle.stamps.proofs.last_stamp.Statement.{statement}
+use Rattle.stamps.proofs.last_stamp.Tie as tie
 use mathlib.Core.List.{List}
 use Rattle.rules.specs.Entry.{lastStamp}
 use Rattle.rules.specs.declared.Entry.{Entry}
 use Rattle.entries.proofs.Table.{is-table}
-use Rattle.arrivals.proofs.Midway.{log-here, log-read}
+use Rattle.stamps.proofs.Midway.{log-here, log-read}
 
 places-of-requires : tie.Need-places-of-requires
 places-of-requires c κs = (c .before .pre .fits)

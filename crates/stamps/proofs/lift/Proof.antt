@@ -1,9 +1,9 @@
--- `arrivals::lift` meets its contract. Assumes nothing.
+-- `stamps::lift` meets its contract. Assumes nothing.
 use borrow.Author.Needs.{needs}
 use native.Mathlib.Omega.{arith}
-use Rattle.arrivals.proofs.lift.Statement.{statement}
-use Rattle.arrivals.proofs.lift.Tie as tie
-use Rattle.arrivals.proofs.Midway.{early-count, early-room, lift-absent, lift-waits, lift-here}
+use Rattle.stamps.proofs.lift.Statement.{statement}
+use Rattle.stamps.proofs.lift.Tie as tie
+use Rattle.stamps.proofs.Midway.{early-count, early-room, lift-absent, lift-waits, lift-here}
 
 places-of-requires : tie.Need-places-of-requires
 places-of-requires c κs = (c .before .pre .0 .fits)

@@ -43,8 +43,8 @@ use Rattle.places.proofs.Sections.{stands-fits, stands-laid, drop-all}
 use Rattle.places.proofs.Rows.{row-at}
 use Rattle.places.proofs.Lent.{holds-fits, log-lent, early-lent, late-lent, early-home, late-home}
 use Rattle.handler.proofs.NotesLent.{notes-lent, notes-home}
-use Rattle.arrivals.specs.Midway.{Midway}
-use Rattle.arrivals.proofs.Lifted.{lifted-absent, lifted-waits, lifted-here}
+use Rattle.stamps.specs.Midway.{Midway}
+use Rattle.stamps.proofs.Lifted.{lifted-absent, lifted-waits, lifted-here}
 
 -- ---- a good state is on the way
 

@@ -1,14 +1,14 @@
--- `arrivals::put_early` meets its contract. Assumes nothing.
+-- `stamps::put_early` meets its contract. Assumes nothing.
 use borrow.Author.Needs.{needs}
 use native.Mathlib.Omega.{arith}
-use Rattle.arrivals.proofs.put_early.Statement.{statement}
-use Rattle.arrivals.proofs.put_early.Tie as tie
+use Rattle.stamps.proofs.put_early.Statement.{statement}
+use Rattle.stamps.proofs.put_early.Tie as tie
 use mathlib.Core.Path.{refl}
 use mathlib.Core.List.{List}
 use lib.ListN.{set}
 use Rattle.rules.specs.declared.Entry.{Entry}
 use Rattle.entries.proofs.Table.{decoded, is-table, and-then}
-use Rattle.arrivals.proofs.Midway.{early-here, early-comes}
+use Rattle.stamps.proofs.Midway.{early-here, early-comes}
 
 places-of-requires : tie.Need-places-of-requires
 places-of-requires c κs = (c .before .pre .0 .fits)

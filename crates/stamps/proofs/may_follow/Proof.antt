@@ -1,9 +1,9 @@
--- `arrivals::may_follow` meets its contract. Assumes nothing.
+-- `stamps::may_follow` meets its contract. Assumes nothing.
 use borrow.Author.Needs.{needs}
-use Rattle.arrivals.proofs.may_follow.Statement.{statement}
-use Rattle.arrivals.proofs.may_follow.Tie as tie
+use Rattle.stamps.proofs.may_follow.Statement.{statement}
+use Rattle.stamps.proofs.may_follow.Tie as tie
 use Rattle.rules.specs.Image.{stateOf}
-use Rattle.arrivals.proofs.Stamps.{follows-is}
+use Rattle.stamps.proofs.Stamps.{follows-is}
 
 last-stamp-requires : tie.Need-last-stamp-requires
 last-stamp-requires c κs = search needs

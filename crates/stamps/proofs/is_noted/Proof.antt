@@ -1,10 +1,10 @@
--- `arrivals::is_noted` meets its contract. Assumes nothing.
+-- `stamps::is_noted` meets its contract. Assumes nothing.
 use borrow.Author.Needs.{needs}
 use native.Mathlib.Omega.{arith}
-use Rattle.arrivals.proofs.is_noted.Statement.{statement}
-use Rattle.arrivals.proofs.is_noted.Tie as tie
+use Rattle.stamps.proofs.is_noted.Statement.{statement}
+use Rattle.stamps.proofs.is_noted.Tie as tie
 use Rattle.notes.proofs.Notes.{is-notes}
-use Rattle.arrivals.proofs.Midway.{notes-here, not-noted, was-noted}
+use Rattle.stamps.proofs.Midway.{notes-here, not-noted, was-noted}
 
 places-of-requires : tie.Need-places-of-requires
 places-of-requires c κs = (c .before .pre .0 .fits)

@@ -1,0 +1,2 @@
+-- A state on the way.
+pub mod Midway
