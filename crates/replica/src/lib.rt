@@ -6,40 +6,13 @@ use rules::Message;
 use rules::Shape;
 ghost use mathlib.Core.Path.{_≡_};
 ghost use mathlib.Core.List.{[], _∷_};
-ghost use Rattle.rules.specs.Wire.{tagOf};
 ghost use Rattle.rules.specs.Choice.{pick};
 ghost use Rattle.rules.specs.Digest.{digestFrom};
-ghost use Rattle.rules.specs.Read.{wireIn, decoded, answerOf};
-ghost use Rattle.rules.specs.Image.{stateOf, goodBytes};
-ghost use Rattle.rules.specs.Bytes.{left, closes, stepBytes, startBytes};
-ghost use Rattle.rules.specs.Step as steps;
+ghost use Rattle.rules.specs.Read.{decoded, answerOf};
+ghost use Rattle.rules.specs.Image.{goodBytes};
+ghost use Rattle.rules.specs.Bytes.{left, stepBytes, startBytes};
 ghost use Rattle.places.specs.Layout.{lengthFor};
-ghost use Rattle.handler.specs.Handler.{Ready};
 ghost use Rattle.replica.specs.Face.{codeOf, Gives, Puts, narrow, writesFrom};
-
-// The handler of the message's kind.
-fn handle(shape: Shape, state: &mut [u8], m: Message, message: &[u8], out: &mut [u8]) -> Answer
-    requires { ⌜ Ready shape (now state) m (now message) ⌝ }
-    ensures { λ r. ⌜ left r (now (state .exit)) (now (out .exit)) ≡ closes shape (now (state .entry)) (now (out .entry)) (steps.handle (tagOf m) shape (stateOf shape (now (state .entry))) (wireIn (shape .s) (now (message .entry)))) ⌝ }
-{
-    match m {
-        Message::WrongSizes => Answer::Refused(2),
-        Message::Malformed(_) => Answer::Refused(2),
-        Message::FastReply(_, _, _, _) => Answer::Refused(2),
-        Message::SlowReply(_, _) => Answer::Refused(2),
-        Message::Transaction(_, _, _) => arrivals::on_transaction(shape, state, m, message, out),
-        Message::Note(_) => arrivals::on_note(shape, state, m, message, out),
-        Message::ReplicaSync(_) => syncs::on_replica_sync(shape, state, m, message, out),
-        Message::ChangeView(_) => changes::on_change_view(shape, state, m, message, out),
-        Message::Vote(_, _, _) => votes::on_vote(shape, state, m, message, out),
-        Message::StartView(_) => changes::on_start_view(shape, state, m, message, out),
-        Message::SyncStatus(_, _) => commits::on_sync_status(shape, state, m, message, out),
-        Message::Commit(_, _) => commits::on_commit(shape, state, m, message, out),
-        Message::VerifyRequest(_, _) => verify::on_verify_request(shape, state, m, message, out),
-        Message::VerifyReply(_) => replies::on_verify_reply(shape, state, m, message, out),
-        Message::Tick(_, _) => ticks::on_tick(shape, state, m, message, out),
-    }
-}
 
 // One step: the next state's bytes and the outgoing messages, or the lowest number of the table that applies and all as it came.
 pub fn step(shape: Shape, state: &mut [u8], message: &[u8], out: &mut [u8]) -> Answer
@@ -53,7 +26,7 @@ pub fn step(shape: Shape, state: &mut [u8], message: &[u8], out: &mut [u8]) -> A
     if number != 0 {
         return Answer::Refused(number);
     }
-    handle(shape, state, m, message, out)
+    dispatch::handle(shape, state, m, message, out)
 }
 
 // ---- for hosts: the same under C names, every number one of 64 bits, a slice as a pointer and a length

@@ -1,11 +1,11 @@
--- `replica::handle` meets its contract: the handler of each kind. Assumes nothing.
+-- `dispatch::handle` meets its contract: the handler of each kind. Assumes nothing.
 use mathlib.Core.Path.{ap}
 use Rattle.rules.specs.Wire.{tagOf}
 use Rattle.rules.specs.Step.{onTransaction, onNote, onReplicaSync, onChangeView, onVote, onStartView, onSyncStatus, onCommit, onVerifyRequest, onVerifyReply, onTick}
-use Rattle.replica.proofs.Ways.{transactions, notes, syncs, changes, votes, starts, statuses, commits, requests, replies, ticks, by-kind, no-message, fast-reply, slow-reply, by-none}
+use Rattle.dispatch.proofs.Handled.{transactions, notes, syncs, changes, votes, starts, statuses, commits, requests, replies, ticks, by-kind, no-message, fast-reply, slow-reply, by-none}
 use borrow.Author.Needs.{needs}
-use Rattle.replica.proofs.handle.Statement.{statement}
-use Rattle.replica.proofs.handle.Tie as tie
+use Rattle.dispatch.proofs.handle.Statement.{statement}
+use Rattle.dispatch.proofs.handle.Tie as tie
 
 enum-told : tie.Need-enum-told
 enum-told c = search needs

@@ -1,0 +1,2 @@
+-- The rule of each kind.
+mod Handled
