@@ -766,17 +766,22 @@ static const char *grouped(double value, char room[32])
     return room;
 }
 
-/* The processor's name as the system tells it. */
+/* The processor's name as the system tells it, and whether the machine is a virtual one. */
 static void put_processor(FILE *to)
 {
-    char line[256], *name = NULL;
+    char line[4096], name[256] = "a processor without a name";
+    bool is_virtual = false;
     FILE *from = fopen("/proc/cpuinfo", "r");
-    while (from != NULL && name == NULL && fgets(line, sizeof line, from) != NULL)
-        if (strncmp(line, "model name", 10) == 0 && (name = strchr(line, ':')) != NULL)
-            name[strcspn(name, "\n")] = 0;
+    while (from != NULL && fgets(line, sizeof line, from) != NULL) {
+        const char *value = strchr(line, ':');
+        line[strcspn(line, "\n")] = 0;
+        if (value != NULL && strncmp(line, "model name", 10) == 0)
+            snprintf(name, sizeof name, "%.200s", value + 2);
+        is_virtual = is_virtual || (strncmp(line, "flags", 5) == 0 && strstr(line, " hypervisor") != NULL);
+    }
     if (from != NULL)
         fclose(from);
-    fprintf(to, "%s, %ld processors", name == NULL ? "a processor without a name" : name + 2,
+    fprintf(to, "a%s x86-64 machine, %s, %ld processors", is_virtual ? " virtual" : "n", name,
             sysconf(_SC_NPROCESSORS_ONLN));
 }
 
