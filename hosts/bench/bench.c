@@ -788,13 +788,13 @@ static void put_processor(FILE *to)
 static void put_where(FILE *to)
 {
     if (ratios_alone)
-        fprintf(to, "Measured under an emulator: ratios alone.");
+        fprintf(to, "Ratios alone, as under an emulator");
     else {
         fprintf(to, "Measured on ");
         put_processor(to);
     }
-    fprintf(to, "%s model and bench compiled by gcc %s at `-O3`; the whole run took %.0f s.\n",
-            ratios_alone ? " " : ";", __VERSION__, whole_time);
+    fprintf(to, "; model and bench compiled by gcc %s at `-O3`; the whole run took %.0f s.\n", __VERSION__,
+            whole_time);
 }
 
 /* The least, the mean and the greatest ratio of a row. */
