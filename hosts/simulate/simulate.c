@@ -15,6 +15,8 @@
  *
  * simulate --help lists the options. 0 if every check held, 1 with a message if one did not, 2 for bad usage.
  */
+#define _POSIX_C_SOURCE 200809L
+
 #include "../../include/jallumere.h"
 #include "../common/layout.h"
 
@@ -23,6 +25,8 @@
 #include <stdio.h>
 #include <stdlib.h>
 #include <string.h>
+#include <time.h>
+#include <unistd.h>
 
 enum {
     SITES_MOST = REPLICAS_MOST * GROUPS_MOST,
@@ -1043,6 +1047,26 @@ static void read_words(int count, char **words)
         steps_most = STEPS_EACH * sites_each * groups;
 }
 
+/* In a long run without a timeline to look at: on a terminal one line that changes, elsewhere a line now and then.
+ */
+static void show_progress(void)
+{
+    static struct timespec first, last;
+    struct timespec time;
+    bool terminal = isatty(2) == 1;
+    if (!quiet && isatty(1) == 1)
+        return;
+    clock_gettime(CLOCK_MONOTONIC, &time);
+    if (first.tv_sec == 0)
+        first = last = time;
+    if (time.tv_sec - last.tv_sec < (terminal ? 1 : 5) || time.tv_sec - first.tv_sec < 2)
+        return;
+    last = time;
+    fprintf(stderr, "%ssimulate: %" PRIu64 " of %" PRIu64 " steps, %ld s%s", terminal ? "\r" : "", step_count,
+            steps_most, (long)(time.tv_sec - first.tv_sec), terminal ? " " : "\n");
+    fflush(stderr);
+}
+
 static void start_sites(void)
 {
     at = lay_out(sites_each, groups, capacity);
@@ -1088,6 +1112,7 @@ int main(int count, char **words)
         now = first.at;
         handle(&first);
         follow_plot();
+        show_progress();
     }
     print_logs();
     print_summary();
