@@ -6,7 +6,8 @@
  * all cells; the copies are restored outside of the timed part, and the best of all turns counts. The answers, the
  * next states and the outgoing bytes are compared on the way, and each answer is the one that its row names.
  *
- * bench --help lists the options. 0; 1 if core and model differ or an answer is another; 2 for bad usage.
+ * ./jallumere bench --help lists the options. 0; 1 if core and model differ or an answer is another; 2 for bad
+ * usage.
  */
 #define _POSIX_C_SOURCE 200809L
 
@@ -40,20 +41,6 @@ static const uint64_t shapes[SHAPES][2] = {{3, 1}, {7, 8}}, capacities[CAPACITIE
 static const unsigned sixteenths[FILLS] = {0, 1, 4, 8, 16};
 static const int shown[SHOWN] = {0, 3, 4};
 static const char *const fill_names[FILLS] = {"empty", "1/16", "1/4", "half", "full"};
-
-static const char help[] =
-    "bench [OPTIONS]\n"
-    "\n"
-    "Nanoseconds for one step, core beside model, by kind, shape, capacity and length of the log.\n"
-    "\n"
-    "  --markdown     print the tables of docs/SPEED.md\n"
-    "  --into FILE    put these tables into FILE, between its two lines '<!-- figures -->'\n"
-    "  --svg FILE     draw cost against length of the log\n"
-    "  --csv          print a line for each cell\n"
-    "  --turns N      the most turns of a cell in each of three passes; the best counts (20)\n"
-    "  --ratios       give ratios alone, as under an emulator\n"
-    "\n"
-    "Exit status: 0; 1 core and model differ, or a step answers otherwise than it should; 2 bad usage.\n";
 
 typedef uint64_t step_function(uint64_t, uint64_t, uint64_t, uint8_t *, size_t, const uint8_t *, size_t, uint8_t *,
                                size_t);
@@ -1152,7 +1139,7 @@ static struct {
 
 static void bad_usage(const char *word)
 {
-    fprintf(stderr, "bench: %s; --help lists the options\n", word);
+    fprintf(stderr, "bench: %s; ./jallumere bench --help lists the options\n", word);
     exit(2);
 }
 
@@ -1179,10 +1166,7 @@ static void read_words(int count, char **words)
     char room[128];
     for (int i = 1; i < count; i++) {
         snprintf(room, sizeof room, "unknown option '%.60s'", words[i]);
-        if (strcmp(words[i], "--help") == 0) {
-            fputs(help, stdout);
-            exit(0);
-        } else if (strcmp(words[i], "--csv") == 0)
+        if (strcmp(words[i], "--csv") == 0)
             asked.csv = true;
         else if (strcmp(words[i], "--markdown") == 0)
             asked.markdown = true;

@@ -2058,7 +2058,8 @@ static uint64_t number(const char *name, const char *text)
     char *end = NULL;
     unsigned long long value = text == NULL ? 0 : strtoull(text, &end, 10);
     if (text == NULL || *text < '0' || *text > '9' || *end != 0) {
-        fprintf(stderr, "compare: %s takes a number behind it; --help lists the options\n", name);
+        fprintf(stderr, "compare: %s takes a number behind it; ./jallumere compare --help lists the options\n",
+                name);
         exit(2);
     }
     return value;
@@ -2074,7 +2075,8 @@ int main(int count, char **words)
         else if (strcmp(words[i], "--seed") == 0)
             seed = number(words[i], next);
         else {
-            fprintf(stderr, "compare: unknown option '%s'; --help lists the options\n", words[i]);
+            fprintf(stderr, "compare: unknown option '%s'; ./jallumere compare --help lists the options\n",
+                    words[i]);
             return 2;
         }
     }

@@ -19,14 +19,6 @@ enum { SHOWN_ENTRIES = 20, SHOWN_REASONS = 12, SHAPES_MOST = 64 };
 
 static bool show_all;
 
-static const char help[] =
-    "inspect STATE [--sites N --groups S --capacity C] [--all]\n"
-    "\n"
-    "Prints a state's bytes as a report; STATE is a file, or - for the standard input. Without the three sizes "
-    "all\n"
-    "shapes are tried whose state has this length. --all shows every entry of long tables.\n"
-    "Exit status: 0 the state is good, 1 it is not, 2 bad usage, no such file or no such shape.\n";
-
 static void stop(const char *format, ...)
 {
     va_list words;
@@ -417,17 +409,19 @@ static void check_all(const layout *at, const uint8_t *state)
 
 /* ---- the report -------------------------------------------------------------------------------------- */
 
-static void print_groups(uint64_t mask)
+/* The groups of a mask, in a column as wide as all that there are. */
+static void print_groups(uint64_t mask, uint64_t groups)
 {
     const char *between = "";
-    printf("groups ");
+    uint64_t width = mask == 0 ? 4 : 0;
+    printf("groups %s", mask == 0 ? "none" : "");
     for (unsigned group = 0; group < 16; group++)
         if ((mask >> group & 1) == 1) {
-            printf("%s%u", between, group);
+            width += (uint64_t)printf("%s%u", between, group);
             between = ",";
         }
-    if (mask == 0)
-        printf("none");
+    for (; width < 2 * groups; width++)
+        printf(" ");
 }
 
 static void print_entries(const layout *at, const uint8_t *state, size_t table, uint64_t sync, uint64_t commit,
@@ -443,9 +437,12 @@ static void print_entries(const layout *at, const uint8_t *state, size_t table, 
         }
         printf("%s%4" PRIu64 "  at %-12" PRIu64 " transaction %" PRIu64 ".%-6" PRIu64 " ", indent, i + 1,
                read.timestamp, read.coordinator, read.request);
-        print_groups(read.mask);
-        printf("  command %#" PRIx64 "%s%s\n", read.command, i < sync ? "  synced" : "",
-               i < commit ? ", committed" : "");
+        print_groups(read.mask, at->s);
+        printf("  command %#018" PRIx64 "%s%s%s\n", read.command, i < sync || i < commit ? "  " : "",
+               i < sync ? "synced" : "",
+               i >= commit ? ""
+               : i < sync  ? ", committed"
+                           : "committed");
     }
 }
 
@@ -634,10 +631,6 @@ int main(int count, char **words)
     size_t length, found;
     for (int i = 1; i < count; i++) {
         const char *next = i + 1 < count ? words[i + 1] : NULL;
-        if (strcmp(words[i], "--help") == 0) {
-            fputs(help, stdout);
-            return 0;
-        }
         if (strcmp(words[i], "--all") == 0)
             show_all = true;
         else if (strcmp(words[i], "--sites") == 0)
@@ -647,14 +640,14 @@ int main(int count, char **words)
         else if (strcmp(words[i], "--capacity") == 0)
             c = number(words[i++], next);
         else if (words[i][0] == '-' && words[i][1] != 0)
-            stop("unknown option '%s'; --help lists them", words[i]);
+            stop("unknown option '%s'; ./jallumere inspect --help lists them", words[i]);
         else if (path != NULL)
             stop("one state at a time: '%s' and '%s' are two", path, words[i]);
         else
             path = words[i];
     }
     if (path == NULL)
-        stop("which state? inspect --help");
+        stop("which state? ./jallumere inspect --help");
     if ((n != 0 || s != 0 || c != 0) && (n == 0 || s == 0 || c == 0))
         stop("--sites, --groups and --capacity go together: give all three or none");
     uint8_t *state = read_file(path, &length);

@@ -13,7 +13,8 @@
  *   - a rebuilt log begins with every entry committed in the view that it was rebuilt from; with one group, the
  *     log that a view starts with begins with every entry committed in any earlier view.
  *
- * simulate --help lists the options. 0 if every check held, 1 with a message if one did not, 2 for bad usage.
+ * ./jallumere simulate --help lists the options. 0 if every check held, 1 with a message if one did not, 2 for bad
+ * usage.
  */
 #define _POSIX_C_SOURCE 200809L
 
@@ -53,25 +54,6 @@ enum {
 };
 
 #define DIGEST_START UINT64_C(0xcbf29ce484222325)
-
-static const char help[] =
-    "simulate [OPTIONS]\n"
-    "\n"
-    "Runs groups of sites over a network that loses, repeats and delays; a leader falls silent and new views\n"
-    "are started. Prints a timeline and the logs at the end. What the core promises is checked at every step.\n"
-    "\n"
-    "  --seed N       the run's chance (1)\n"
-    "  --sites N      sites in each group: 3, 5 or 7 (3)\n"
-    "  --groups N     groups, 1 to 8 (1)\n"
-    "  --capacity N   entries of a table, 16 to 4096 (64)\n"
-    "  --loss N       messages lost, in a hundred, 0 to 90 (5)\n"
-    "  --repeat N     messages repeated, in a hundred, 0 to 90 (5)\n"
-    "  --steps N      calls of the core's step (250 for each site)\n"
-    "  --page FILE    write the run as one HTML page\n"
-    "  --states DIR   write each site's last state to DIR/gN.rN.state\n"
-    "  --quiet        no timeline\n"
-    "\n"
-    "Exit status: 0 every check held, 1 one did not, 2 bad usage.\n";
 
 /* ---- options and chance ------------------------------------------------------------------------------ */
 
@@ -1007,10 +989,6 @@ static void read_words(int count, char **words)
 {
     for (int i = 1; i < count; i++) {
         const char *word = words[i], *next = i + 1 < count ? words[i + 1] : NULL;
-        if (strcmp(word, "--help") == 0) {
-            fputs(help, stdout);
-            exit(0);
-        }
         if (strcmp(word, "--quiet") == 0) {
             quiet = true;
             continue;
@@ -1035,7 +1013,7 @@ static void read_words(int count, char **words)
         else if (strcmp(word, "--states") == 0)
             states_path = next;
         else
-            stop("unknown option '%s'; --help lists them", word);
+            stop("unknown option '%s'; ./jallumere simulate --help lists them", word);
         if (next == NULL)
             stop("%s takes a word behind it", word);
     }
