@@ -560,7 +560,7 @@ static double time_side(const scene *now, int side, size_t count, uint64_t *answ
     for (size_t i = 0; i < count; i++)
         *answer = steps[side](now->at.n, now->at.s, now->at.c, copies[side] + length * i, now->state_length,
                               now->message, now->message_length, out[side], now->room);
-    return (thread_time() - before - clock_time) / (double)count;
+    return fmax(thread_time() - before - clock_time, 1) / (double)count;
 }
 
 static void check_same(const scene *now, unsigned row, const uint64_t answers[2])

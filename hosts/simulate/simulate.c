@@ -540,38 +540,34 @@ static void tell(int of, const message *told, const uint8_t *old, const uint8_t 
              reached_by(state[0], commit), sites_each);
 }
 
-static uint64_t take_step(int of, size_t which)
+/* What holds for every answer, and after a step that was done. */
+static void check_step(int of, const message *told, uint64_t refusal, uint64_t length)
 {
-    site *own = &sites[of];
-    uint8_t *state = own->state;
-    memcpy(before, state, at.length);
-    memcpy(outgoing, outgoing_before, outgoing_room);
-    uint64_t answer = jallumere_step(sites_each, groups, capacity, state, at.length, messages[which].bytes,
-                                     messages[which].length, outgoing, outgoing_room);
-    uint64_t refusal = answer % 256, length = answer / 256;
-    step_count++;
-    if (refusal >= REFUSALS || length > outgoing_room)
-        fails(of, "the step answers %" PRIu64, answer);
-    answers[refusal]++;
+    const uint8_t *state = sites[of].state;
     if (refusal == 1)
         fails(of, "refusal 1: its state is no longer good");
     if (refusal == 2)
-        fails(of, "refusal 2 for a kind %" PRIu64 " that was sent as well formed", messages[which].kind);
+        fails(of, "refusal 2 for a kind %" PRIu64 " that was sent as well formed", told->kind);
     if (refusal == 9)
         fails(of, "refusal 9, with %zu bytes of outgoing room", outgoing_room);
     if (refusal != 0 && (length != 0 || memcmp(before, state, at.length) != 0))
         fails(of, "a refusal changed its state");
     if (memcmp(outgoing + length, outgoing_before + length, outgoing_room - length) != 0)
         fails(of, "the step wrote past what it sends");
-    if (refusal == 0) {
-        if (jallumere_good(sites_each, groups, capacity, state, at.length) != 0)
-            fails(of, "its state is not good after a kind %" PRIu64, messages[which].kind);
-        check_log(of, state);
-        check_commit(of, state);
-        if (state[AT_STATUS] == CROSS_SHARD && before[AT_STATUS] != CROSS_SHARD)
-            check_draft(of, state);
-        tell(of, &messages[which], before, state);
-    }
+    if (refusal != 0)
+        return;
+    if (jallumere_good(sites_each, groups, capacity, state, at.length) != 0)
+        fails(of, "its state is not good after a kind %" PRIu64, told->kind);
+    check_log(of, state);
+    check_commit(of, state);
+    if (state[AT_STATUS] == CROSS_SHARD && before[AT_STATUS] != CROSS_SHARD)
+        check_draft(of, state);
+    tell(of, told, before, state);
+}
+
+static void keep_turn(int of, size_t which, uint64_t refusal, uint64_t length)
+{
+    const uint8_t *state = sites[of].state;
     turn made = {.at = now,
                  .site = of,
                  .message = which,
@@ -587,6 +583,22 @@ static uint64_t take_step(int of, size_t which)
                  .leads = leader_of(&at, state, state[0]) == state[1]};
     turns = grown(turns, turn_count, sizeof *turns);
     turns[turn_count++] = made;
+}
+
+static uint64_t take_step(int of, size_t which)
+{
+    uint8_t *state = sites[of].state;
+    memcpy(before, state, at.length);
+    memcpy(outgoing, outgoing_before, outgoing_room);
+    uint64_t answer = jallumere_step(sites_each, groups, capacity, state, at.length, messages[which].bytes,
+                                     messages[which].length, outgoing, outgoing_room);
+    uint64_t refusal = answer % 256, length = answer / 256;
+    step_count++;
+    if (refusal >= REFUSALS || length > outgoing_room)
+        fails(of, "the step answers %" PRIu64, answer);
+    answers[refusal]++;
+    check_step(of, &messages[which], refusal, length);
+    keep_turn(of, which, refusal, length);
     take_outgoing(of, length);
     return refusal;
 }
