@@ -15,6 +15,7 @@
 #include "../../include/jallumere.h"
 #include "../model/model.h"
 
+#include <limits.h>
 #include <stdbool.h>
 #include <stdio.h>
 #include <stdlib.h>
@@ -1976,6 +1977,16 @@ static void show_capacities(void)
     }
 }
 
+/* Of the kinds that a site takes, the one with the fewest done steps at a capacity. */
+static unsigned long least_done(unsigned span)
+{
+    unsigned long least = ULONG_MAX;
+    for (unsigned i = 0; i < KIND_COUNT; i++)
+        if (kinds[i] != 5 && kinds[i] != 6 && reached.spans[kinds[i]][span][0] < least)
+            least = reached.spans[kinds[i]][span][0];
+    return least;
+}
+
 static void show_full_tables(void)
 {
     static const char *const names[TABLES] = {"log", "early", "late", "notes", "draft", "a vote", "a reply"};
@@ -2090,6 +2101,8 @@ int main(int count, char **words)
         show_progress();
     }
     show_table();
+    printf("done steps of each kind: at least %lu at C = 16, %lu at 17, %lu at 256, %lu at 4,096\n", least_done(0),
+           least_done(1), least_done(3), least_done(4));
     printf("%lu steps, seed %llu, no difference; %.0f s\n", reached.total, (unsigned long long)seed, seconds());
     return 0;
 }
