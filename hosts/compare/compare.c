@@ -5,17 +5,23 @@
  * Three sources of input. Runs: whole groups over a network that loses, repeats and delays. Built states:
  * good states of every status with tables from empty to full, and messages made to fit them. Damage: of
  * messages and of states, bit by bit and field by field; a state that is still good after an edit goes on
- * in the run, so that states come up which no run from fresh would reach.
+ * in the run, so that states come up which no run from fresh would reach. At capacities 16, 17, 256 and 4,096 and
+ * in several shapes each kind has its share of steps that are done, however the rest falls out.
  *
  * compare [--steps N] [--seed N]: 0 if there is no difference; else 1, and the first difference is printed.
  */
+#define _POSIX_C_SOURCE 200809L
+
 #include "../../include/jallumere.h"
 #include "../model/model.h"
 
+#include <limits.h>
 #include <stdbool.h>
 #include <stdio.h>
 #include <stdlib.h>
 #include <string.h>
+#include <time.h>
+#include <unistd.h>
 
 #define GREATEST_TIMESTAMP UINT64_C(0x7fffffffffffffff)
 
@@ -29,7 +35,10 @@ enum {
     HEADER_LENGTH = 12,
     OUTSIDE = 255,
     POOL = 3000,
-    SHOWN_ROWS = 24
+    SHOWN_ROWS = 24,
+    SPANS = 5, /* capacities 16, 17, 18 to 255, 256 and more */
+    TABLES = 7,
+    REQUESTS = 65536 /* more than a past's greatest request */
 };
 
 static const uint64_t kinds[] = {1, 3, 4, 5, 6, 7, 8, 9, 10, 11, 18, 19, 23};
@@ -89,9 +98,38 @@ static struct {
     unsigned long placed[4][2][KINDS + 1]; /* done, by status and role before the step */
     unsigned long entered[4];              /* done, by the status after the step */
     unsigned long good[ORIGINS][2], read[KINDS + 1][3], write[KINDS + 1][REFUSALS];
-    unsigned long starts[2], digests, exact, total, capacities[4];
+    unsigned long starts[2], digests, exact, total;
+    unsigned long spans[KINDS + 1][SPANS][2]; /* by kind and capacity, done and refused */
+    unsigned long full[TABLES][SPANS][2];   /* steps from a good state with this table full, and one short of it */
     unsigned long lost_goodness[KINDS + 1]; /* done, and the next state is not good */
 } reached;
+
+static uint64_t steps_wanted = 100000;
+
+/* Since the first call. */
+static double seconds(void)
+{
+    static struct timespec first;
+    struct timespec time;
+    clock_gettime(CLOCK_MONOTONIC, &time);
+    if (first.tv_sec == 0)
+        first = time;
+    return (double)(time.tv_sec - first.tv_sec) + 1e-9 * (double)(time.tv_nsec - first.tv_nsec);
+}
+
+/* On a terminal one line that changes, elsewhere a line now and then; nothing in the first two seconds. */
+static void show_progress(void)
+{
+    static double last;
+    bool terminal = isatty(2) == 1;
+    double time = seconds();
+    if (time - last < (terminal && last != 0 ? 0.5 : last == 0 ? 2 : 5))
+        return;
+    last = time;
+    fprintf(stderr, "%scompare: %lu of %llu steps, %.0f s%s", terminal ? "\r" : "", reached.total,
+            (unsigned long long)steps_wanted, time, terminal ? " " : "\n");
+    fflush(stderr);
+}
 
 static unsigned kind_row(const uint8_t *message, size_t length)
 {
@@ -314,9 +352,9 @@ static void show_difference(const char *name, const uint8_t *one, const uint8_t 
 
 static const char *section_of(const sizes *z, size_t at)
 {
-    const size_t ends[] = {z->views, z->heard, z->log,   z->early,   z->late,  z->notes,
+    const size_t ends[] = {z->views, z->heard, z->log,     z->early,  z->late, z->notes,
                            z->votes, z->draft, z->replies, z->length, SIZE_MAX};
-    const char *const names[] = {"head",  "gVec",  "heard", "log",     "early", "late",
+    const char *const names[] = {"head",  "gVec",  "heard", "log",     "early",           "late",
                                  "notes", "votes", "draft", "replies", "behind the state"};
     unsigned i = 0;
     while (at >= ends[i])
@@ -417,6 +455,34 @@ static void show_step(const sizes *z, const uint8_t *state, size_t length, const
     show_difference("outgoing buffer", out_of(0), out_of(1), room);
 }
 
+static unsigned span_of(const sizes *z)
+{
+    return z->c == 16 ? 0 : z->c == 17 ? 1 : z->c < 256 ? 2 : z->c == 256 ? 3 : 4;
+}
+
+/* Which tables of a good state are full or have one place left; of votes and replies the fullest counts. */
+static void count_full(const sizes *z, const uint8_t *state)
+{
+    uint64_t counts[TABLES] = {load(state + z->log, 4),
+                               load(state + z->early, 4),
+                               load(state + z->late, 4),
+                               load(state + z->notes, 4),
+                               load(state + z->draft, 4),
+                               0,
+                               0};
+    for (uint64_t i = 0; i < z->n; i++) {
+        uint64_t count = load(state + z->votes + z->vote * i + 13, 4);
+        counts[5] = count > counts[5] ? count : counts[5];
+    }
+    for (uint64_t i = 0; i < z->s; i++) {
+        uint64_t count = load(state + z->replies + z->reply * i + 1, 4);
+        counts[6] = count > counts[6] ? count : counts[6];
+    }
+    for (unsigned i = 0; i < TABLES; i++)
+        if (counts[i] + 1 >= z->c)
+            reached.full[i][span_of(z)][counts[i] + 1 == z->c]++;
+}
+
 static void count_step(const sizes *z, const uint8_t *state, const letter *told, uint64_t result, enum origin from)
 {
     unsigned row = kind_row(told->bytes, told->length);
@@ -424,11 +490,13 @@ static void count_step(const sizes *z, const uint8_t *state, const letter *told,
     reached.total++;
     reached.steps[row][refusal]++;
     reached.origins[from][refusal]++;
+    if (refusal != 1) {
+        reached.spans[row][span_of(z)][refusal != 0]++;
+        count_full(z, state);
+    }
     if (refusal != 0)
         return;
-    unsigned capacity = z->c <= 64 ? 0 : z->c < 256 ? 1 : z->c < 4096 ? 2 : 3;
     bool leads = leader_of(state + z->views, state[0], z->n) == state[1];
-    reached.capacities[capacity]++;
     reached.placed[state[2]][leads][row]++;
     reached.entered[state_of(1)[2]]++;
     if (sides[1].good(z->n, z->s, z->c, state_of(1), z->length) != 0)
@@ -446,8 +514,8 @@ static uint64_t try_step(const sizes *z, const uint8_t *state, size_t length, co
         memcpy(message, told->bytes, told->length);
     lend(state, length, room);
     for (int side = 0; side < 2; side++)
-        results[side] = sides[side].step(z->n, z->s, z->c, state_of(side), length, message, told->length,
-                                         out_of(side), room);
+        results[side] =
+            sides[side].step(z->n, z->s, z->c, state_of(side), length, message, told->length, out_of(side), room);
     free(message);
     if (results[0] != results[1])
         why = "the answers differ";
@@ -568,8 +636,8 @@ static uint64_t try_write(const sizes *z, const fields *f, size_t views_length, 
         printf("%s %llu, %s %llu; kind %llu to %llu mask %llu from %llu %llu view %llu, numbers %llu %llu %llu\n",
                sides[0].name, (unsigned long long)results[0], sides[1].name, (unsigned long long)results[1],
                (unsigned long long)f->kind, (unsigned long long)f->to_group, (unsigned long long)f->to_mask,
-               (unsigned long long)f->from_group, (unsigned long long)f->from_replica,
-               (unsigned long long)f->view, (unsigned long long)f->numbers[0], (unsigned long long)f->numbers[1],
+               (unsigned long long)f->from_group, (unsigned long long)f->from_replica, (unsigned long long)f->view,
+               (unsigned long long)f->numbers[0], (unsigned long long)f->numbers[1],
                (unsigned long long)f->numbers[2]);
         printf("room %zu\n", room);
         show_bytes("views", f->views, views_length);
@@ -1356,16 +1424,15 @@ static uint64_t pick_log(uint8_t *to, const history *from, uint64_t *place, uint
     return count;
 }
 
-static void build_head(const sizes *z, uint8_t *state, const history *from)
+static void build_head(const sizes *z, uint8_t *state, const history *from, bool leads)
 {
-    bool leads = state[2] == 3 || chance(60);
     uint64_t view = chance(95) ? 1 + below(5) : UINT32_MAX - below(3);
     if (state[2] == 1 && chance(20))
         view = 0;
     for (uint64_t group = 0; group < z->s; group++)
         store(state + z->views + 4 * group, chance(95) ? below(30) : UINT32_MAX - below(9), 4);
-    if (leads)
-        store(state + z->views + 4 * state[0], state[1] + z->n * below(4), 4);
+    if (leads || leader_of(state + z->views, state[0], z->n) == state[1])
+        store(state + z->views + 4 * state[0], state[1] + (leads ? 0 : 1 + below(z->n - 1)) + z->n * below(4), 4);
     store(state + 8, view, 4);
     store(state + 12, state[2] == 1 ? view : below(view), 4);
     store(state + 16, chance(70) ? some_time(from) : 0, 8);
@@ -1419,24 +1486,26 @@ static uint64_t build_early_notes(const sizes *z, uint8_t *state, const history 
     return load(early, 4);
 }
 
-static bool in_table(const uint8_t *table, const uint8_t *entry)
+/* Marks the requests of a table; in a past no two transactions have the same. */
+static void mark_requests(const uint8_t *table, uint8_t *marks, uint8_t value)
 {
     for (uint64_t i = 0; i < load(table, 4); i++)
-        if (memcmp(table + 4 + ENTRY_LENGTH * i + 16, entry + 16, 6) == 0)
-            return true;
-    return false;
+        if (load(table + 4 + ENTRY_LENGTH * i + 16, 4) < REQUESTS)
+            marks[load(table + 4 + ENTRY_LENGTH * i + 16, 4)] = value;
 }
 
 /* Notes for transactions that have not come yet, from some groups, from all others or even from the own. */
 static void build_notes(const sizes *z, uint8_t *state, const history *from, bool for_early)
 {
     uint8_t *notes = state + z->notes + 4;
+    static uint8_t early[REQUESTS];
     uint64_t count = for_early ? build_early_notes(z, state, from) : 0, most = fill(z);
+    mark_requests(state + z->early, early, 1);
     for (uint64_t i = 0; count < most && i < from->count; i++) {
         uint8_t *note = notes + z->note * count;
         uint64_t sure = below(z->s);
         bool all = chance(50);
-        if (chance(20) || in_table(state + z->early, past(from, i)))
+        if (chance(20) || early[load(past(from, i) + 16, 4)] == 1)
             continue;
         memcpy(note, past(from, i) + 16, 6);
         for (uint64_t group = 0; group < z->s; group++) {
@@ -1446,6 +1515,7 @@ static void build_notes(const sizes *z, uint8_t *state, const history *from, boo
         }
         count++;
     }
+    mark_requests(state + z->early, early, 0);
     store(notes - 4, count, 4);
 }
 
@@ -1462,12 +1532,21 @@ static void shuffle(uint8_t *entries, uint64_t count)
 
 static void build_buffers(const sizes *z, uint8_t *state, const history *from, uint64_t place)
 {
-    uint64_t early = pick_log(state + z->early + 4, from, &place, fill(z), 60, 0, 0);
-    uint64_t late = pick_log(state + z->late + 4, from, &place, fill(z), 60, 0, 0);
+    uint64_t most = fill(z), early = pick_log(state + z->early + 4, from, &place, most, 60, 0, 0);
+    uint64_t last = load(past(from, from->count - 1), 8);
     bool for_early = state[2] == 1 && state_leads(z, state);
+    bool top = chance(30); /* as full as was drawn, by entries that the past does not have */
+    while (top && early < most) {
+        make_entry(state + z->early + 4 + ENTRY_LENGTH * early, last, draw(), 150000 + early, below(3),
+                   UINT64_C(1) << state[0] | below(UINT64_C(1) << z->s));
+        early++;
+    }
+    most = fill(z);
+    uint64_t late = pick_log(state + z->late + 4, from, &place, most, 60, 0, 0);
+    top = chance(30);
     shuffle(state + z->early + 4, early);
     store(state + z->early, early, 4);
-    while (late < z->c && chance(80)) {
+    while (late < z->c && (top ? late < most : chance(80))) {
         make_entry(state + z->late + 4 + ENTRY_LENGTH * late, some_time(from), draw(), 100000 + late, below(3),
                    UINT64_C(1) << state[0]);
         late++;
@@ -1526,18 +1605,41 @@ static void build_replies(const sizes *z, uint8_t *state, const history *from)
     }
 }
 
-static void build_state(const sizes *z, uint8_t *state, const history *from, uint64_t group)
+static void build_state(const sizes *z, uint8_t *state, const history *from, uint64_t group, unsigned status,
+                        bool leads)
 {
     memset(state, 0, z->length);
     state[0] = (uint8_t)group;
     state[1] = (uint8_t)below(z->n);
-    state[2] = (uint8_t)(1 + below(z->s == 1 ? 2 : 3));
-    build_head(z, state, from);
+    state[2] = (uint8_t)status;
+    build_head(z, state, from, leads);
     uint64_t place = build_log(z, state, from);
     if (state[2] == 1 || chance(20))
         build_buffers(z, state, from, place);
     build_votes(z, state, from);
     build_replies(z, state, from);
+}
+
+static void build_any_state(const sizes *z, uint8_t *state, const history *from, uint64_t group)
+{
+    unsigned status = 1 + (unsigned)below(z->s == 1 ? 2 : 3);
+    build_state(z, state, from, group, status, status == 3 || chance(60));
+}
+
+/* A state in which a message of this kind can be taken; kinds 8 and 9 also open a greater view in any other. */
+static void build_state_for(const sizes *z, uint8_t *state, const history *from, uint64_t group, uint64_t kind)
+{
+    bool odd = (kind == 8 || kind == 9) && chance(20);
+    if (kind == 7 || odd)
+        build_any_state(z, state, from, group);
+    else if (kind == 8 || kind == 9)
+        build_state(z, state, from, group, 2, kind == 8);
+    else if (kind == 19 || (kind == 18 && chance(50)))
+        build_state(z, state, from, group, 3, true);
+    else if (kind == 1 || kind == 23)
+        build_state(z, state, from, group, 1, chance(50));
+    else
+        build_state(z, state, from, group, 1, kind != 4 && kind != 11);
 }
 
 /* ---- messages that fit a built state ----------------------------------------------------------------- */
@@ -1678,18 +1780,25 @@ static void fit_numbers(const sizes *z, const uint8_t *state, const history *fro
         f->numbers[0] = draw();
 }
 
-static void make_fitting(const sizes *z, const uint8_t *state, const history *from, letter *told)
+/* A kind that a state may take, or any other. */
+static uint64_t some_kind(const sizes *z, const uint8_t *state)
 {
-    fields f = {.kind = kinds[below(KIND_COUNT)]};
-    uint8_t views[32], *entries = memory(ENTRY_LENGTH * (from->count + 1));
-    if ((f.kind == 5 || f.kind == 6) && chance(80))
-        f.kind = 23;
+    uint64_t kind = kinds[below(KIND_COUNT)];
+    if ((kind == 5 || kind == 6) && chance(80))
+        kind = 23;
     if (state[2] == 1 && chance(25))
-        f.kind = !state_leads(z, state) ? 4 : chance(50) ? 1 : 3;
+        kind = !state_leads(z, state) ? 4 : chance(50) ? 1 : 3;
     if (state[2] == 2 && chance(50))
-        f.kind = chance(80) ? 8 : 9;
+        kind = chance(80) ? 8 : 9;
     if (state[2] == 3 && chance(60))
-        f.kind = chance(80) ? 19 : 18;
+        kind = chance(80) ? 19 : 18;
+    return kind;
+}
+
+static void make_fitting(const sizes *z, const uint8_t *state, const history *from, uint64_t kind, letter *told)
+{
+    fields f = {.kind = kind};
+    uint8_t views[32], *entries = memory(ENTRY_LENGTH * (from->count + 1));
     fit_view(z, state, &f, views);
     fit_address(z, state, &f, views);
     if (chance(15))
@@ -1714,12 +1823,12 @@ static void run_built(const sizes *z, unsigned long turns)
     make_history(z, &from, group);
     for (unsigned long turn = 0; turn < turns; turn++) {
         if (turn % 4 == 0)
-            build_state(z, state, &from, group);
+            build_any_state(z, state, &from, group);
         if (turn % 4 == 2 && chance(50))
             make_odd(z, state);
         try_good(z, state, z->length, BUILT);
         for (int i = 0; i < 3; i++) {
-            make_fitting(z, state, &from, &told);
+            make_fitting(z, state, &from, some_kind(z, state), &told);
             try_around(z, state, &told, BUILT);
             uint64_t result = try_step(z, state, z->length, &told, ample_room(z), BUILT);
             if (result % 256 == 0 && chance(40))
@@ -1729,6 +1838,59 @@ static void run_built(const sizes *z, unsigned long turns)
     free(told.bytes);
     forget_history(&from);
     free(state);
+}
+
+/* ---- a share for each kind --------------------------------------------------------------------------- */
+
+/*
+ * Steps of one kind until so many are done, each from another state; a step that is done is tried with a buffer
+ * that is just long enough and with shorter ones too, and now and then with damage.
+ */
+static void run_kind(const sizes *z, const history *from, uint64_t group, uint64_t kind, unsigned long wanted)
+{
+    uint8_t *state = memory(z->length);
+    letter told = {0};
+    unsigned long done = 0;
+    for (unsigned long tries = 0; done < wanted && tries < 20 * wanted; tries++) {
+        build_state_for(z, state, from, group, kind);
+        try_good(z, state, z->length, BUILT);
+        make_fitting(z, state, from, kind, &told);
+        uint64_t result = try_step(z, state, z->length, &told, ample_room(z), BUILT);
+        done += result % 256 == 0;
+        if (result % 256 == 0 && chance(25))
+            try_rooms(z, state, &told, (size_t)(result / 256), BUILT);
+        if (chance(25))
+            try_damage(z, state, &told);
+        show_progress();
+    }
+    free(told.bytes);
+    free(state);
+}
+
+/* Kinds 5 and 6 are never taken; 3, 18 and 19 come from another group. */
+static void run_share(const sizes *z, unsigned long wanted)
+{
+    for (unsigned i = 0; i < KIND_COUNT; i++) {
+        history from;
+        uint64_t group = below(z->s), kind = kinds[i];
+        if (kind == 5 || kind == 6 || (z->s == 1 && (kind == 3 || kind == 18 || kind == 19)))
+            continue;
+        make_history(z, &from, group);
+        run_kind(z, &from, group, kind, wanted);
+        forget_history(&from);
+    }
+}
+
+/* In each shape, and more where a step costs less. */
+static void run_shares(void)
+{
+    static const uint64_t shapes[][2] = {{3, 1}, {3, 2}, {5, 3}, {7, 1}, {7, 8}},
+                          capacities[] = {4096, 256, 17, 16};
+    for (unsigned shape = 0; shape < sizeof shapes / sizeof *shapes; shape++)
+        for (unsigned i = 0; i < sizeof capacities / sizeof *capacities; i++) {
+            sizes z = sizes_of(shapes[shape][0], shapes[shape][1], capacities[i]);
+            run_share(&z, (capacities[i] == 4096 ? 24 : 60) * steps_wanted / 100000 + 1);
+        }
 }
 
 /* ---- messages longer than any table ------------------------------------------------------------------ */
@@ -1790,10 +1952,51 @@ static void show_statuses(void)
         printf("%-14s%14lu%11lu%13lu%11lu%11lu\n", row_name((unsigned)kinds[i], name, sizeof name),
                reached.placed[1][0][kinds[i]], reached.placed[1][1][kinds[i]], reached.placed[2][0][kinds[i]],
                reached.placed[2][1][kinds[i]], reached.placed[3][1][kinds[i]]);
-    printf("done, by status after: 1: %lu, 2: %lu, 3: %lu; by capacity: to 64: %lu, to 255: %lu, to 4,095: %lu, "
-           "4,096: %lu\n",
-           reached.entered[1], reached.entered[2], reached.entered[3], reached.capacities[0],
-           reached.capacities[1], reached.capacities[2], reached.capacities[3]);
+    printf("done, by status after: 1: %lu, 2: %lu, 3: %lu\n", reached.entered[1], reached.entered[2],
+           reached.entered[3]);
+}
+
+static void show_spans(const char *name)
+{
+    static const char *const spans[SPANS] = {"C = 16", "17", "18 to 255", "256", "4,096"};
+    printf("\n%-22s", name);
+    for (unsigned span = 0; span < SPANS; span++)
+        printf("%19s", spans[span]);
+    printf("\n");
+}
+
+static void show_capacities(void)
+{
+    char name[32];
+    show_spans("done + refused (2-9)");
+    for (unsigned i = 0; i < KIND_COUNT; i++) {
+        printf("%-22s", row_name((unsigned)kinds[i], name, sizeof name));
+        for (unsigned span = 0; span < SPANS; span++)
+            printf("%9lu +%8lu", reached.spans[kinds[i]][span][0], reached.spans[kinds[i]][span][1]);
+        printf("\n");
+    }
+}
+
+/* Of the kinds that a site takes, the one with the fewest done steps at a capacity. */
+static unsigned long least_done(unsigned span)
+{
+    unsigned long least = ULONG_MAX;
+    for (unsigned i = 0; i < KIND_COUNT; i++)
+        if (kinds[i] != 5 && kinds[i] != 6 && reached.spans[kinds[i]][span][0] < least)
+            least = reached.spans[kinds[i]][span][0];
+    return least;
+}
+
+static void show_full_tables(void)
+{
+    static const char *const names[TABLES] = {"log", "early", "late", "notes", "draft", "a vote", "a reply"};
+    show_spans("full + one place left");
+    for (unsigned i = 0; i < TABLES; i++) {
+        printf("%-22s", names[i]);
+        for (unsigned span = 0; span < SPANS; span++)
+            printf("%9lu +%8lu", reached.full[i][span][0], reached.full[i][span][1]);
+        printf("\n");
+    }
 }
 
 static void show_table(void)
@@ -1803,6 +2006,8 @@ static void show_table(void)
     for (unsigned i = 0; i < KIND_COUNT; i++)
         show_counts(row_name((unsigned)kinds[i], name, sizeof name), reached.steps[kinds[i]]);
     show_counts("no kind", reached.steps[KINDS]);
+    show_capacities();
+    show_full_tables();
     show_head("steps from");
     for (int from = 0; from < ORIGINS; from++)
         show_counts(origin_names[from], reached.origins[from]);
@@ -1821,8 +2026,8 @@ static void show_table(void)
            reached.starts[1], reached.digests, reached.exact);
     for (unsigned i = 0; i < KIND_COUNT; i++)
         if (reached.lost_goodness[kinds[i]] != 0)
-            printf("kind %u done from an odd good state, and the next state is not good: %lu\n", (unsigned)kinds[i],
-                   reached.lost_goodness[kinds[i]]);
+            printf("kind %u done from an odd good state, and the next state is not good: %lu\n",
+                   (unsigned)kinds[i], reached.lost_goodness[kinds[i]]);
 }
 
 /* Small capacities mostly: there tables are full soon. */
@@ -1857,17 +2062,32 @@ static void run_largest(void)
     run_built(&largest_shape, 2);
 }
 
+/* ---- the command line -------------------------------------------------------------------------------- */
+
+static uint64_t number(const char *name, const char *text)
+{
+    char *end = NULL;
+    unsigned long long value = text == NULL ? 0 : strtoull(text, &end, 10);
+    if (text == NULL || *text < '0' || *text > '9' || *end != 0) {
+        fprintf(stderr, "compare: %s takes a number behind it; ./jallumere compare --help lists the options\n",
+                name);
+        exit(2);
+    }
+    return value;
+}
+
 int main(int count, char **words)
 {
-    unsigned long steps = 100000;
     seed = 1;
     for (int i = 1; i < count; i += 2) {
-        if (i + 1 < count && strcmp(words[i], "--steps") == 0)
-            steps = strtoul(words[i + 1], NULL, 10);
-        else if (i + 1 < count && strcmp(words[i], "--seed") == 0)
-            seed = strtoull(words[i + 1], NULL, 10);
+        const char *next = i + 1 < count ? words[i + 1] : NULL;
+        if (strcmp(words[i], "--steps") == 0)
+            steps_wanted = number(words[i], next);
+        else if (strcmp(words[i], "--seed") == 0)
+            seed = number(words[i], next);
         else {
-            fprintf(stderr, "usage: compare [--steps N] [--seed N]\n");
+            fprintf(stderr, "compare: unknown option '%s'; ./jallumere compare --help lists the options\n",
+                    words[i]);
             return 2;
         }
     }
@@ -1875,9 +2095,14 @@ int main(int count, char **words)
     make_areas();
     spare_state = memory(state_most);
     run_largest();
-    while (reached.total < steps)
+    run_shares();
+    while (reached.total < steps_wanted) {
         run_some();
+        show_progress();
+    }
     show_table();
-    printf("%lu steps, seed %llu, no difference\n", reached.total, (unsigned long long)seed);
+    printf("done steps of each kind: at least %lu at C = 16, %lu at 17, %lu at 256, %lu at 4,096\n", least_done(0),
+           least_done(1), least_done(3), least_done(4));
+    printf("%lu steps, seed %llu, no difference; %.0f s\n", reached.total, (unsigned long long)seed, seconds());
     return 0;
 }

@@ -19,14 +19,6 @@ enum { SHOWN_ENTRIES = 20, SHOWN_REASONS = 12, SHAPES_MOST = 64 };
 
 static bool show_all;
 
-static const char help[] =
-    "inspect STATE [--sites N --groups S --capacity C] [--all]\n"
-    "\n"
-    "Prints a state's bytes as a report; STATE is a file, or - for the standard input. Without the three sizes "
-    "all\n"
-    "shapes are tried whose state has this length. --all shows every entry of long tables.\n"
-    "Exit status: 0 the state is good, 1 it is not, 2 bad usage, no such file or no such shape.\n";
-
 static void stop(const char *format, ...)
 {
     va_list words;
@@ -339,64 +331,79 @@ static size_t find_note(const layout *at, const uint8_t *state, uint64_t transac
     return 0;
 }
 
-static void check_notes(const layout *at, const uint8_t *state, bool leads)
+/* One note: its transaction, its groups' marks and timestamps, and that there is one at all. */
+static void check_note(const layout *at, const uint8_t *state, size_t place, uint64_t number)
 {
-    uint64_t count = count_within(at, state, at->notes), early = count_within(at, state, at->early);
+    uint64_t transaction = transaction_at(state + place);
+    bool heard = false;
+    if ((transaction & 0xffffffff) == 0 || transaction >> 32 == 65535)
+        reason(place, "every field in range: note %" PRIu64 " names transaction %" PRIu64 ".%" PRIu64, number,
+               transaction >> 32, transaction & 0xffffffff);
+    for (uint64_t group = 0; group < at->s; group++) {
+        size_t marked = place + 6 + MARKED_LENGTH * group;
+        uint64_t timestamp = load(state + marked + 1, 8);
+        check_marked(state, marked, "a note's group", group);
+        heard |= state[marked] == 1;
+        if (state[marked] == 1 && (timestamp == 0 || timestamp > GREATEST_TIMESTAMP))
+            reason(marked + 1,
+                   "every field in range: note %" PRIu64 " has timestamp %" PRIu64 " of group %" PRIu64, number,
+                   timestamp, group);
+    }
+    if (!heard)
+        reason(place, "a used note has at least one group heard: note %" PRIu64 " has none", number);
+}
+
+static void check_notes(const layout *at, const uint8_t *state)
+{
+    uint64_t count = count_within(at, state, at->notes);
     known *list = room_for((size_t)count);
     check_counts(at, state, at->notes, at->note, "notes");
     for (uint64_t i = 0; i < count; i++) {
         size_t place = at->notes + 4 + at->note * i;
-        bool heard = false;
         known one = {transaction_at(state + place), place, "notes", i + 1};
         list[i] = one;
-        if ((one.transaction & 0xffffffff) == 0 || one.transaction >> 32 == 65535)
-            reason(place, "every field in range: note %" PRIu64 " names transaction %" PRIu64 ".%" PRIu64, i + 1,
-                   one.transaction >> 32, one.transaction & 0xffffffff);
-        for (uint64_t group = 0; group < at->s; group++) {
-            size_t marked = place + 6 + MARKED_LENGTH * group;
-            uint64_t timestamp = load(state + marked + 1, 8);
-            check_marked(state, marked, "a note's group", group);
-            heard |= state[marked] == 1;
-            if (state[marked] == 1 && (timestamp == 0 || timestamp > GREATEST_TIMESTAMP))
-                reason(marked + 1,
-                       "every field in range: note %" PRIu64 " has timestamp %" PRIu64 " of group %" PRIu64, i + 1,
-                       timestamp, group);
-        }
-        if (!heard)
-            reason(place, "a used note has at least one group heard: note %" PRIu64 " has none", i + 1);
+        check_note(at, state, place, i + 1);
     }
     check_twice(list, (size_t)count, "no transaction has two notes");
     free(list);
+}
+
+/* An early entry of a leader in status 1 against its note. */
+static void check_early_note(const layout *at, const uint8_t *state, size_t place, uint64_t number)
+{
+    entry read = entry_at(state + place);
+    size_t note = find_note(at, state, transaction_at(state + place + 16));
+    uint64_t greatest = 0;
+    bool all = true;
+    if (note == 0 || state[note + 6 + MARKED_LENGTH * state[0]] != 1) {
+        reason(place,
+               "a leader's early entry in status 1 has its own group's note: early entry %" PRIu64 " has none",
+               number);
+        return;
+    }
+    for (uint64_t group = 0; group < at->s; group++) {
+        const uint8_t *marked = state + note + 6 + MARKED_LENGTH * group;
+        if ((read.mask >> group & 1) == 0)
+            continue;
+        all &= marked[0] == 1;
+        if (marked[0] == 1 && load(marked + 1, 8) > greatest)
+            greatest = load(marked + 1, 8);
+    }
+    uint64_t expected = all ? greatest : load(state + note + 7 + MARKED_LENGTH * state[0], 8);
+    if (read.timestamp != expected)
+        reason(place,
+               "a leader's early timestamp is its %s: early entry %" PRIu64 " has %" PRIu64
+               ", the notes say %" PRIu64,
+               all ? "mask's greatest note, once agreed" : "own group's note", number, read.timestamp, expected);
+}
+
+static void check_early_notes(const layout *at, const uint8_t *state, bool leads)
+{
+    uint64_t early = count_within(at, state, at->early);
     if (!leads || state[AT_STATUS] != NORMAL || state[0] >= at->s)
         return;
-    for (uint64_t i = 0; i < early; i++) {
-        size_t place = at->early + 4 + ENTRY_LENGTH * i;
-        entry read = entry_at(state + place);
-        size_t note = find_note(at, state, transaction_at(state + place + 16));
-        uint64_t greatest = 0, expected;
-        bool all = true;
-        if (note == 0 || state[note + 6 + MARKED_LENGTH * state[0]] != 1) {
-            reason(place,
-                   "a leader's early entry in status 1 has its own group's note: early entry %" PRIu64 " has none",
-                   i + 1);
-            continue;
-        }
-        for (uint64_t group = 0; group < at->s; group++) {
-            const uint8_t *marked = state + note + 6 + MARKED_LENGTH * group;
-            if ((read.mask >> group & 1) == 0)
-                continue;
-            all &= marked[0] == 1;
-            if (marked[0] == 1 && load(marked + 1, 8) > greatest)
-                greatest = load(marked + 1, 8);
-        }
-        expected = all ? greatest : load(state + note + 7 + MARKED_LENGTH * state[0], 8);
-        if (read.timestamp != expected)
-            reason(place,
-                   "a leader's early timestamp is its %s: early entry %" PRIu64 " has %" PRIu64
-                   ", the notes say %" PRIu64,
-                   all ? "mask's greatest note, once agreed" : "own group's note", i + 1, read.timestamp,
-                   expected);
-    }
+    for (uint64_t i = 0; i < early; i++)
+        check_early_note(at, state, at->early + 4 + ENTRY_LENGTH * i, i + 1);
 }
 
 /* In the order of the rules' "A good state". */
@@ -412,22 +419,25 @@ static void check_all(const layout *at, const uint8_t *state)
     check_votes(at, state, own);
     check_replies(at, state, own);
     check_buffers(at, state, own);
-    check_notes(at, state, leads);
+    check_notes(at, state);
+    check_early_notes(at, state, leads);
 }
 
 /* ---- the report -------------------------------------------------------------------------------------- */
 
-static void print_groups(uint64_t mask)
+/* The groups of a mask, in a column as wide as all that there are. */
+static void print_groups(uint64_t mask, uint64_t groups)
 {
     const char *between = "";
-    printf("groups ");
+    uint64_t width = mask == 0 ? 4 : 0;
+    printf("groups %s", mask == 0 ? "none" : "");
     for (unsigned group = 0; group < 16; group++)
         if ((mask >> group & 1) == 1) {
-            printf("%s%u", between, group);
+            width += (uint64_t)printf("%s%u", between, group);
             between = ",";
         }
-    if (mask == 0)
-        printf("none");
+    for (; width < 2 * groups; width++)
+        printf(" ");
 }
 
 static void print_entries(const layout *at, const uint8_t *state, size_t table, uint64_t sync, uint64_t commit,
@@ -443,9 +453,12 @@ static void print_entries(const layout *at, const uint8_t *state, size_t table, 
         }
         printf("%s%4" PRIu64 "  at %-12" PRIu64 " transaction %" PRIu64 ".%-6" PRIu64 " ", indent, i + 1,
                read.timestamp, read.coordinator, read.request);
-        print_groups(read.mask);
-        printf("  command %#" PRIx64 "%s%s\n", read.command, i < sync ? "  synced" : "",
-               i < commit ? ", committed" : "");
+        print_groups(read.mask, at->s);
+        printf("  command %#018" PRIx64 "%s%s%s\n", read.command, i < sync || i < commit ? "  " : "",
+               i < sync ? "synced" : "",
+               i >= commit ? ""
+               : i < sync  ? ", committed"
+                           : "committed");
     }
 }
 
@@ -491,14 +504,13 @@ static void print_notes(const layout *at, const uint8_t *state)
     }
 }
 
-static void print_report(const layout *at, const uint8_t *state)
+static void print_head(const layout *at, const uint8_t *state)
 {
-    uint64_t sync = load(state + AT_SYNC, 8), commit = load(state + AT_COMMIT, 8);
-    bool known_group = state[0] < at->s;
+    bool known_group = state[0] < at->s, leads = known_group && leader_of(at, state, state[0]) == state[1];
     printf("%-14s group %u, replica %u%s\n", "site", state[0], state[1],
-           !known_group                                 ? ""
-           : leader_of(at, state, state[0]) == state[1] ? ", leader of its group"
-                                                        : ", follower");
+           leads         ? ", leader of its group"
+           : known_group ? ", follower"
+                         : "");
     printf("%-14s %u, %s\n", "status", state[AT_STATUS], status_name(state[AT_STATUS]));
     printf("%-14s %" PRIu64 ", last normal in %" PRIu64 "\n", "gView", load(state + AT_VIEW, 4),
            load(state + AT_LAST_NORMAL, 4));
@@ -506,17 +518,16 @@ static void print_report(const layout *at, const uint8_t *state)
         printf("%-14s group %" PRIu64 ": view %" PRIu64 ", leader replica %" PRIu64 "\n", group == 0 ? "gVec" : "",
                group, load(state + at->views + 4 * group, 4), leader_of(at, state, group));
     printf("%-14s %" PRIu64 "\n%-14s %" PRIu64 "\n%-14s %" PRIu64 "\n", "clock", load(state + AT_CLOCK, 8),
-           "sync point", sync, "commit point", commit);
+           "sync point", load(state + AT_SYNC, 8), "commit point", load(state + AT_COMMIT, 8));
     for (uint64_t i = 0; i < at->n; i++) {
         printf("%-14s replica %" PRIu64 ": ", i == 0 ? "sync heard" : "", i);
         print_marked(state + at->heard + MARKED_LENGTH * i);
         printf("\n");
     }
-    printf("%-14s %" PRIu64 " of %" PRIu64 "\n", "log", load(state + at->log, 4), at->c);
-    print_entries(at, state, at->log, sync, commit, "  ");
-    print_table(at, state, at->early, "early");
-    print_table(at, state, at->late, "late");
-    print_notes(at, state);
+}
+
+static void print_votes(const layout *at, const uint8_t *state)
+{
     for (uint64_t i = 0; i < at->n; i++) {
         size_t place = at->votes + at->vote * i;
         printf("%-14s replica %" PRIu64 ": ", i == 0 ? "votes" : "", i);
@@ -528,20 +539,34 @@ static void print_report(const layout *at, const uint8_t *state)
                load(state + place + 1, 4), load(state + place + 5, 8), load(state + place + VOTE_HEAD_LENGTH, 4));
         print_entries(at, state, place + VOTE_HEAD_LENGTH, load(state + place + 5, 8), 0, "                 ");
     }
-    print_table(at, state, at->draft, "draft");
-    printf("%-14s %" PRIu64 "\n", "boundary", load(state + AT_BOUNDARY, 8));
+}
+
+static void print_replies(const layout *at, const uint8_t *state)
+{
     for (uint64_t i = 0; i < at->s; i++) {
         size_t place = at->replies + at->reply * i;
         printf("%-14s group %" PRIu64 ": ", i == 0 ? "replies" : "", i);
-        if (i == state[0] && state[place] == 0)
-            printf("own group\n");
-        else if (state[place] == 0)
-            printf("not heard\n");
-        else {
-            printf("%" PRIu64 " entries\n", load(state + place + 1, 4));
-            print_entries(at, state, place + 1, 0, 0, "                 ");
+        if (state[place] == 0) {
+            printf(i == state[0] ? "own group\n" : "not heard\n");
+            continue;
         }
+        printf("%" PRIu64 " entries\n", load(state + place + 1, 4));
+        print_entries(at, state, place + 1, 0, 0, "                 ");
     }
+}
+
+static void print_report(const layout *at, const uint8_t *state)
+{
+    print_head(at, state);
+    printf("%-14s %" PRIu64 " of %" PRIu64 "\n", "log", load(state + at->log, 4), at->c);
+    print_entries(at, state, at->log, load(state + AT_SYNC, 8), load(state + AT_COMMIT, 8), "  ");
+    print_table(at, state, at->early, "early");
+    print_table(at, state, at->late, "late");
+    print_notes(at, state);
+    print_votes(at, state);
+    print_table(at, state, at->draft, "draft");
+    printf("%-14s %" PRIu64 "\n", "boundary", load(state + AT_BOUNDARY, 8));
+    print_replies(at, state);
 }
 
 /* ---- the command line -------------------------------------------------------------------------------- */
@@ -626,51 +651,63 @@ static bool report(const layout *at, const uint8_t *state)
     return good;
 }
 
-int main(int count, char **words)
+/* What was asked for on the command line; sizes that were not given are 0. */
+static struct {
+    const char *path;
+    uint64_t n, s, c;
+} asked;
+
+static void read_words(int count, char **words)
 {
-    const char *path = NULL;
-    uint64_t n = 0, s = 0, c = 0;
-    static layout shapes[SHAPES_MOST];
-    size_t length, found;
     for (int i = 1; i < count; i++) {
         const char *next = i + 1 < count ? words[i + 1] : NULL;
-        if (strcmp(words[i], "--help") == 0) {
-            fputs(help, stdout);
-            return 0;
-        }
         if (strcmp(words[i], "--all") == 0)
             show_all = true;
         else if (strcmp(words[i], "--sites") == 0)
-            n = number(words[i++], next);
+            asked.n = number(words[i++], next);
         else if (strcmp(words[i], "--groups") == 0)
-            s = number(words[i++], next);
+            asked.s = number(words[i++], next);
         else if (strcmp(words[i], "--capacity") == 0)
-            c = number(words[i++], next);
+            asked.c = number(words[i++], next);
         else if (words[i][0] == '-' && words[i][1] != 0)
-            stop("unknown option '%s'; --help lists them", words[i]);
-        else if (path != NULL)
-            stop("one state at a time: '%s' and '%s' are two", path, words[i]);
+            stop("unknown option '%s'; ./jallumere inspect --help lists them", words[i]);
+        else if (asked.path != NULL)
+            stop("one state at a time: '%s' and '%s' are two", asked.path, words[i]);
         else
-            path = words[i];
+            asked.path = words[i];
     }
-    if (path == NULL)
-        stop("which state? inspect --help");
-    if ((n != 0 || s != 0 || c != 0) && (n == 0 || s == 0 || c == 0))
+    if (asked.path == NULL)
+        stop("which state? ./jallumere inspect --help");
+    bool any = asked.n != 0 || asked.s != 0 || asked.c != 0, all = asked.n != 0 && asked.s != 0 && asked.c != 0;
+    if (any && !all)
         stop("--sites, --groups and --capacity go together: give all three or none");
-    uint8_t *state = read_file(path, &length);
-    if (n != 0) {
-        if (jallumere_state_length(n, s, c) == 0)
+}
+
+/* The shapes that the state may have: the one that was given, or all that have its length. */
+static size_t shapes_of(const uint8_t *state, size_t length, layout *shapes)
+{
+    size_t found = 1;
+    if (asked.n != 0) {
+        uint64_t wanted = jallumere_state_length(asked.n, asked.s, asked.c);
+        if (wanted == 0)
             stop("no such shape: sites are 3, 5 or 7, groups 1 to 8, capacity 16 to 4096");
-        if (jallumere_state_length(n, s, c) != length)
-            stop("a state of this shape has %" PRIu64 " bytes, this file has %zu", jallumere_state_length(n, s, c),
-                 length);
-        shapes[0] = lay_out(n, s, c);
-        found = 1;
-    } else {
+        if (wanted != length)
+            stop("a state of this shape has %" PRIu64 " bytes, this file has %zu", wanted, length);
+        shapes[0] = lay_out(asked.n, asked.s, asked.c);
+    } else
         found = find_shapes(state, length, shapes);
-        if (found == 0)
-            stop("no shape has states of %zu bytes: this file is no state, or was cut", length);
-    }
+    if (found == 0)
+        stop("no shape has states of %zu bytes: this file is no state, or was cut", length);
+    return found;
+}
+
+int main(int count, char **words)
+{
+    static layout shapes[SHAPES_MOST];
+    size_t length;
+    read_words(count, words);
+    uint8_t *state = read_file(asked.path, &length);
+    size_t found = shapes_of(state, length, shapes);
     if (found > 1) {
         printf("%zu shapes have this length, and the state is good in none; the first is shown. The others:",
                found);

@@ -13,8 +13,11 @@
  *   - a rebuilt log begins with every entry committed in the view that it was rebuilt from; with one group, the
  *     log that a view starts with begins with every entry committed in any earlier view.
  *
- * simulate --help lists the options. 0 if every check held, 1 with a message if one did not, 2 for bad usage.
+ * ./jallumere simulate --help lists the options. 0 if every check held, 1 with a message if one did not, 2 for bad
+ * usage.
  */
+#define _POSIX_C_SOURCE 200809L
+
 #include "../../include/jallumere.h"
 #include "../common/layout.h"
 
@@ -23,6 +26,8 @@
 #include <stdio.h>
 #include <stdlib.h>
 #include <string.h>
+#include <time.h>
+#include <unistd.h>
 
 enum {
     SITES_MOST = REPLICAS_MOST * GROUPS_MOST,
@@ -49,25 +54,6 @@ enum {
 };
 
 #define DIGEST_START UINT64_C(0xcbf29ce484222325)
-
-static const char help[] =
-    "simulate [OPTIONS]\n"
-    "\n"
-    "Runs groups of sites over a network that loses, repeats and delays; a leader falls silent and new views\n"
-    "are started. Prints a timeline and the logs at the end. What the core promises is checked at every step.\n"
-    "\n"
-    "  --seed N       the run's chance (1)\n"
-    "  --sites N      sites in each group: 3, 5 or 7 (3)\n"
-    "  --groups N     groups, 1 to 8 (1)\n"
-    "  --capacity N   entries of a table, 16 to 4096 (64)\n"
-    "  --loss N       messages lost, in a hundred, 0 to 90 (5)\n"
-    "  --repeat N     messages repeated, in a hundred, 0 to 90 (5)\n"
-    "  --steps N      calls of the core's step (250 for each site)\n"
-    "  --page FILE    write the run as one HTML page\n"
-    "  --states DIR   write each site's last state to DIR/gN.rN.state\n"
-    "  --quiet        no timeline\n"
-    "\n"
-    "Exit status: 0 every check held, 1 one did not, 2 bad usage.\n";
 
 /* ---- options and chance ------------------------------------------------------------------------------ */
 
@@ -554,38 +540,34 @@ static void tell(int of, const message *told, const uint8_t *old, const uint8_t 
              reached_by(state[0], commit), sites_each);
 }
 
-static uint64_t take_step(int of, size_t which)
+/* What holds for every answer, and after a step that was done. */
+static void check_step(int of, const message *told, uint64_t refusal, uint64_t length)
 {
-    site *own = &sites[of];
-    uint8_t *state = own->state;
-    memcpy(before, state, at.length);
-    memcpy(outgoing, outgoing_before, outgoing_room);
-    uint64_t answer = jallumere_step(sites_each, groups, capacity, state, at.length, messages[which].bytes,
-                                     messages[which].length, outgoing, outgoing_room);
-    uint64_t refusal = answer % 256, length = answer / 256;
-    step_count++;
-    if (refusal >= REFUSALS || length > outgoing_room)
-        fails(of, "the step answers %" PRIu64, answer);
-    answers[refusal]++;
+    const uint8_t *state = sites[of].state;
     if (refusal == 1)
         fails(of, "refusal 1: its state is no longer good");
     if (refusal == 2)
-        fails(of, "refusal 2 for a kind %" PRIu64 " that was sent as well formed", messages[which].kind);
+        fails(of, "refusal 2 for a kind %" PRIu64 " that was sent as well formed", told->kind);
     if (refusal == 9)
         fails(of, "refusal 9, with %zu bytes of outgoing room", outgoing_room);
     if (refusal != 0 && (length != 0 || memcmp(before, state, at.length) != 0))
         fails(of, "a refusal changed its state");
     if (memcmp(outgoing + length, outgoing_before + length, outgoing_room - length) != 0)
         fails(of, "the step wrote past what it sends");
-    if (refusal == 0) {
-        if (jallumere_good(sites_each, groups, capacity, state, at.length) != 0)
-            fails(of, "its state is not good after a kind %" PRIu64, messages[which].kind);
-        check_log(of, state);
-        check_commit(of, state);
-        if (state[AT_STATUS] == CROSS_SHARD && before[AT_STATUS] != CROSS_SHARD)
-            check_draft(of, state);
-        tell(of, &messages[which], before, state);
-    }
+    if (refusal != 0)
+        return;
+    if (jallumere_good(sites_each, groups, capacity, state, at.length) != 0)
+        fails(of, "its state is not good after a kind %" PRIu64, told->kind);
+    check_log(of, state);
+    check_commit(of, state);
+    if (state[AT_STATUS] == CROSS_SHARD && before[AT_STATUS] != CROSS_SHARD)
+        check_draft(of, state);
+    tell(of, told, before, state);
+}
+
+static void keep_turn(int of, size_t which, uint64_t refusal, uint64_t length)
+{
+    const uint8_t *state = sites[of].state;
     turn made = {.at = now,
                  .site = of,
                  .message = which,
@@ -601,6 +583,22 @@ static uint64_t take_step(int of, size_t which)
                  .leads = leader_of(&at, state, state[0]) == state[1]};
     turns = grown(turns, turn_count, sizeof *turns);
     turns[turn_count++] = made;
+}
+
+static uint64_t take_step(int of, size_t which)
+{
+    uint8_t *state = sites[of].state;
+    memcpy(before, state, at.length);
+    memcpy(outgoing, outgoing_before, outgoing_room);
+    uint64_t answer = jallumere_step(sites_each, groups, capacity, state, at.length, messages[which].bytes,
+                                     messages[which].length, outgoing, outgoing_room);
+    uint64_t refusal = answer % 256, length = answer / 256;
+    step_count++;
+    if (refusal >= REFUSALS || length > outgoing_room)
+        fails(of, "the step answers %" PRIu64, answer);
+    answers[refusal]++;
+    check_step(of, &messages[which], refusal, length);
+    keep_turn(of, which, refusal, length);
     take_outgoing(of, length);
     return refusal;
 }
@@ -1003,10 +1001,6 @@ static void read_words(int count, char **words)
 {
     for (int i = 1; i < count; i++) {
         const char *word = words[i], *next = i + 1 < count ? words[i + 1] : NULL;
-        if (strcmp(word, "--help") == 0) {
-            fputs(help, stdout);
-            exit(0);
-        }
         if (strcmp(word, "--quiet") == 0) {
             quiet = true;
             continue;
@@ -1031,7 +1025,7 @@ static void read_words(int count, char **words)
         else if (strcmp(word, "--states") == 0)
             states_path = next;
         else
-            stop("unknown option '%s'; --help lists them", word);
+            stop("unknown option '%s'; ./jallumere simulate --help lists them", word);
         if (next == NULL)
             stop("%s takes a word behind it", word);
     }
@@ -1041,6 +1035,26 @@ static void read_words(int count, char **words)
         stop("'%s' cannot be written", page_path);
     if (steps_most == 0)
         steps_most = STEPS_EACH * sites_each * groups;
+}
+
+/* In a long run without a timeline to look at: on a terminal one line that changes, elsewhere a line now and then.
+ */
+static void show_progress(void)
+{
+    static struct timespec first, last;
+    struct timespec time;
+    bool terminal = isatty(2) == 1;
+    if (!quiet && isatty(1) == 1)
+        return;
+    clock_gettime(CLOCK_MONOTONIC, &time);
+    if (first.tv_sec == 0)
+        first = last = time;
+    if (time.tv_sec - last.tv_sec < (terminal ? 1 : 5) || time.tv_sec - first.tv_sec < 2)
+        return;
+    last = time;
+    fprintf(stderr, "%ssimulate: %" PRIu64 " of %" PRIu64 " steps, %ld s%s", terminal ? "\r" : "", step_count,
+            steps_most, (long)(time.tv_sec - first.tv_sec), terminal ? " " : "\n");
+    fflush(stderr);
 }
 
 static void start_sites(void)
@@ -1088,6 +1102,7 @@ int main(int count, char **words)
         now = first.at;
         handle(&first);
         follow_plot();
+        show_progress();
     }
     print_logs();
     print_summary();
