@@ -10,6 +10,7 @@ use lib.ListN.{length, take, drop, getD, set, length-set, length-append}
 use lib.Seq.{take-suc, take-suc-set, take-all, drop-drop, getD-drop}
 use Rattle.rules.specs.Choice.{pick, keep}
 use Rattle.rules.proofs.Tests.{pick-true, pick-false}
+use Rattle.entries.proofs.Sifting.{keep-last}
 use Rattle.leaving.specs.Moved.{moved, movedTo}
 
 module _ {A : Type 0} where
@@ -18,16 +19,6 @@ module _ {A : Type 0} where
   unfolding keep
   keep-like p q h [] = refl
   keep-like p q h (x ∷ xs) = rw (h x, keep-like p q h xs)
-
-  keep-last : (p : A → Bool) (xs : List A) (x : A) → keep p (xs ++ (x ∷ [])) ≡ keep p xs ++ pick (p x) (x ∷ []) []
-  unfolding keep pick
-  keep-last p [] x = refl
-  keep-last p (y ∷ xs) x = go (p y) (keep-last p xs x)
-    where
-      go : (b : Bool) → keep p (xs ++ (x ∷ [])) ≡ keep p xs ++ pick (p x) (x ∷ []) []
-          → pick b (y ∷ keep p (xs ++ (x ∷ []))) (keep p (xs ++ (x ∷ []))) ≡ pick b (y ∷ keep p xs) (keep p xs) ++ pick (p x) (x ∷ []) []
-      go true h = ap (λ (r : List A). y ∷ r) h
-      go false h = h
 
   drop-set : (xs : List A) (j i : ℕ) (x : A) → j < i → drop i (set xs j x) ≡ drop i xs
   drop-set [] j i x h = refl
