@@ -1,7 +1,7 @@
 -- One entry of those due after the other, and all of them out of early and the notes. Assumes nothing.
 use Prim.Native.Nat.{ℕ, _+_, _-_, _*_, _≤_, _<_}
 use mathlib.Core.Path.{_≡_, sym, ap, subst, _∙_}
-use mathlib.Core.Bool.{Bool, true, false}
+use mathlib.Core.Bool.{Bool, true, false, true≢false}
 use mathlib.Core.List.{List, [], _∷_, _++_}
 use native.Mathlib.Omega.{arith}
 use lib.ListN.{length, take, drop}
@@ -22,7 +22,7 @@ use Rattle.leaving.specs.Listed.{spotsOf, listedIn, Lookup}
 use Rattle.places.specs.Layout.{Marks}
 use Rattle.places.specs.declared.Places.{Places}
 use Rattle.places.specs.With.{withLog, withEarly, withNotes}
-use Rattle.releases.specs.Midway.{Midway, Reaches, Cleared}
+use Rattle.releases.specs.Midway.{Midway, Reaches, firstOf, Cleared}
 use Rattle.releases.proofs.Way.{early-read}
 
 -- ---- entry i of those due
@@ -55,19 +55,21 @@ went {sh} b {b′} e x d h g r = subst (λ (y : Entry). Reaches sh (withLog (sta
 
 -- ---- all of them leave
 
--- the look into the copy, once its table was filled
-pub released-listed : {sh : Shape} {b : List ℕ} (m : Midway sh b) (n k : ℕ) (u t : List ℕ) (f : Bool) (sp : Spots) → n + k ≡ length (stateOf sh b .log) → 24 * k ≤ length u
-    → sp ≡ spotsOf (record { at = 0; count = k; filled = false }) → (f ≡ true → Filled (keyOf u sp) (countOf sp) t) → Lookup u (record { at = 0; count = k; filled = f }) t
-released-listed m n k u t f sp h l e g =
-    record { inside = omega arith; few = omega (arith, m .state .log .room, m .fits .small); found = subst (λ (x : Spots). f ≡ true → Filled (keyOf u x) (countOf x) t) e g }
+-- the look into the copy, whether or not its table was filled
+module _ (k : ℕ) (u : List ℕ) (l : 24 * k ≤ length u) (h : k ≤ 4096) where
+  pub fill-asked : (sp : Spots) → sp ≡ spotsOf (firstOf k false) → Inside u sp
+  fill-asked sp e = rw e (record { one = omega arith; two = omega arith; three = omega arith; few = omega arith })
 
-pub fill-asked : (k : ℕ) (u : List ℕ) (sp : Spots) → 24 * k ≤ length u → k ≤ 4096 → sp ≡ spotsOf (record { at = 0; count = k; filled = false }) → Inside u sp
-fill-asked k u sp l h e = rw e (record { one = omega arith; two = omega arith; three = omega arith; few = omega arith })
+  pub listed-plain : (t : List ℕ) → Lookup u (firstOf k false) t
+  listed-plain t = record { inside = omega arith; few = h; found = λ f. absurd (true≢false (sym f)) }
+
+  pub listed-filled : (t : List ℕ) (f : Bool) (sp : Spots) → sp ≡ spotsOf (firstOf k false) → (f ≡ true → Filled (keyOf u sp) (countOf sp) t) → Lookup u (firstOf k f) t
+  listed-filled t f sp e g = record { inside = omega arith; few = h; found = subst (λ (x : Spots). f ≡ true → Filled (keyOf u x) (countOf x) t) e g }
 
 -- early is left, then the notes
 pub all-left : {sh : Shape} (b : List ℕ) {b₁ b₂ : List ℕ} (n k : ℕ) (u : List ℕ) (f : Bool) → items (entryAt u) 24 0 k ≡ drop n (stateOf sh b .log)
-    → Reaches sh (withEarly (stateOf sh b) (without (listedIn u (record { at = 0; count = k; filled = f })) (stateOf sh b .early))) b₁
-    → Reaches sh (withNotes (stateOf sh b₁) (notesWithout (listedIn u (record { at = 0; count = k; filled = f })) (stateOf sh b₁ .notes))) b₂ → Cleared sh b n b₂
+    → Reaches sh (withEarly (stateOf sh b) (without (listedIn u (firstOf k f)) (stateOf sh b .early))) b₁
+    → Reaches sh (withNotes (stateOf sh b₁) (notesWithout (listedIn u (firstOf k f)) (stateOf sh b₁ .notes))) b₂ → Cleared sh b n b₂
 all-left {sh} b n k u f e r s =
     record {
       is = s .is ∙ ap (λ (x : State). withNotes x (notesWithout (items (entryAt u) 24 0 k) (x .notes))) (r .is)

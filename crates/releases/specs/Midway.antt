@@ -1,7 +1,7 @@
 -- A state on the way from one good state to the next, as its bytes hold it.
 use Prim.Native.Nat.{ℕ, _<_}
 use mathlib.Core.Path.{_≡_}
-use mathlib.Core.Bool.{true}
+use mathlib.Core.Bool.{Bool, true}
 use mathlib.Core.List.{List}
 use lib.ListN.{length, drop}
 use Rattle.rules.specs.Entry.{without}
@@ -11,6 +11,7 @@ use Rattle.rules.specs.Image.{stateLength, stateOf}
 use Rattle.rules.specs.Step.{notesWithout}
 use Rattle.rules.specs.declared.Shape.{Shape}
 use Rattle.rules.proofs.Image.{StateFits}
+use Rattle.leaving.specs.declared.Listed.{Listed}
 use Rattle.places.specs.Layout.{Fits, Laid}
 use Rattle.places.specs.With.{withEarly, withNotes}
 
@@ -28,6 +29,10 @@ pub record Midway (sh : Shape) (b : List ℕ) : Type 0 where
 pub record Reaches (sh : Shape) (st : State) (b : List ℕ) : Type 0 where
   pub is : stateOf sh b ≡ st
   pub midway : Midway sh b
+
+-- k entries at the start of bytes, listed
+abbrev pub firstOf : ℕ → Bool → Listed
+firstOf k filled = record { at = 0; count = k; filled = filled }
 
 -- from the state in b, once the entries of its log from place n on left early, and their notes went
 abbrev pub Cleared : Shape → List ℕ → ℕ → List ℕ → Type 0

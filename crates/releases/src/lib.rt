@@ -21,7 +21,7 @@ ghost use Rattle.leaving.specs.Listed.{listedIn, Lookup};
 ghost use Rattle.places.specs.Layout.{startOf, Fits};
 ghost use Rattle.places.specs.With.{withLog, withEarly, withNotes};
 ghost use Rattle.releases.specs.Waiting.{Waiting, runIn};
-ghost use Rattle.releases.specs.Midway.{Midway, Reaches, Cleared};
+ghost use Rattle.releases.specs.Midway.{Midway, Reaches, firstOf, Cleared};
 
 // ---- the run of a leader
 
@@ -290,18 +290,29 @@ fn copy_released(shape: Shape, state: &[u8], n: usize, k: usize, gone: &mut [u8]
     octets::copy_in(gone, 0, &state[start..end]);
 }
 
+// Puts the rows of the k entries at the start of `gone` into the table, unless they are few: then a search costs less.
+fn fill_released(gone: &[u8], k: usize, table: &mut [u16]) -> bool
+    requires { ⌜ (24 * k ≤ length (now gone)) × (k ≤ 4096) ⌝ }
+    ensures { λ r. ⌜ Lookup (now (gone .entry)) (firstOf k r) (now (table .exit)) ⌝ }
+{
+    if k <= 4 {
+        return false;
+    }
+    let bare = Listed {
+        at: 0,
+        count: k,
+        filled: false,
+    };
+    repeats::fill(gone, leaving::spots_of(bare), table)
+}
+
 // The last k entries of the log leave early, and their notes go. They are copied first: the log and the tables that change are parts of one slice.
 fn leave_by(shape: Shape, state: &mut [u8], n: usize, k: usize, gone: &mut [u8], table: &mut [u16])
     requires { ⌜ Midway shape (now state) × (n + k ≡ length (stateOf shape (now state) .log)) × (24 * k ≤ length (now gone)) ⌝ }
     ensures { λ _. ⌜ Cleared shape (now (state .entry)) n (now (state .exit)) ⌝ }
 {
     copy_released(shape, state, n, k, gone);
-    let bare = Listed {
-        at: 0,
-        count: k,
-        filled: false,
-    };
-    let filled = repeats::fill(gone, leaving::spots_of(bare), table);
+    let filled = fill_released(gone, k, table);
     let listed = Listed {
         at: 0,
         count: k,

@@ -2,34 +2,23 @@
 use borrow.Author.Needs.{needs}
 use Rattle.releases.proofs.leave_by.Statement.{statement}
 use Rattle.releases.proofs.leave_by.Tie as tie
-use Prim.Native.Nat.{_≤_}
 use mathlib.Core.Path.{sym, _∙_}
-use native.Mathlib.Omega.{arith}
-use Rattle.releases.proofs.Next.{released-listed, fill-asked, all-left}
+use Rattle.releases.proofs.Next.{all-left}
 
 copy-released-requires : tie.Need-copy-released-requires
 copy-released-requires c κs = search needs
 
-spots-of-requires : tie.Need-spots-of-requires
-spots-of-requires c κs = search needs
-
-fill-requires : tie.Need-fill-requires
-fill-requires c κs =
-    let k : (c .before .before .before .before .before .before .before .before .before .before .before .args .k) ≤ 4096 = omega (arith, (c .before .before .before .before .before .before .before .before .before .before .before .pre .1), (c .before .before .before .before .before .before .before .before .before .before .before .pre .0 .state .log .room), (c .before .before .before .before .before .before .before .before .before .before .before .pre .0 .fits .small)) in
-    fill-asked _ _ _ (omega (arith, (c .before .before .before .before .before .before .before .before .before .before .before .pre .2), (c .before .before .before .before .gone .given))) k (c .before .spots-of .ensures)
+fill-released-requires : tie.Need-fill-released-requires
+fill-released-requires c κs = search needs
 
 early-leaves-requires : tie.Need-early-leaves-requires
-early-leaves-requires c κs =
-    let a = (c .before .before .before .before .before .before .before .before .before .before .before .before .before .before .before .before .before .args) in
-    ((c .before .before .before .before .before .before .before .before .before .before .before .before .before .before .before .before .before .pre .0), released-listed (c .before .before .before .before .before .before .before .before .before .before .before .before .before .before .before .before .before .pre .0) (a .n) (a .k) _ _ _ _ (c .before .before .before .before .before .before .before .before .before .before .before .before .before .before .before .before .before .pre .1) (omega (arith, (c .before .before .before .before .before .before .before .before .before .before .before .before .before .before .before .before .before .pre .2), (c .before .before .before .before .before .before .before .before .before .before .gone .given))) (c .before .before .before .before .before .before .before .spots-of .ensures) (c .before .before .before .before .before .fill .ensures))
+early-leaves-requires c κs = search needs
 
 notes-leave-requires : tie.Need-notes-leave-requires
-notes-leave-requires c κs =
-    let a = (c .before .before .before .before .before .before .before .before .before .before .before .before .before .before .before .before .before .before .before .before .before .before .before .args) in
-    ((c .before .before .before .before .before .early-leaves .ensures .midway), released-listed (c .before .before .before .before .before .before .before .before .before .before .before .before .before .before .before .before .before .before .before .before .before .before .before .pre .0) (a .n) (a .k) _ _ _ _ (c .before .before .before .before .before .before .before .before .before .before .before .before .before .before .before .before .before .before .before .before .before .before .before .pre .1) (omega (arith, (c .before .before .before .before .before .before .before .before .before .before .before .before .before .before .before .before .before .before .before .before .before .before .before .pre .2), (c .before .before .before .before .before .before .before .before .before .before .before .before .before .before .before .before .gone .given))) (c .before .before .before .before .before .before .before .before .before .before .before .before .before .spots-of .ensures) (c .before .before .before .before .before .before .before .before .before .before .before .fill .ensures))
+notes-leave-requires c κs = search needs
 
 same-length : tie.Need-same-length
-same-length c = (c .before .before .notes-leave .ensures .midway .size) ∙ sym (c .before .before .before .before .before .before .before .before .before .before .before .before .before .before .before .before .before .before .before .before .before .before .before .before .before .before .pre .0 .size)
+same-length c = (c .before .before .notes-leave .ensures .midway .size) ∙ sym (c .before .before .before .before .before .before .before .before .before .before .before .before .before .before .before .before .before .before .before .before .before .before .before .before .before .pre .0 .size)
 
 same-length-2 : tie.Need-same-length-2
 same-length-2 c = search needs
@@ -39,16 +28,15 @@ same-length-3 c = search needs
 
 returns : tie.Need-returns
 returns c =
-    let a = (c .before .before .before .before .before .before .before .before .before .before .before .before .before .before .before .before .before .before .before .before .before .before .before .before .before .before .args) in
-    all-left (a .state .now) (a .n) (a .k) (c .before .before .before .before .before .before .before .before .before .before .before .before .before .before .before .before .before .before .before .before .copy-released .last .1 .1 .1 .1 .0) (c .before .before .before .before .before .before .before .before .before .before .before .before .before .before .fill .result) (c .before .before .before .before .before .before .before .before .before .before .before .before .before .before .before .before .before .before .before .before .copy-released .ensures) (c .before .before .before .before .before .before .before .before .early-leaves .ensures) (c .before .before .notes-leave .ensures)
+    let a = (c .before .before .before .before .before .before .before .before .before .before .before .before .before .before .before .before .before .before .before .before .before .before .before .before .before .args) in
+    all-left (a .state .now) (a .n) (a .k) (c .before .before .before .before .before .before .before .before .before .before .before .before .before .before .before .before .before .before .before .copy-released .last .1 .1 .1 .1 .0) (c .before .before .before .before .before .before .before .before .before .before .before .before .before .before .fill-released .result) (c .before .before .before .before .before .before .before .before .before .before .before .before .before .before .before .before .before .before .before .copy-released .ensures) (c .before .before .before .before .before .before .before .before .early-leaves .ensures) (c .before .before .notes-leave .ensures)
 
 pub leave-by-spec : {M : Type 1} → statement M
 leave-by-spec =
     tie.close
     (tie.spec
     copy-released-requires
-    spots-of-requires
-    fill-requires
+    fill-released-requires
     early-leaves-requires
     notes-leave-requires
     same-length
