@@ -1,4 +1,4 @@
--- The laws that callers cite: what leaves and what stays, the search for what is due, leading runs.
+-- The laws that callers cite: what stays, the search for what is due, leading runs.
 pub mod Kept
 pub mod Search
 pub mod Leading

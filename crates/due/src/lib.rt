@@ -1,15 +1,14 @@
-// The early entries that are due by a time: how many there are, each by its place, and how they leave.
+// The early entries that are due by a time: how many there are, and each by its place.
 use rules::Entry;
 ghost use mathlib.Core.Path.{_≡_};
 ghost use mathlib.Core.Bool.{true};
-ghost use mathlib.Core.List.{[], _∷_};
 ghost use Prim.Native.Nat.{_<_, _≤_};
 ghost use lib.ListN.{length};
 ghost use Rattle.rules.specs.Image.{tableAt};
-ghost use Rattle.rules.specs.Entry.{entryOf, without};
+ghost use Rattle.rules.specs.Entry.{entryOf};
 ghost use Rattle.rules.specs.Log.{distinct};
 ghost use Rattle.rules.specs.Step.{dueBy};
-ghost use Rattle.entries.specs.Table.{Holds, Table};
+ghost use Rattle.entries.specs.Table.{Table};
 ghost use Rattle.due.specs.Due.{isNext, Reached, DueAt};
 ghost use Rattle.due.specs.Due as search;
 
@@ -78,17 +77,4 @@ pub fn due_at(t: &[u8], c: usize, time: u64, i: usize, last: Entry) -> usize
         k += 1;
     }
     best
-}
-
-// Takes out the entry of e's transaction, where there is one. The others keep their order.
-pub fn take_out(t: &mut [u8], c: usize, e: Entry)
-    requires { ⌜ Table c (now t) × (distinct (tableAt c (now t) 0) ≡ true) ⌝ }
-    ensures { λ _. ⌜ Holds c (without (e ∷ []) (tableAt c (now (t .entry)) 0)) (now (t .exit)) ⌝ }
-{
-    let n = entries::count(t);
-    let i = entries::find(t, 4, n, e.request, e.coordinator);
-    if n <= i {
-        return;
-    }
-    entries::remove_at(t, c, i);
 }

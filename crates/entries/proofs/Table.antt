@@ -1,14 +1,14 @@
 -- A table's bytes and its entries, and what each write leaves of them. Assumes nothing.
 use Prim.Native.Nat.{ℕ, zero, suc, _+_, _-_, _*_, _≤_, _<_, min}
 use mathlib.Core.Path.{_≡_, refl, sym, ap, subst, _∙_}
-use mathlib.Core.Bool.{Bool, true}
+use mathlib.Core.Bool.{Bool}
 use mathlib.Core.List.{List, [], _∷_, _++_, append-nil}
 use native.Mathlib.Omega.{arith}
 use lib.ListN.{length, take, drop}
 use lib.Dec.{ltb}
 use Rattle.octets.specs.Bytes.{num}
 use Rattle.octets.proofs.Codecs.{All, back-number, getD-items}
-use Rattle.rules.specs.Entry.{noEntry, entryOf, sameTxn, among}
+use Rattle.rules.specs.Entry.{noEntry, entryOf, among}
 use Rattle.rules.specs.Read.{entryAt}
 use Rattle.rules.specs.Image.{tableBytes, tableAt}
 use Rattle.rules.specs.declared.Entry.{Entry}
@@ -18,7 +18,7 @@ use Rattle.repeats.specs.Repeat.{firstTo}
 use Rattle.repeats.proofs.Laws.{first-agree}
 use Rattle.entries.specs.First.{findRow}
 use Rattle.entries.specs.Table.{Holds, Table}
-use Rattle.entries.proofs.First.{among-row, found-row}
+use Rattle.entries.proofs.First.{among-row}
 
 -- ---- what is true of each element, of parts of a list
 
@@ -84,9 +84,6 @@ module _ (c : ℕ) (es : List Entry) (t : List ℕ) (h : Holds c es t) where
   -- what a search for the transaction of e tells
   pub row-among : (e : Entry) (n r : ℕ) → n ≡ length es → r ≡ findRow (λ i. entryAt t (4 + 24 * i)) (e .request) (e .coordinator) n → ltb r n ≡ among es e
   row-among e n r q f = among-row (λ i. entryAt t (4 + 24 * i)) es e n r (sym q) (λ i l. entry-in i (omega arith)) f
-
-  pub row-found : (e : Entry) (n r : ℕ) → n ≡ length es → r ≡ findRow (λ i. entryAt t (4 + 24 * i)) (e .request) (e .coordinator) n → r < n → sameTxn e (entryOf es r) ≡ true
-  row-found e n r q f l = ap (sameTxn e) (sym (entry-in r (omega arith))) ∙ found-row (λ i. entryAt t (4 + 24 * i)) e n r f l
 
 -- a table with no entry
 pub empty : (c : ℕ) (t : List ℕ) → t ≡ tableBytes c [] → c ≤ 4096 → Holds c [] t

@@ -1,4 +1,4 @@
--- The laws of a release: the run of those agreed (Run), a state on the way (Way), one release (Next), the log's bytes and their digest (LogBytes).
+-- The laws of a release: the run of those agreed (Run), a state on the way (Way), one release after the other (Next), the log's bytes and their digest (LogBytes).
 pub mod Run
 pub mod Way
 pub mod Next

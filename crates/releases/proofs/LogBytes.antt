@@ -3,25 +3,28 @@ use Prim.Native.Nat.{ℕ, _+_, _*_, _-_, _≤_, _<_}
 use mathlib.Core.Path.{_≡_, refl, sym, ap, _∙_}
 use mathlib.Core.List.{List, [], _∷_, _++_}
 use native.Mathlib.Omega.{arith}
-use lib.ListN.{length, take, drop, getD, length-append}
-use lib.Seq.{getD-append-add}
+use lib.ListN.{length, take, drop, getD, length-append, length-drop, take-append-drop}
+use lib.Seq.{getD-append-add, length-take-le}
 use lib.Dec.{lit<, lit≤}
-use Rattle.octets.specs.Bytes.{le, part, flat}
+use Rattle.octets.specs.Bytes.{le, part, splice, flat, items}
 use Rattle.octets.proofs.Laws.{length-le, part-past, part-front}
 use Rattle.octets.proofs.Sections.{part-whole}
+use Rattle.octets.proofs.Codecs.{flat-append, back-all}
 use Rattle.rules.specs.Entry.{noEntry, entryOf}
 use Rattle.rules.specs.Wire.{entryBytes}
+use Rattle.rules.specs.Read.{entryAt}
 use Rattle.rules.specs.State.{State}
 use Rattle.rules.specs.Image.{tableLength, lengths, stateLength, tableBytes, sections, stateOf}
 use Rattle.rules.specs.Digest.{basis, digestFrom, digest}
-use Rattle.rules.specs.Step.{released}
 use Rattle.rules.specs.declared.Entry.{Entry}
 use Rattle.rules.specs.declared.Shape.{Shape}
-use Rattle.rules.proofs.Entries.{long-entry}
+use Rattle.rules.proofs.Entries.{EntryFits, long-entry, entry}
 use Rattle.rules.proofs.Tables.{flat-long}
 use Rattle.rules.proofs.Digest.{digest-next}
 use Rattle.rules.proofs.Tests.{at-all}
+use Rattle.entries.proofs.Table.{all-drop}
 use Rattle.places.specs.Layout.{startOf, Laid}
+use Rattle.places.specs.With.{withLog}
 use Rattle.places.proofs.Sections.{get-in}
 use Rattle.places.proofs.Rows.{within, get-row}
 use Rattle.releases.specs.Midway.{Midway, Reaches}
@@ -29,13 +32,23 @@ use Rattle.releases.specs.Midway.{Midway, Reaches}
 -- ---- in a table
 
 module _ (c : ℕ) (es : List Entry) where
-  used-in : part (tableBytes c es) 4 (24 * length es) ≡ flat entryBytes es
+  -- all in use from place n on
+  rest-in : (n k : ℕ) → n + k ≡ length es → part (tableBytes c es) (4 + 24 * n) (24 * k) ≡ flat entryBytes (drop n es)
   unfolding tableBytes
-  used-in =
-      let n : length (flat entryBytes es) ≡ 24 * length es = flat-long entryBytes 24 long-entry es in
-      part-past (le 4 (length es)) _ 4 4 (24 * length es) (length-le 4 (length es)) (lit≤ tt)
-      ∙ part-front (flat entryBytes es) _ 0 (24 * length es) (omega arith)
-      ∙ part-whole (flat entryBytes es) (24 * length es) (omega arith)
+  rest-in n k e =
+      let l : length (flat entryBytes es) ≡ 24 * length es = flat-long entryBytes 24 long-entry es in
+      let y : 24 * n + 24 * k ≡ 24 * length es = omega arith in
+      let m : length (flat entryBytes (take n es)) ≡ 24 * n = flat-long entryBytes 24 long-entry (take n es) ∙ ap (λ (j : ℕ). 24 * j) (length-take-le n es (omega arith)) in
+      let r : length (flat entryBytes (drop n es)) ≡ 24 * k = flat-long entryBytes 24 long-entry (drop n es) ∙ ap (λ (j : ℕ). 24 * j) (length-drop n es ∙ omega arith) in
+      let z : 4 + 24 * n - 4 ≡ 24 * n = omega arith in
+      let v : 24 * n - 24 * n ≡ 0 = omega arith in
+      part-past (le 4 (length es)) _ 4 (4 + 24 * n) (24 * k) (length-le 4 (length es)) (omega arith)
+      ∙ rw z
+      (part-front (flat entryBytes es) _ (24 * n) (24 * k) (omega arith)
+      ∙ ap (λ (xs : List Entry). part (flat entryBytes xs) (24 * n) (24 * k)) (sym (take-append-drop n es))
+      ∙ ap (λ (x : List ℕ). part x (24 * n) (24 * k)) (flat-append entryBytes (take n es) (drop n es))
+      ∙ part-past (flat entryBytes (take n es)) (flat entryBytes (drop n es)) (24 * n) (24 * n) (24 * k) m (omega arith)
+      ∙ rw v (part-whole (flat entryBytes (drop n es)) (24 * k) (omega arith)))
 
   entry-in : (i : ℕ) → i < length es → part (tableBytes c es) (4 + 24 * i) 24 ≡ entryBytes (entryOf es i)
   unfolding tableBytes
@@ -68,12 +81,10 @@ module _ {sh : Shape} {st : State} {b : List ℕ} (l : Laid sh st b) where
   pub early-entry : length (st .early) ≤ sh .c → (at end i : ℕ) → at ≡ startOf sh 4 + (4 + 24 * i) → end ≡ at + 24 → i < length (st .early) → take (end - at) (drop at b) ≡ entryBytes (entryOf (st .early) i)
   early-entry r at end i = in-section 4 at end i (st .early) (lit< tt) refl refl r
 
-  -- all of the log
-  pub log-bytes : length (st .log) ≤ sh .c → (at end : ℕ) → at ≡ startOf sh 3 + 4 → end ≡ at + 24 * length (st .log) → take (end - at) (drop at b) ≡ flat entryBytes (st .log)
+  -- the log from place n on
+  pub log-rest : length (st .log) ≤ sh .c → (n k at m : ℕ) → n + k ≡ length (st .log) → at ≡ startOf sh 3 + (4 + 24 * n) → m ≡ 24 * k → take m (drop at b) ≡ flat entryBytes (drop n (st .log))
   unfolding part
-  log-bytes r at end e q =
-      let z : end - at ≡ 24 * length (st .log) = omega arith in
-      rw z (get-in l 3 4 at (24 * length (st .log)) (lit< tt) e (omega arith) ∙ used-in (sh .c) (st .log))
+  log-rest r n k at m h e q = rw q (get-in l 3 (4 + 24 * n) at (24 * k) (lit< tt) e (omega arith) ∙ rest-in (sh .c) (st .log) n k h)
 
 -- where an entry of log or early stands
 pub log-within : (sh : Shape) (p i : ℕ) → p ≡ startOf sh 3 → i < sh .c → stateLength sh ≤ 2187586 → (p + (4 + 24 * i) ≡ startOf sh 3 + (4 + 24 * i)) × (p + (4 + 24 * i) + 24 ≤ stateLength sh) × (p + (4 + 24 * i) ≤ 2187586)
@@ -87,12 +98,12 @@ early-within sh p i e l s = let w : 24 * i + 24 ≤ 24 * sh .c = within 24 i (sh
 module _ {sh : Shape} {b : List ℕ} (m : Midway sh b) where
   pub digest-is : (at end r : ℕ) → at ≡ startOf sh 3 + 4 → end ≡ at + 24 * length (stateOf sh b .log) → r ≡ digestFrom basis (take (end - at) (drop at b)) → r ≡ digest (stateOf sh b .log)
   unfolding digest
-  digest-is at end r e z q = q ∙ ap (digestFrom basis) (log-bytes (m .laid) (m .state .log .room) at end e z)
+  digest-is at end r e z q = q ∙ ap (digestFrom basis) (log-rest (m .laid) (m .state .log .room) 0 (length (stateOf sh b .log)) at (end - at) (omega arith) (omega arith) (omega arith))
 
   -- run on over the entry that was appended
-  pub digest-runs : {b′ : List ℕ} (d : Entry) (time sync at end i sum r : ℕ) → Reaches sh (released (stateOf sh b) time sync (d ∷ [])) b′ → i ≡ length (stateOf sh b .log) → sum ≡ digest (stateOf sh b .log)
+  pub digest-runs : {b′ : List ℕ} (d : Entry) (at end i sum r : ℕ) → Reaches sh (withLog (stateOf sh b) (stateOf sh b .log ++ (d ∷ []))) b′ → i ≡ length (stateOf sh b .log) → sum ≡ digest (stateOf sh b .log)
       → at ≡ startOf sh 3 + (4 + 24 * i) → end ≡ at + 24 → r ≡ digestFrom sum (take (end - at) (drop at b′)) → r ≡ digest (stateOf sh b .log ++ (d ∷ []))
-  digest-runs {b′} d time sync at end i sum r w hi hs e z q =
+  digest-runs {b′} d at end i sum r w hi hs e z q =
       let log = stateOf sh b .log in
       let y : stateOf sh b′ .log ≡ log ++ (d ∷ []) = ap (λ (x : State). x .log) (w .is) in
       let long : length (stateOf sh b′ .log) ≡ length log + 1 = ap length y ∙ simp length-append in
@@ -101,3 +112,17 @@ module _ {sh : Shape} {b : List ℕ} (m : Midway sh b) where
     where
       last-of : (log : List Entry) (d : Entry) (i : ℕ) → i ≡ length log → entryOf (log ++ (d ∷ [])) i ≡ d
       last-of log d i h = let z : i ≡ length log + 0 = omega arith in rw z (getD-append-add log (d ∷ []) 0 noEntry)
+
+  -- ---- the log from place n on, copied to the start of other bytes
+
+  module _ (n k at : ℕ) (h : n + k ≡ length (stateOf sh b .log)) (e : at ≡ startOf sh 3 + (4 + 24 * n)) where
+    pub copy-within : at + 24 * k ≤ stateLength sh
+    copy-within = omega (arith, m .state .log .room)
+
+    pub copied : (end : ℕ) (t u : List ℕ) → end ≡ at + 24 * k → 24 * k ≤ length t → u ≡ splice t 0 (take (end - at) (drop at b)) → items (entryAt u) 24 0 k ≡ drop n (stateOf sh b .log)
+    unfolding splice
+    copied end t u z l q =
+        let es : List Entry = drop n (stateOf sh b .log) in
+        let w : take (end - at) (drop at b) ≡ flat entryBytes es = log-rest (m .laid) (m .state .log .room) n k at (end - at) h e (omega arith) in
+        let y : length es ≡ k = length-drop n (stateOf sh b .log) ∙ omega arith in
+        back-all entry u 0 k es _ (all-drop EntryFits n (stateOf sh b .log) (m .state .log .each)) (sym y) (q ∙ ap (splice t 0) w)

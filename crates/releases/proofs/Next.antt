@@ -1,44 +1,78 @@
--- One release, step by step, and many of them one after the other. Assumes nothing.
-use Prim.Native.Nat.{ℕ, _-_, _<_}
-use mathlib.Core.Path.{_≡_, ap, subst, _∙_}
+-- One entry of those due after the other, and all of them out of early and the notes. Assumes nothing.
+use Prim.Native.Nat.{ℕ, _+_, _-_, _*_, _≤_, _<_}
+use mathlib.Core.Path.{_≡_, sym, ap, subst, _∙_}
+use mathlib.Core.Bool.{Bool, true, false, true≢false}
 use mathlib.Core.List.{List, [], _∷_, _++_}
+use native.Mathlib.Omega.{arith}
 use lib.ListN.{length, take, drop}
-use Rattle.rules.specs.Entry.{entryOf, without}
+use lib.Seq.{getD-take, getD-drop}
+use Rattle.octets.specs.Bytes.{items}
+use Rattle.rules.specs.Entry.{noEntry, entryOf, without}
+use Rattle.rules.specs.Read.{entryAt}
 use Rattle.rules.specs.State.{State}
 use Rattle.rules.specs.Image.{stateOf, tableAt}
-use Rattle.rules.specs.Step.{dueBy, notesWithout, released}
+use Rattle.rules.specs.Step.{dueBy, notesWithout}
 use Rattle.rules.specs.declared.Entry.{Entry}
 use Rattle.rules.specs.declared.Shape.{Shape}
-use Rattle.due.specs.Due.{DueAt}
+use Rattle.repeats.specs.Rows.{countOf, keyOf, Inside}
+use Rattle.repeats.specs.Table.{Filled}
+use Rattle.repeats.specs.declared.Spots.{Spots}
+use Rattle.due.specs.Due.{Reached, DueAt}
+use Rattle.leaving.specs.Listed.{spotsOf, listedIn, Lookup}
 use Rattle.places.specs.Layout.{Marks}
 use Rattle.places.specs.declared.Places.{Places}
 use Rattle.places.specs.With.{withLog, withEarly, withNotes}
-use Rattle.releases.specs.Midway.{Midway, Reaches}
+use Rattle.releases.specs.Midway.{Midway, Reaches, firstOf, Cleared}
 use Rattle.releases.proofs.Way.{early-read}
 
--- ---- the first of those due
+-- ---- entry i of those due
 
-module _ {sh : Shape} {b : List ℕ} (m : Midway sh b) (p : Places) (k : Marks sh p) where
-  pub due-found : (time r : ℕ) → 0 < length (dueBy time (stateOf sh b .early)) → DueAt time (tableAt (sh .c) (take (p .late - p .early) (drop (p .early) b)) 0) 0 r
-      → (r < length (stateOf sh b .early)) × (entryOf (stateOf sh b .early) r ≡ entryOf (dueBy time (stateOf sh b .early)) 0)
-  due-found time r l d = (subst (λ (es : List Entry). DueAt time es 0 r) (early-read m p k) d) .found l
+module _ {sh : Shape} {b : List ℕ} (m : Midway sh b) (p : Places) (k : Marks sh p) (time i : ℕ) where
+  abbrev earlyIn : List ℕ
+  earlyIn = take (p .late - p .early) (drop (p .early) b)
 
--- ---- the three writes of a release
+  pub due-asked : (last : Entry) → Reached time (stateOf sh b .early) i last → Reached time (tableAt (sh .c) earlyIn 0) i last
+  due-asked last g = rw (early-read m p k) g
 
-module _ {sh : Shape} (b : List ℕ) {b₁ : List ℕ} (e d : Entry) (i : ℕ) where
-  pub early-stays : Reaches sh (withLog (stateOf sh b) (stateOf sh b .log ++ (e ∷ []))) b₁ → i < length (stateOf sh b .early) → i < length (stateOf sh b₁ .early)
-  early-stays r l = rw (r .is) l
+  pub due-found : (r : ℕ) → i < length (dueBy time (stateOf sh b .early)) → DueAt time (tableAt (sh .c) earlyIn 0) i r
+      → (r < length (stateOf sh b .early)) × (entryOf (stateOf sh b .early) r ≡ entryOf (dueBy time (stateOf sh b .early)) i)
+  due-found r l d = (subst (λ (es : List Entry). DueAt time es i r) (early-read m p k) d) .found l
 
-  pub release-made : {b₂ b₃ : List ℕ} → e ≡ entryOf (stateOf sh b .early) i → entryOf (stateOf sh b .early) i ≡ d
-      → Reaches sh (withLog (stateOf sh b) (stateOf sh b .log ++ (e ∷ []))) b₁
-      → Reaches sh (withEarly (stateOf sh b₁) (without (entryOf (stateOf sh b₁ .early) i ∷ []) (stateOf sh b₁ .early))) b₂
-      → Reaches sh (withNotes (stateOf sh b₂) (notesWithout (e ∷ []) (stateOf sh b₂ .notes))) b₃
-      → Reaches sh (released (stateOf sh b) (stateOf sh b .clock) (stateOf sh b .sync) (d ∷ [])) b₃
-  release-made {b₂} {b₃} h g r₁ r₂ r₃ =
-      let st = stateOf sh b in
-      let c : e ≡ d = h ∙ g in
-      let s₂ : stateOf sh b₂ ≡ withEarly (withLog st (st .log ++ (e ∷ []))) (without (entryOf (st .early) i ∷ []) (st .early))
-      = r₂ .is ∙ ap (λ (x : State). withEarly x (without (entryOf (x .early) i ∷ []) (x .early))) (r₁ .is) in
-      let s₃ : stateOf sh b₃ ≡ withNotes (withEarly (withLog st (st .log ++ (e ∷ []))) (without (entryOf (st .early) i ∷ []) (st .early))) (notesWithout (e ∷ []) (st .notes))
-      = r₃ .is ∙ ap (λ (x : State). withNotes x (notesWithout (e ∷ []) (x .notes))) s₂ in
-      record { is = s₃ ∙ rw (g, c); midway = r₃ .midway }
+-- those before it stand at the end of the log, from place n on
+pub reached-by : (time : ℕ) (es log : List Entry) (n i : ℕ) (last : Entry) → i < length (dueBy time es) → drop n log ≡ take i (dueBy time es) → (0 < i → last ≡ entryOf log (n + i - 1)) → Reached time es i last
+reached-by time es log n i last l e q =
+    record {
+      within = omega arith;
+      after =
+          λ h.
+          let z : n + i - 1 ≡ n + (i - 1) = omega arith in
+          q h ∙ ap (entryOf log) z ∙ sym (getD-drop n log (i - 1) noEntry) ∙ ap (λ (ds : List Entry). entryOf ds (i - 1)) e ∙ getD-take i (dueBy time es) (i - 1) noEntry (omega arith);
+    }
+
+-- it went to the log
+pub went : {sh : Shape} (b : List ℕ) {b′ : List ℕ} (e x d : Entry) → e ≡ x → x ≡ d → Reaches sh (withLog (stateOf sh b) (stateOf sh b .log ++ (e ∷ []))) b′ → Reaches sh (withLog (stateOf sh b) (stateOf sh b .log ++ (d ∷ []))) b′
+went {sh} b {b′} e x d h g r = subst (λ (y : Entry). Reaches sh (withLog (stateOf sh b) (stateOf sh b .log ++ (y ∷ []))) b′) (h ∙ g) r
+
+-- ---- all of them leave
+
+-- the look into the copy, whether or not its table was filled
+module _ (k : ℕ) (u : List ℕ) (l : 24 * k ≤ length u) (h : k ≤ 4096) where
+  pub fill-asked : (sp : Spots) → sp ≡ spotsOf (firstOf k false) → Inside u sp
+  fill-asked sp e = rw e (record { one = omega arith; two = omega arith; three = omega arith; few = omega arith })
+
+  pub listed-plain : (t : List ℕ) → Lookup u (firstOf k false) t
+  listed-plain t = record { inside = omega arith; few = h; found = λ f. absurd (true≢false (sym f)) }
+
+  pub listed-filled : (t : List ℕ) (f : Bool) (sp : Spots) → sp ≡ spotsOf (firstOf k false) → (f ≡ true → Filled (keyOf u sp) (countOf sp) t) → Lookup u (firstOf k f) t
+  listed-filled t f sp e g = record { inside = omega arith; few = h; found = subst (λ (x : Spots). f ≡ true → Filled (keyOf u x) (countOf x) t) e g }
+
+-- early is left, then the notes
+pub all-left : {sh : Shape} (b : List ℕ) {b₁ b₂ : List ℕ} (n k : ℕ) (u : List ℕ) (f : Bool) → items (entryAt u) 24 0 k ≡ drop n (stateOf sh b .log)
+    → Reaches sh (withEarly (stateOf sh b) (without (listedIn u (firstOf k f)) (stateOf sh b .early))) b₁
+    → Reaches sh (withNotes (stateOf sh b₁) (notesWithout (listedIn u (firstOf k f)) (stateOf sh b₁ .notes))) b₂ → Cleared sh b n b₂
+all-left {sh} b n k u f e r s =
+    record {
+      is = s .is ∙ ap (λ (x : State). withNotes x (notesWithout (items (entryAt u) 24 0 k) (x .notes))) (r .is)
+          ∙ ap (λ (gone : List Entry). withNotes (withEarly (stateOf sh b) (without gone (stateOf sh b .early))) (notesWithout gone (stateOf sh b .notes))) e;
+      midway = s .midway;
+    }

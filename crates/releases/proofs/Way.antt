@@ -1,31 +1,30 @@
 -- A state on the way: from a good state, and from one to the next. Assumes nothing.
-use Prim.Native.Nat.{ℕ, _+_, _-_, _*_, _≤_, _<_}
+use Prim.Native.Nat.{ℕ, _+_, _-_, _*_, _<_}
 use mathlib.Core.Path.{_≡_, sym, ap, subst, _∙_}
-use mathlib.Core.Bool.{true}
+use mathlib.Core.Bool.{true, false}
 use mathlib.Core.List.{List, [], _∷_, _++_}
 use native.Mathlib.Omega.{arith}
 use lib.ListN.{length, take, drop}
-use Rattle.octets.specs.Bytes.{num}
-use Rattle.rules.specs.Choice.{leading}
-use Rattle.rules.specs.Entry.{entryOf, without}
+use Rattle.rules.specs.Choice.{keep, leading}
+use Rattle.rules.specs.Entry.{without}
 use Rattle.rules.specs.Log.{distinct}
-use Rattle.rules.specs.State.{Note, State, agreed, notesDistinct, buffersGood, rangesGood, good}
+use Rattle.rules.specs.State.{Note, State, agreed, buffersGood, good}
 use Rattle.rules.specs.Image.{tableLength, noteLength, tableAt, stateOf}
 use Rattle.rules.specs.Step.{dueBy, notesWithout}
 use Rattle.rules.specs.declared.Entry.{Entry}
 use Rattle.rules.specs.declared.Shape.{Shape}
 use Rattle.rules.proofs.Tests.{split}
 use Rattle.rules.proofs.Choice.{pairs-front, pairs-back}
-use Rattle.rules.proofs.Order.{txn-same}
 use Rattle.rules.proofs.Logs.{Apart, distinct-pairs, pairs-distinct}
 use Rattle.rules.proofs.Tables.{TableFits, NotesFit}
 use Rattle.rules.proofs.Image.{StateFits, state-back}
 use Rattle.entries.specs.Table.{Holds, Table}
 use Rattle.entries.proofs.Table.{decoded, is-table, and-then}
-use Rattle.notes.specs.Notes.{sized, notesAt, NotesHold, Notes, row}
+use Rattle.notes.specs.Notes.{notesAt, NotesHold, Notes}
 use Rattle.notes.proofs.Notes as noted
-use Rattle.notes.proofs.Leaving.{without-absent, without-found, distinct-without}
-use Rattle.due.proofs.Kept.{without-at, keep-distinct}
+use Rattle.leaving.specs.Listed.{chosen}
+use Rattle.leaving.proofs.Entries.{without-is}
+use Rattle.due.proofs.Kept.{keep-distinct}
 use Rattle.places.specs.Layout.{Marks, Fits, Laid, Stands}
 use Rattle.places.specs.declared.Places.{Places}
 use Rattle.places.specs.With.{withLog, withEarly, withNotes}
@@ -34,6 +33,7 @@ use Rattle.places.proofs.Lent.{holds-fits, log-lent, early-lent, log-home, earl
 use Rattle.handler.proofs.Own.{group-below, replica-below}
 use Rattle.handler.proofs.NotesLent.{notes-lent, notes-home}
 use Rattle.releases.specs.Midway.{Midway, Reaches}
+use Rattle.releases.specs.Waiting.{Waiting, runIn}
 
 -- ---- a good state is on the way
 
@@ -43,20 +43,16 @@ early-once st g =
     pairs-distinct (st .early)
     (pairs-front Apart (st .early) (st .late) (pairs-back Apart (st .log) (st .early ++ st .late) (distinct-pairs (st .log ++ (st .early ++ st .late)) (split _ g 0))))
 
-notes-once : (sh : Shape) (st : State) → rangesGood sh st ≡ true → notesDistinct (st .notes) ≡ true
-unfolding rangesGood
-notes-once sh st g = split _ g 8
-
 pub on-way : {sh : Shape} {b : List ℕ} → Stands sh (stateOf sh b) b → Midway sh b
 unfolding good
 on-way {sh} {b} s =
     let h = split _ (s .good) in
-    record { fits = s .fits; laid = stands-laid s; size = s .size; state = stands-fits s; group = group-below s; replica = replica-below s; early = early-once (stateOf sh b) (h 8); notes = notes-once sh (stateOf sh b) (h 10) }
+    record { fits = s .fits; laid = stands-laid s; size = s .size; state = stands-fits s; group = group-below s; replica = replica-below s; early = early-once (stateOf sh b) (h 8) }
 
 -- ---- a state that is reached
 
-pub arrive : {sh : Shape} {st : State} {b : List ℕ} → Fits sh → StateFits sh st → Laid sh st b → st .group < sh .s → st .replica < sh .n → distinct (st .early) ≡ true → notesDistinct (st .notes) ≡ true → Reaches sh st b
-arrive {sh} {st} {b} f g l hg hr d n =
+pub arrive : {sh : Shape} {st : State} {b : List ℕ} → Fits sh → StateFits sh st → Laid sh st b → st .group < sh .s → st .replica < sh .n → distinct (st .early) ≡ true → Reaches sh st b
+arrive {sh} {st} {b} f g l hg hr d =
     let e : stateOf sh b ≡ st = ap (stateOf sh) (l .bytes) ∙ state-back sh st g in
     record {
       is = e;
@@ -69,7 +65,6 @@ arrive {sh} {st} {b} f g l hg hr d n =
             group = rw e hg;
             replica = rw e hr;
             early = ap (λ (x : State). distinct (x .early)) e ∙ d;
-            notes = ap (λ (x : State). notesDistinct (x .notes)) e ∙ n;
           };
     }
 
@@ -136,6 +131,9 @@ module _ {sh : Shape} {b : List ℕ} (m : Midway sh b) (p : Places) (k : Marks s
   notes-are = notes-lent (m .laid) (p .notes) (p .votes - p .notes) (m .fits) (m .state .notes) (k .notes) notes-long
 
   -- what is read there
+  pub log-read : tableAt (sh .c) logIn 0 ≡ stateOf sh b .log
+  log-read = decoded (sh .c) (stateOf sh b .log) logIn log-is
+
   pub early-read : tableAt (sh .c) earlyIn 0 ≡ stateOf sh b .early
   early-read = decoded (sh .c) (stateOf sh b .early) earlyIn early-is
 
@@ -143,8 +141,11 @@ module _ {sh : Shape} {b : List ℕ} (m : Midway sh b) (p : Places) (k : Marks s
   notes-read = noted.decoded (sh .c) (sh .s) (stateOf sh b .notes) notesIn notes-are
 
   -- what those who take them ask for
+  pub log-at : (i : ℕ) → i < length (stateOf sh b .log) → Table (sh .c) logIn × (i < length (tableAt (sh .c) logIn 0))
+  log-at i l = (is-table (sh .c) (stateOf sh b .log) logIn log-is, rw log-read l)
+
   pub log-open : length (stateOf sh b .log) < sh .c → Table (sh .c) logIn × (length (tableAt (sh .c) logIn 0) < sh .c)
-  log-open l = (is-table (sh .c) (stateOf sh b .log) logIn log-is, rw (decoded (sh .c) (stateOf sh b .log) logIn log-is) l)
+  log-open l = (is-table (sh .c) (stateOf sh b .log) logIn log-is, rw log-read l)
 
   pub early-open : (i : ℕ) → i < length (stateOf sh b .early) → Table (sh .c) earlyIn × (i < length (tableAt (sh .c) earlyIn 0))
   early-open i l = (is-table (sh .c) (stateOf sh b .early) earlyIn early-is, rw early-read l)
@@ -152,15 +153,14 @@ module _ {sh : Shape} {b : List ℕ} (m : Midway sh b) (p : Places) (k : Marks s
   pub early-once-in : Table (sh .c) earlyIn × (distinct (tableAt (sh .c) earlyIn 0) ≡ true)
   early-once-in = (is-table (sh .c) (stateOf sh b .early) earlyIn early-is, rw early-read (m .early))
 
-  pub notes-open : Notes (sh .c) (sh .s) notesIn × (notesDistinct (notesAt (sh .c) (sh .s) notesIn) ≡ true)
-  notes-open = (noted.is-notes (sh .c) (sh .s) (stateOf sh b .notes) notesIn notes-are, rw notes-read (m .notes))
+  pub notes-open : Notes (sh .c) (sh .s) notesIn
+  notes-open = noted.is-notes (sh .c) (sh .s) (stateOf sh b .notes) notesIn notes-are
 
   -- those due and the notes, as the search for a leader's run takes them and as the state has them
-  pub run-open : (time due : ℕ) → due ≡ length (dueBy time (stateOf sh b .early))
-      → Table (sh .c) earlyIn × (distinct (tableAt (sh .c) earlyIn 0) ≡ true) × Notes (sh .c) (sh .s) notesIn × (due ≡ length (dueBy time (tableAt (sh .c) earlyIn 0)))
-  run-open time due e = (early-once-in .0, early-once-in .1, notes-open .0, rw early-read e)
+  pub run-open : (time due : ℕ) → due ≡ length (dueBy time (stateOf sh b .early)) → Waiting (sh .c) (sh .s) earlyIn notesIn time due
+  run-open time due e = record { table = early-once-in .0; once = early-once-in .1; notes = notes-open; due = rw early-read e }
 
-  pub run-read : (time r : ℕ) → r ≡ length (leading (agreed (sized (sh .c) (sh .s)) (notesAt (sh .c) (sh .s) notesIn)) (dueBy time (tableAt (sh .c) earlyIn 0)))
+  pub run-read : (time r : ℕ) → r ≡ runIn (sh .c) (sh .s) earlyIn notesIn time
       → r ≡ length (leading (agreed sh (stateOf sh b .notes)) (dueBy time (stateOf sh b .early)))
   run-read time r e = e ∙ ap (λ (es : List Entry). length (leading (agreed sh (notesAt (sh .c) (sh .s) notesIn)) (dueBy time es))) early-read
       ∙ ap (λ (xs : List Note). length (leading (agreed sh xs) (dueBy time (stateOf sh b .early)))) notes-read
@@ -172,45 +172,26 @@ module _ {sh : Shape} {b : List ℕ} (m : Midway sh b) (p : Places) (k : Marks s
       let st = stateOf sh b in
       let j : Holds (sh .c) (st .log ++ (e ∷ [])) x = and-then (sh .c) (st .log) logIn log-is (λ es. es ++ (e ∷ [])) x h in
       arrive (m .fits) (fits-moving (m .state) (st .log ++ (e ∷ [])) (st .early) (st .notes) (holds-fits j) (m .state .early) (m .state .notes))
-      (log-home (m .laid) (p .log) (p .early - p .log) (st .log ++ (e ∷ [])) j (k .log) log-long w) (m .group) (m .replica) (m .early) (m .notes)
+      (log-home (m .laid) (p .log) (p .early - p .log) (st .log ++ (e ∷ [])) j (k .log) log-long w) (m .group) (m .replica) (m .early)
 
-  -- an entry leaves early
-  pub early-left : {b′ x : List ℕ} (i : ℕ) → i < length (stateOf sh b .early)
-      → Holds (sh .c) (take i (tableAt (sh .c) earlyIn 0) ++ drop (i + 1) (tableAt (sh .c) earlyIn 0)) x → b′ ≡ take (p .early) b ++ (x ++ drop (p .late - p .early) (drop (p .early) b))
-      → Reaches sh (withEarly (stateOf sh b) (without (entryOf (stateOf sh b .early) i ∷ []) (stateOf sh b .early))) b′
-  early-left {x = x} i l h w =
+  -- entries leave early
+  pub early-left : {b′ x : List ℕ} (gone : List Entry) → Holds (sh .c) (keep (chosen gone false 0) (tableAt (sh .c) earlyIn 0)) x → b′ ≡ take (p .early) b ++ (x ++ drop (p .late - p .early) (drop (p .early) b))
+      → Reaches sh (withEarly (stateOf sh b) (without gone (stateOf sh b .early))) b′
+  early-left {x = x} gone h w =
       let st = stateOf sh b in
-      let e = entryOf (st .early) i in
-      let left = without (e ∷ []) (st .early) in
-      let j : Holds (sh .c) (take i (st .early) ++ drop (i + 1) (st .early)) x = and-then (sh .c) (st .early) earlyIn early-is (λ es. take i es ++ drop (i + 1) es) x h in
-      let g : Holds (sh .c) left x = subst (λ (es : List Entry). Holds (sh .c) es x) (sym (without-at (st .early) e (m .early) i l (txn-same e))) j in
+      let left = without gone (st .early) in
+      let j : Holds (sh .c) (keep (chosen gone false 0) (st .early)) x = and-then (sh .c) (st .early) earlyIn early-is (keep (chosen gone false 0)) x h in
+      let g : Holds (sh .c) left x = subst (λ (es : List Entry). Holds (sh .c) es x) (without-is gone (st .early)) j in
       arrive (m .fits) (fits-moving (m .state) (st .log) left (st .notes) (m .state .log) (holds-fits g) (m .state .notes))
-      (early-home (m .laid) (p .early) (p .late - p .early) left g (k .early) early-long w) (m .group) (m .replica) (keep-distinct _ (st .early) (m .early)) (m .notes)
+      (early-home (m .laid) (p .early) (p .late - p .early) left g (k .early) early-long w) (m .group) (m .replica) (keep-distinct _ (st .early) (m .early))
 
-  -- a note leaves
-  pub note-left : {b′ x : List ℕ} (e : Entry) → NotesHold (sh .c) (sh .s) (notesWithout (e ∷ []) (notesAt (sh .c) (sh .s) notesIn)) x
-      → b′ ≡ take (p .notes) b ++ (x ++ drop (p .votes - p .notes) (drop (p .notes) b)) → Reaches sh (withNotes (stateOf sh b) (notesWithout (e ∷ []) (stateOf sh b .notes))) b′
-  note-left {x = x} e h w =
+  -- notes leave
+  pub notes-left : {b′ x : List ℕ} (gone : List Entry) → NotesHold (sh .c) (sh .s) (notesWithout gone (notesAt (sh .c) (sh .s) notesIn)) x
+      → b′ ≡ take (p .notes) b ++ (x ++ drop (p .votes - p .notes) (drop (p .notes) b)) → Reaches sh (withNotes (stateOf sh b) (notesWithout gone (stateOf sh b .notes))) b′
+  notes-left {x = x} gone h w =
       let st = stateOf sh b in
-      let left = notesWithout (e ∷ []) (st .notes) in
-      let j : NotesHold (sh .c) (sh .s) left x = noted.and-then (sh .c) (sh .s) (st .notes) notesIn notes-are (notesWithout (e ∷ [])) x h in
+      let left = notesWithout gone (st .notes) in
+      let j : NotesHold (sh .c) (sh .s) left x = noted.and-then (sh .c) (sh .s) (st .notes) notesIn notes-are (notesWithout gone) x h in
       let f : NotesFit sh left = record { room = j .room; counted = omega (arith, j .small); each = j .fit } in
       let l : Laid sh (withNotes st left) _ = notes-home (m .laid) (p .notes) (p .votes - p .notes) left j (k .notes) notes-long w in
-      arrive (m .fits) (fits-moving (m .state) (st .log) (st .early) left (m .state .log) (m .state .early) f) l (m .group) (m .replica) (m .early) (distinct-without (e ∷ []) (st .notes) (m .notes))
-
--- ---- a note by its transaction
-
-module _ (c s : ℕ) (t : List ℕ) (e : Entry) (n i : ℕ) (h : Notes c s t) (hi : i ≡ row (e .request) (e .coordinator) (notesAt c s t)) (hn : n ≡ num t 0 4) where
-  pub forget-missing : n ≤ i → NotesHold c s (notesWithout (e ∷ []) (notesAt c s t)) t
-  forget-missing l =
-      let r : length (notesAt c s t) ≤ row (e .request) (e .coordinator) (notesAt c s t) = omega (arith, h .count) in
-      subst (λ (xs : List Note). NotesHold c s xs t) (sym (without-absent e (notesAt c s t) r)) h
-
-  pub forget-within : i < n → i < length (notesAt c s t)
-  forget-within l = omega (arith, h .count)
-
-  pub forget-found : (u : List ℕ) → notesDistinct (notesAt c s t) ≡ true → i < n → NotesHold c s (take i (notesAt c s t) ++ drop (i + 1) (notesAt c s t)) u → NotesHold c s (notesWithout (e ∷ []) (notesAt c s t)) u
-  forget-found u d l g =
-      let xs = notesAt c s t in
-      let r : row (e .request) (e .coordinator) xs < length xs = omega (arith, h .count) in
-      subst (λ (ys : List Note). NotesHold c s ys u) (ap (λ (j : ℕ). take j xs ++ drop (j + 1) xs) hi ∙ sym (without-found e xs d r)) g
+      arrive (m .fits) (fits-moving (m .state) (st .log) (st .early) left (m .state .log) (m .state .early) f) l (m .group) (m .replica) (m .early)

@@ -1,7 +1,7 @@
 -- Early and late beside each other: each lent and come home, and entries that go from one to the other. Assumes nothing.
 use Prim.Native.Nat.{ℕ, zero, suc, _+_, _*_, _-_, _≤_, _<_}
 use mathlib.Core.Path.{_≡_, refl, sym, ap, ap₂, subst, _∙_}
-use mathlib.Core.Bool.{Bool, true, false, not}
+use mathlib.Core.Bool.{Bool, true, false}
 use mathlib.Core.List.{List, [], _∷_, _++_, append-nil, append-assoc}
 use native.Mathlib.Omega.{arith}
 use lib.ListN.{length, take, drop, take-append-drop, length-append, length-drop}
@@ -17,7 +17,7 @@ use Rattle.rules.proofs.Choice.{length-keep}
 use Rattle.entries.specs.Table.{Holds, Table}
 use Rattle.entries.proofs.Table.{decoded, is-table}
 use Rattle.syncs.specs.Buffers.{BothHold, earlyIn, lateIn, Both}
-use Rattle.syncs.proofs.Sifting.{keep-none, keep-next, keep-yes}
+use Rattle.leaving.proofs.Sifting.{keep-none, keep-next, keep-yes}
 
 nothing : (xs : List ℕ) → length xs ≡ 0 → xs ≡ []
 nothing [] e = refl

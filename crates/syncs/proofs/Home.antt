@@ -25,7 +25,7 @@ use Rattle.places.proofs.Sections.{stands-fits, stands-laid}
 use Rattle.places.proofs.Tables as tables
 use Rattle.places.proofs.Head.{put-sync}
 use Rattle.handler.proofs.NotesLent.{notes-lent, notes-home}
-use Rattle.syncs.specs.Synced.{chosen}
+use Rattle.leaving.specs.Listed.{chosen}
 use Rattle.syncs.specs.Buffers.{BothHold, earlyIn, lateIn, Both}
 use Rattle.syncs.specs.Takes.{lateBy, syncedBy}
 use Rattle.syncs.proofs.Buffers as buffers

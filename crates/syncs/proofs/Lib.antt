@@ -1,9 +1,5 @@
 -- What the functions of kind 4 make of the log that it brings and of the state.
-mod Lookup
-mod Sifting
-mod Entries
 mod Buffers
-mod Noted
 mod Rule
 mod Home
 mod Slow

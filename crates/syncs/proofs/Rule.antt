@@ -6,21 +6,17 @@ use mathlib.Core.List.{List, [], _∷_, _++_}
 use native.Mathlib.Omega.{arith}
 use lib.ListN.{length, length-append}
 use lib.Dec.{ltb, leb}
-use borrow.Author.Tests.{le-leb, leb-true, leb-false, lt-ltb, le-ltb}
+use borrow.Author.Tests.{leb-true, leb-false, lt-ltb, le-ltb}
 use Rattle.rules.specs.Choice.{pick, keep}
-use Rattle.rules.specs.Entry.{among, without, mayFollow, followsLast, lastStamp}
+use Rattle.rules.specs.Entry.{among, mayFollow, followsLast, lastStamp}
 use Rattle.rules.specs.State.{State}
 use Rattle.rules.specs.Step.{staysEarly, fallsLate}
 use Rattle.rules.specs.declared.Entry.{Entry}
-use Rattle.syncs.specs.Synced.{chosen}
+use Rattle.leaving.specs.Listed.{chosen}
+use Rattle.leaving.proofs.Entries.{without-is}
 use Rattle.syncs.specs.Takes.{lateBy}
 
 module _ {A : Type 0} where
-  keep-like : (p q : A → Bool) → ((x : A) → p x ≡ q x) → (xs : List A) → keep p xs ≡ keep q xs
-  unfolding keep
-  keep-like p q h [] = refl
-  keep-like p q h (x ∷ xs) = rw (h x, keep-like p q h xs)
-
   twice-step : (r : A → Bool) (x : A) (ys : List A) (b : Bool) → pick (r x && b) (x ∷ keep r ys) (keep r ys) ≡ keep r (pick b (x ∷ ys) ys)
   unfolding keep pick
   twice-step r x ys true = go (r x)
@@ -52,10 +48,6 @@ or-none true = refl
 or-none false = refl
 
 module _ (log es : List Entry) where
-  pub without-is : keep (chosen log false 0) es ≡ without log es
-  unfolding chosen
-  without-is = keep-like (chosen log false 0) (λ e. not (among log e)) (λ e. rw (le-leb 0 (e .stamp) (omega arith))) es
-
   pub stays-is : keep (chosen log false (lastStamp log)) es ≡ staysEarly log es
   unfolding chosen mayFollow
   stays-is = keep-twice (chosen log false (lastStamp log)) (λ e. not (among log e)) (followsLast log) (λ e. refl) es

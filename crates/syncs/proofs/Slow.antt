@@ -31,9 +31,9 @@ use Rattle.places.proofs.Rows.{within}
 use Rattle.handler.specs.Sending.{messageBytes, headedIn}
 use Rattle.handler.proofs.Rows.{sends-below, sends-more}
 use Rattle.handler.proofs.Sends.{sender, message-sent, sent-length}
-use Rattle.syncs.specs.Synced.{logIn}
+use Rattle.leaving.specs.Listed.{listedIn}
 use Rattle.syncs.specs.Takes.{slowReplies, Coming}
-use Rattle.syncs.specs.declared.NewLog.{NewLog}
+use Rattle.leaving.specs.declared.Listed.{Listed}
 
 -- how long it is
 pub one-long : (s : ℕ) → lengthFor s 6 1 ≡ 56 + 4 * s
@@ -46,7 +46,7 @@ all-fit s n h k = let l : lengthFor s 6 1 ≤ 88 = omega (arith, one-long s) in 
 
 -- ---- one of them
 
-module _ {sh : Shape} {b msg : List ℕ} {log : NewLog} (g : Coming sh b msg log) (i : ℕ) (l : i < log .count) where
+module _ {sh : Shape} {b msg : List ℕ} {log : Listed} (g : Coming sh b msg log) (i : ℕ) (l : i < log .count) where
   abbrev from : ℕ
   from = log .at + 24 * i
 
@@ -58,7 +58,7 @@ module _ {sh : Shape} {b msg : List ℕ} {log : NewLog} (g : Coming sh b msg log
   st = stateOf sh b
 
   abbrev entries : List Entry
-  entries = logIn msg log
+  entries = listedIn msg log
 
   ends : from + 24 ≤ length msg
   ends = omega (arith, g .inside)
@@ -105,18 +105,18 @@ pastSync st log j = slowReply st log (st .sync + j)
 unfoldable pub toldBytes : State → List Entry → ℕ → List ℕ
 toldBytes st log j = flat wireBytes (sends (pastSync st log) (below j))
 
-module _ {sh : Shape} {b msg : List ℕ} {log : NewLog} (g : Coming sh b msg log) where
+module _ {sh : Shape} {b msg : List ℕ} {log : Listed} (g : Coming sh b msg log) where
   abbrev past : ℕ → Wire
-  past = pastSync (stateOf sh b) (logIn msg log)
+  past = pastSync (stateOf sh b) (listedIn msg log)
 
-  pub told-start : (out : List ℕ) → out ≡ splice out 0 (toldBytes (stateOf sh b) (logIn msg log) 0)
+  pub told-start : (out : List ℕ) → out ≡ splice out 0 (toldBytes (stateOf sh b) (listedIn msg log) 0)
   unfolding toldBytes below sends flat
   told-start out = sym (splice-none out 0)
 
   past-long : (n j : ℕ) → stateOf sh b .sync + n ≤ log .count → j < n → length (wireBytes (past j)) ≡ lengthFor (sh .s) 6 1
   past-long n j h l = slow-long g (stateOf sh b .sync + j) (omega arith)
 
-  told-long : (j : ℕ) → stateOf sh b .sync + j ≤ log .count → length (toldBytes (stateOf sh b) (logIn msg log) j) ≡ lengthFor (sh .s) 6 1 * j
+  told-long : (j : ℕ) → stateOf sh b .sync + j ≤ log .count → length (toldBytes (stateOf sh b) (listedIn msg log) j) ≡ lengthFor (sh .s) 6 1 * j
   unfolding toldBytes
   told-long j h = sends-below past (lengthFor (sh .s) 6 1) j (λ i l. past-long j i h l)
 
@@ -125,29 +125,29 @@ module _ {sh : Shape} {b msg : List ℕ} {log : NewLog} (g : Coming sh b msg log
       let k : j < log .count - stateOf sh b .sync = rw z at l in
       omega (arith, within (lengthFor (sh .s) 6 1) j (log .count - stateOf sh b .sync) k)
 
-  pub told-turn : (sync j at r : ℕ) (out u v : List ℕ) → sync ≡ stateOf sh b .sync → sync + j < log .count → at ≡ lengthFor (sh .s) 6 1 * j → at ≤ length out → u ≡ splice out 0 (toldBytes (stateOf sh b) (logIn msg log) j)
-      → (r ≡ at + lengthFor (sh .s) 6 1) × (v ≡ splice u at (wireBytes (slowReply (stateOf sh b) (logIn msg log) (sync + j)))) → (r ≡ lengthFor (sh .s) 6 1 * (j + 1)) × (v ≡ splice out 0 (toldBytes (stateOf sh b) (logIn msg log) (j + 1)))
+  pub told-turn : (sync j at r : ℕ) (out u v : List ℕ) → sync ≡ stateOf sh b .sync → sync + j < log .count → at ≡ lengthFor (sh .s) 6 1 * j → at ≤ length out → u ≡ splice out 0 (toldBytes (stateOf sh b) (listedIn msg log) j)
+      → (r ≡ at + lengthFor (sh .s) 6 1) × (v ≡ splice u at (wireBytes (slowReply (stateOf sh b) (listedIn msg log) (sync + j)))) → (r ≡ lengthFor (sh .s) 6 1 * (j + 1)) × (v ≡ splice out 0 (toldBytes (stateOf sh b) (listedIn msg log) (j + 1)))
   unfolding toldBytes
   told-turn sync j at r out u v z l e w q k =
       let y : List ℕ = wireBytes (past j) in
       let a : at ≡ 0 + at = omega arith in
-      let m : v ≡ splice u (0 + at) y = k .1 ∙ ap (λ (i : ℕ). splice u at (wireBytes (slowReply (stateOf sh b) (logIn msg log) (i + j)))) z ∙ ap (λ (i : ℕ). splice u i y) a in
+      let m : v ≡ splice u (0 + at) y = k .1 ∙ ap (λ (i : ℕ). splice u at (wireBytes (slowReply (stateOf sh b) (listedIn msg log) (i + j)))) z ∙ ap (λ (i : ℕ). splice u i y) a in
       let t : length (flat wireBytes (sends past (below j))) ≡ at = told-long j (omega arith) ∙ sym e in
       (k .0 ∙ omega arith, splice-next out 0 at (flat wireBytes (sends past (below j))) y u v (omega arith) t q m ∙ ap (splice out 0) (sym (sends-more past j)))
 
-  pub told-all : (sync n j at : ℕ) (out u : List ℕ) → sync ≡ stateOf sh b .sync → n ≡ log .count - sync → j ≤ n → n ≤ j → at ≡ lengthFor (sh .s) 6 1 * j → u ≡ splice out 0 (toldBytes (stateOf sh b) (logIn msg log) j)
-      → (at ≡ length (flat wireBytes (slowReplies (stateOf sh b) (logIn msg log)))) × (u ≡ splice out 0 (flat wireBytes (slowReplies (stateOf sh b) (logIn msg log))))
+  pub told-all : (sync n j at : ℕ) (out u : List ℕ) → sync ≡ stateOf sh b .sync → n ≡ log .count - sync → j ≤ n → n ≤ j → at ≡ lengthFor (sh .s) 6 1 * j → u ≡ splice out 0 (toldBytes (stateOf sh b) (listedIn msg log) j)
+      → (at ≡ length (flat wireBytes (slowReplies (stateOf sh b) (listedIn msg log)))) × (u ≡ splice out 0 (flat wireBytes (slowReplies (stateOf sh b) (listedIn msg log))))
   unfolding toldBytes slowReplies
   told-all sync n j at out u z m h k e q =
-      let c : length (logIn msg log) ≡ log .count = length-items (entryAt msg) 24 (log .at) (log .count) in
-      let w : length (logIn msg log) - stateOf sh b .sync ≡ j = omega arith in
+      let c : length (listedIn msg log) ≡ log .count = length-items (entryAt msg) 24 (log .at) (log .count) in
+      let w : length (listedIn msg log) - stateOf sh b .sync ≡ j = omega arith in
       rw w (e ∙ sym (told-long j (omega (arith, g .past))), q)
 
   -- together
-  pub all-long : length (flat wireBytes (slowReplies (stateOf sh b) (logIn msg log))) ≡ lengthFor (sh .s) 6 1 * (log .count - stateOf sh b .sync)
+  pub all-long : length (flat wireBytes (slowReplies (stateOf sh b) (listedIn msg log))) ≡ lengthFor (sh .s) 6 1 * (log .count - stateOf sh b .sync)
   unfolding toldBytes slowReplies
   all-long =
-      let c : length (logIn msg log) ≡ log .count = length-items (entryAt msg) 24 (log .at) (log .count) in
+      let c : length (listedIn msg log) ≡ log .count = length-items (entryAt msg) 24 (log .at) (log .count) in
       rw c (told-long (log .count - stateOf sh b .sync) (omega (arith, g .past)))
 
   pub product : (sync k : ℕ) → sync ≡ num b 24 8 → k ≡ lengthFor (sh .s) 6 1 → (k * (log .count - sync) ≤ 360448) × (k * (log .count - sync) ≡ lengthFor (sh .s) 6 1 * (log .count - stateOf sh b .sync))

@@ -28,9 +28,9 @@ use Rattle.places.proofs.Head.{sync-of}
 use Rattle.handler.specs.Handler.{Ready, handled}
 use Rattle.handler.proofs.Told.{Told, told-length, told-entries, ready-told}
 use Rattle.handler.proofs.Closes.{closes-refused, closes-sent, closes-tight, handled-own}
-use Rattle.syncs.specs.Synced.{spotsOf, logIn, Lookup}
+use Rattle.leaving.specs.Listed.{spotsOf, listedIn, Lookup}
 use Rattle.syncs.specs.Takes.{lateBy, syncedBy, slowReplies, takes, Coming}
-use Rattle.syncs.specs.declared.NewLog.{NewLog}
+use Rattle.leaving.specs.declared.Listed.{Listed}
 use Rattle.syncs.proofs.Slow.{all-long}
 
 -- ---- the rule
@@ -64,12 +64,12 @@ module _ (sh : Shape) (st : State) (log : List Entry) (b out : List ℕ) where
 
 -- ---- the log in the message
 
-module _ {sh : Shape} {b msg : List ℕ} {log : NewLog} (g : Coming sh b msg log) where
+module _ {sh : Shape} {b msg : List ℕ} {log : Listed} (g : Coming sh b msg log) where
   abbrev st : State
   st = stateOf sh b
 
   abbrev entries : List Entry
-  entries = logIn msg log
+  entries = listedIn msg log
 
   long : length entries ≡ log .count
   long = length-items (entryAt msg) 24 (log .at) (log .count)
@@ -116,7 +116,7 @@ module _ (sh : Shape) (b msg out : List ℕ) (m : Message) (h : Header) (r : Rea
       omega arith
 
   module _ (at count : ℕ) (p : at ≡ entriesAt (sh .s) 4) (q : count ≡ num msg at 4) where
-    abbrev log : NewLog
+    abbrev log : Listed
     log = record { at = at + 4; count = count; filled = false }
 
     count-is : num msg (entriesAt (sh .s) 4) 4 ≡ count
@@ -125,10 +125,10 @@ module _ (sh : Shape) (b msg out : List ℕ) (m : Message) (h : Header) (r : Rea
     whole : length msg ≡ at + 4 + 24 * count
     whole = (rw tag at (told-length (sh .n) (sh .s) m msg here)) ∙ rw (count-is, ← p)
 
-    entries-are : wireIn (sh .s) msg .entries ≡ logIn msg log
+    entries-are : wireIn (sh .s) msg .entries ≡ listedIn msg log
     entries-are = (rw tag at (told-entries (sh .n) (sh .s) m msg here)) ∙ rw (count-is, ← p)
 
-    count-long : length (logIn msg log) ≡ count
+    count-long : length (listedIn msg log) ≡ count
     count-long = length-items (entryAt msg) 24 (at + 4) count
 
     by-rule : (o : Outcome) → onReplicaSync sh (stateOf sh b) (wireIn (sh .s) msg) ≡ o → closes sh b out o ≡ handled 4 onReplicaSync sh m b msg out
@@ -139,13 +139,13 @@ module _ (sh : Shape) (b msg out : List ℕ) (m : Message) (h : Header) (r : Rea
       sync-is = y ∙ sync-of (r .stands)
 
       pub not-longer : count ≤ sync → leaves 7 b out ≡ handled 4 onReplicaSync sh m b msg out
-      not-longer l = sym (closes-refused sh b out 7) ∙ by-rule (refused 7) (rule-old sh (stateOf sh b) _ (logIn msg log) entries-are (omega (arith, count-long, sync-is)))
+      not-longer l = sym (closes-refused sh b out 7) ∙ by-rule (refused 7) (rule-old sh (stateOf sh b) _ (listedIn msg log) entries-are (omega (arith, count-long, sync-is)))
 
       pub too-long : sync < count → sh .c < count → leaves 8 b out ≡ handled 4 onReplicaSync sh m b msg out
-      too-long l k = sym (closes-refused sh b out 8) ∙ by-rule (refused 8) (rule-long sh (stateOf sh b) _ (logIn msg log) entries-are (omega (arith, count-long, sync-is)) (omega (arith, count-long)))
+      too-long l k = sym (closes-refused sh b out 8) ∙ by-rule (refused 8) (rule-long sh (stateOf sh b) _ (listedIn msg log) entries-are (omega (arith, count-long, sync-is)) (omega (arith, count-long)))
 
       pub coming : sync < count → count ≤ sh .c → Coming sh b msg log
       coming l k = record { stands = r .stands; inside = omega (arith, whole); past = omega (arith, sync-is); room = k }
 
-      pub handled-so : sync < count → count ≤ sh .c → (x : Left) → x ≡ closes sh b out (takes sh (stateOf sh b) (logIn msg log)) → x ≡ handled 4 onReplicaSync sh m b msg out
-      handled-so l k x z = z ∙ by-rule (takes sh (stateOf sh b) (logIn msg log)) (rule-takes sh (stateOf sh b) _ (logIn msg log) entries-are (omega (arith, count-long, sync-is)) (omega (arith, count-long)))
+      pub handled-so : sync < count → count ≤ sh .c → (x : Left) → x ≡ closes sh b out (takes sh (stateOf sh b) (listedIn msg log)) → x ≡ handled 4 onReplicaSync sh m b msg out
+      handled-so l k x z = z ∙ by-rule (takes sh (stateOf sh b) (listedIn msg log)) (rule-takes sh (stateOf sh b) _ (listedIn msg log) entries-are (omega (arith, count-long, sync-is)) (omega (arith, count-long)))

@@ -11,7 +11,7 @@ use Rattle.rules.specs.Step.{Outcome, done, within, sends, synced, staysEarly, 
 use Rattle.rules.specs.declared.Entry.{Entry}
 use Rattle.rules.specs.declared.Shape.{Shape}
 use Rattle.places.specs.Layout.{Stands}
-use Rattle.syncs.specs.declared.NewLog.{NewLog}
+use Rattle.leaving.specs.declared.Listed.{Listed}
 
 -- what is left of late, and what falls to it from early
 unfoldable pub lateBy : State → List Entry → List Entry
@@ -30,7 +30,7 @@ unfoldable pub takes : Shape → State → List Entry → Outcome
 takes sh st log = within (sh .c) (length (lateBy st log)) (done (syncedBy st log) (slowReplies st log))
 
 -- the bytes are those of a good state, and the message has such a log
-pub record Coming (sh : Shape) (b msg : List ℕ) (log : NewLog) : Type 0 where
+pub record Coming (sh : Shape) (b msg : List ℕ) (log : Listed) : Type 0 where
   pub stands : Stands sh (stateOf sh b) b
   pub inside : log .at + 24 * log .count ≤ length msg
   pub past : stateOf sh b .sync < log .count

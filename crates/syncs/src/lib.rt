@@ -1,169 +1,50 @@
 // Kind 4, replica sync: the leader's log is taken over, and the entries that it synced leave early, late and the notes.
-use repeats::Spots;
+use leaving::Listed;
 use rules::Answer;
 use rules::Entry;
 use rules::Message;
 use rules::Shape;
 ghost use mathlib.Core.Path.{_≡_};
-ghost use mathlib.Core.Bool.{true, false, not};
+ghost use mathlib.Core.Bool.{true, false};
 ghost use mathlib.Core.List.{_∷_, [], _++_};
 ghost use Prim.Native.Nat.{_+_, _-_, _*_, _<_, _≤_};
-ghost use lib.ListN.{length, take, set};
+ghost use lib.ListN.{length};
 ghost use Rattle.octets.specs.Bytes.{splice, flat};
-ghost use Rattle.rules.specs.Choice.{pick, any, keep};
-ghost use Rattle.rules.specs.Entry.{noEntry, entryOf, lastStamp};
+ghost use Rattle.rules.specs.Choice.{pick, keep};
+ghost use Rattle.rules.specs.Entry.{entryOf, lastStamp};
 ghost use Rattle.rules.specs.Wire.{wireBytes};
 ghost use Rattle.rules.specs.Read.{lengthFor};
-ghost use Rattle.rules.specs.State.{noteOf};
-ghost use Rattle.rules.specs.Step.{notesWithout, slowReply, onReplicaSync};
+ghost use Rattle.rules.specs.Step.{slowReply, onReplicaSync};
 ghost use Rattle.rules.specs.Bytes.{left, closes};
-ghost use Rattle.rules.specs.Image.{noteLength, tableAt, image, stateOf};
-ghost use Rattle.entries.specs.First.{isOf};
-ghost use Rattle.entries.specs.Table.{Holds, Table};
-ghost use Rattle.notes.specs.Notes.{notesAt, noNote, noteIn, NotesHold, Notes};
+ghost use Rattle.rules.specs.Image.{image, stateOf};
 ghost use Rattle.places.specs.Layout.{Stands};
 ghost use Rattle.handler.specs.Handler.{Ready, handled};
-ghost use Rattle.syncs.specs.Synced as synced;
-ghost use Rattle.syncs.specs.Synced.{spotsOf, logIn, Lookup, stays};
+ghost use Rattle.leaving.specs.Listed as listing;
+ghost use Rattle.leaving.specs.Listed.{listedIn, Lookup};
 ghost use Rattle.syncs.specs.Buffers.{BothHold, earlyIn, lateIn, Both};
 ghost use Rattle.syncs.specs.Takes.{lateBy, syncedBy, slowReplies, takes, Coming};
-ghost use Rattle.syncs.specs.Moved.{moved, movedTo};
-
-// The log that the message brings: where its entries stand, how many there are, and whether the table beside it has a row for each.
-pub struct NewLog {
-    pub at: usize,
-    pub count: usize,
-    pub filled: bool,
-}
-
-// Where the transactions of the log stand.
-fn spots_of(log: NewLog) -> Spots
-    requires { ⌜ log .at + 16 < 18446744073709551616 ⌝ }
-    ensures { λ r. ⌜ r ≡ spotsOf log ⌝ }
-{
-    Spots {
-        first: log.at + 16,
-        first_count: log.count,
-        second: 0,
-        second_count: 0,
-        third: 0,
-        third_count: 0,
-        stride: 24,
-    }
-}
-
-// Whether a transaction is in the log. The search over all of it runs only where the table has not got every row.
-fn is_synced(message: &[u8], log: NewLog, table: &[u16], request: u32, coordinator: u16) -> bool
-    requires { ⌜ Lookup (now message) log (now table) ⌝ }
-    ensures { λ r. ⌜ r ≡ any (isOf request coordinator) (logIn (now (message .entry)) log) ⌝ }
-{
-    if log.filled {
-        let key = request as u64 + coordinator as u64 * 4294967296;
-        return repeats::find(message, spots_of(log), table, key) < log.count;
-    }
-    entries::find(message, log.at, log.count, request, coordinator) < log.count
-}
-
-// Whether an entry is not synced and its timestamp is below a bound, or, where `below` is false, from it on. The bound is tested first: it costs less.
-fn chosen(message: &[u8], log: NewLog, table: &[u16], below: bool, bound: u64, e: Entry) -> bool
-    requires { ⌜ Lookup (now message) log (now table) ⌝ }
-    ensures { λ r. ⌜ r ≡ synced.chosen (logIn (now (message .entry)) log) below bound e ⌝ }
-{
-    let placed = (below & (e.stamp < bound)) | (!below & (bound <= e.stamp));
-    if !placed {
-        return false;
-    }
-    !is_synced(message, log, table, e.request, e.coordinator)
-}
-
-// ---- one table
-
-// How many entries of a table are chosen.
-fn count_chosen(
-    t: &[u8],
-    c: usize,
-    message: &[u8],
-    log: NewLog,
-    table: &[u16],
-    below: bool,
-    bound: u64,
-) -> usize
-    requires { ⌜ Table c (now t) × Lookup (now message) log (now table) ⌝ }
-    ensures { λ r. ⌜ r ≡ length (keep (synced.chosen (logIn (now (message .entry)) log) below bound) (tableAt c (now (t .entry)) 0)) ⌝ }
-{
-    let n = entries::count(t);
-    let mut found = 0;
-    let mut i = 0;
-    while i < n {
-        let e = entries::entry_of(t, c, i);
-        if chosen(message, log, table, below, bound, e) {
-            found += 1;
-        }
-        i += 1;
-    }
-    found
-}
-
-// Moves entry i to place `kept` unless it is synced or below the bound, and tells how many are kept then.
-fn sift(
-    t: &mut [u8],
-    c: usize,
-    i: usize,
-    kept: usize,
-    message: &[u8],
-    log: NewLog,
-    table: &[u16],
-    bound: u64,
-) -> usize
-    requires { ⌜ Table c (now t) × (i < length (tableAt c (now t) 0)) × (kept ≤ i) × Lookup (now message) log (now table) ⌝ }
-    ensures { λ r. ⌜
-        Holds c (moved (synced.chosen (logIn (now (message .entry)) log) false bound) noEntry (tableAt c (now (t .entry)) 0) i kept) (now (t .exit))
-        × (r ≡ movedTo (synced.chosen (logIn (now (message .entry)) log) false bound) noEntry (tableAt c (now (t .entry)) 0) i kept) ⌝ }
-{
-    let e = entries::entry_of(t, c, i);
-    if !chosen(message, log, table, false, bound, e) {
-        return kept;
-    }
-    entries::replace_at(t, c, kept, e);
-    kept + 1
-}
-
-// Takes out of a table the entries that are synced or below the bound, in one pass.
-fn leave(t: &mut [u8], c: usize, message: &[u8], log: NewLog, table: &[u16], bound: u64)
-    requires { ⌜ Table c (now t) × Lookup (now message) log (now table) ⌝ }
-    ensures { λ _. ⌜ Holds c (keep (synced.chosen (logIn (now (message .entry)) log) false bound) (tableAt c (now (t .entry)) 0)) (now (t .exit)) ⌝ }
-{
-    let n = entries::count(t);
-    let mut kept = 0;
-    let mut i = 0;
-    while i < n {
-        kept = sift(t, c, i, kept, message, log, table, bound);
-        i += 1;
-    }
-    entries::truncate(t, c, kept);
-}
 
 // ---- early and late, one after the other in a slice
 
 // How long late becomes: what is not synced of late, and of early what is below the new log's last.
-fn late_after(t: &[u8], c: usize, message: &[u8], log: NewLog, table: &[u16], last: u64) -> usize
+fn late_after(t: &[u8], c: usize, message: &[u8], log: Listed, table: &[u16], last: u64) -> usize
     requires { ⌜ Both c (now t) × Lookup (now message) log (now table) ⌝ }
-    ensures { λ r. ⌜ r ≡ length (keep (synced.chosen (logIn (now (message .entry)) log) false 0) (lateIn c (now (t .entry)))) + length (keep (synced.chosen (logIn (now (message .entry)) log) true last) (earlyIn c (now (t .entry)))) ⌝ }
+    ensures { λ r. ⌜ r ≡ length (keep (listing.chosen (listedIn (now (message .entry)) log) false 0) (lateIn c (now (t .entry)))) + length (keep (listing.chosen (listedIn (now (message .entry)) log) true last) (earlyIn c (now (t .entry)))) ⌝ }
 {
     let half = 4 + 24 * c;
     let end = half + half;
-    let stay = count_chosen(&t[half..end], c, message, log, table, false, 0);
-    stay + count_chosen(&t[0..half], c, message, log, table, true, last)
+    let stay = leaving::count_chosen(&t[half..end], c, message, log, table, false, 0);
+    stay + leaving::count_chosen(&t[0..half], c, message, log, table, true, last)
 }
 
 // Puts early entry i after the last of late where it is not synced and below the new log's last.
-fn fall(t: &mut [u8], c: usize, i: usize, message: &[u8], log: NewLog, table: &[u16], last: u64)
-    requires { ⌜ Both c (now t) × (i < length (earlyIn c (now t))) × (synced.chosen (logIn (now message) log) true last (entryOf (earlyIn c (now t)) i) ≡ true → length (lateIn c (now t)) < c) × Lookup (now message) log (now table) ⌝ }
-    ensures { λ _. ⌜ BothHold c (earlyIn c (now (t .entry))) (lateIn c (now (t .entry)) ++ pick (synced.chosen (logIn (now (message .entry)) log) true last (entryOf (earlyIn c (now (t .entry))) i)) (entryOf (earlyIn c (now (t .entry))) i ∷ []) []) (now (t .exit)) ⌝ }
+fn fall(t: &mut [u8], c: usize, i: usize, message: &[u8], log: Listed, table: &[u16], last: u64)
+    requires { ⌜ Both c (now t) × (i < length (earlyIn c (now t))) × (listing.chosen (listedIn (now message) log) true last (entryOf (earlyIn c (now t)) i) ≡ true → length (lateIn c (now t)) < c) × Lookup (now message) log (now table) ⌝ }
+    ensures { λ _. ⌜ BothHold c (earlyIn c (now (t .entry))) (lateIn c (now (t .entry)) ++ pick (listing.chosen (listedIn (now (message .entry)) log) true last (entryOf (earlyIn c (now (t .entry))) i)) (entryOf (earlyIn c (now (t .entry))) i ∷ []) []) (now (t .exit)) ⌝ }
 {
     let half = 4 + 24 * c;
     let e = entries::entry_of(&t[0..half], c, i);
-    if !chosen(message, log, table, true, last, e) {
+    if !leaving::chosen(message, log, table, true, last, e) {
         return;
     }
     let end = half + half;
@@ -171,9 +52,9 @@ fn fall(t: &mut [u8], c: usize, i: usize, message: &[u8], log: NewLog, table: &[
 }
 
 // Puts the early entries that are not synced and below the new log's last after the last of late, in their order.
-fn fall_late(t: &mut [u8], c: usize, message: &[u8], log: NewLog, table: &[u16], last: u64)
-    requires { ⌜ Both c (now t) × (length (lateIn c (now t)) + length (keep (synced.chosen (logIn (now message) log) true last) (earlyIn c (now t))) ≤ c) × Lookup (now message) log (now table) ⌝ }
-    ensures { λ _. ⌜ BothHold c (earlyIn c (now (t .entry))) (lateIn c (now (t .entry)) ++ keep (synced.chosen (logIn (now (message .entry)) log) true last) (earlyIn c (now (t .entry)))) (now (t .exit)) ⌝ }
+fn fall_late(t: &mut [u8], c: usize, message: &[u8], log: Listed, table: &[u16], last: u64)
+    requires { ⌜ Both c (now t) × (length (lateIn c (now t)) + length (keep (listing.chosen (listedIn (now message) log) true last) (earlyIn c (now t))) ≤ c) × Lookup (now message) log (now table) ⌝ }
+    ensures { λ _. ⌜ BothHold c (earlyIn c (now (t .entry))) (lateIn c (now (t .entry)) ++ keep (listing.chosen (listedIn (now (message .entry)) log) true last) (earlyIn c (now (t .entry)))) (now (t .exit)) ⌝ }
 {
     let n = entries::count(t);
     let mut i = 0;
@@ -184,109 +65,17 @@ fn fall_late(t: &mut [u8], c: usize, message: &[u8], log: NewLog, table: &[u16],
 }
 
 // Synced entries leave early and late, and what is left of early below the new log's last goes to late.
-fn sync_buffers(t: &mut [u8], c: usize, message: &[u8], log: NewLog, table: &[u16], last: u64)
-    requires { ⌜ Both c (now t) × (length (keep (synced.chosen (logIn (now message) log) false 0) (lateIn c (now t))) + length (keep (synced.chosen (logIn (now message) log) true last) (earlyIn c (now t))) ≤ c) × Lookup (now message) log (now table) ⌝ }
+fn sync_buffers(t: &mut [u8], c: usize, message: &[u8], log: Listed, table: &[u16], last: u64)
+    requires { ⌜ Both c (now t) × (length (keep (listing.chosen (listedIn (now message) log) false 0) (lateIn c (now t))) + length (keep (listing.chosen (listedIn (now message) log) true last) (earlyIn c (now t))) ≤ c) × Lookup (now message) log (now table) ⌝ }
     ensures { λ _. ⌜
-        BothHold c (keep (synced.chosen (logIn (now (message .entry)) log) false last) (earlyIn c (now (t .entry))))
-        (keep (synced.chosen (logIn (now (message .entry)) log) false 0) (lateIn c (now (t .entry))) ++ keep (synced.chosen (logIn (now (message .entry)) log) true last) (earlyIn c (now (t .entry)))) (now (t .exit)) ⌝ }
+        BothHold c (keep (listing.chosen (listedIn (now (message .entry)) log) false last) (earlyIn c (now (t .entry))))
+        (keep (listing.chosen (listedIn (now (message .entry)) log) false 0) (lateIn c (now (t .entry))) ++ keep (listing.chosen (listedIn (now (message .entry)) log) true last) (earlyIn c (now (t .entry)))) (now (t .exit)) ⌝ }
 {
     let half = 4 + 24 * c;
     let end = half + half;
-    leave(&mut t[half..end], c, message, log, table, 0);
+    leaving::leave(&mut t[half..end], c, message, log, table, 0);
     fall_late(t, c, message, log, table, last);
-    leave(&mut t[0..half], c, message, log, table, last);
-}
-
-// ---- the notes
-
-// Where note i stands.
-fn note_place(s: usize, i: usize) -> usize
-    requires { ⌜ (s ≤ 8) × (i ≤ 4096) ⌝ }
-    ensures { λ r. ⌜ (r ≡ 4 + noteLength s * i) × (r ≤ 319492) ⌝ }
-{
-    4 + (6 + 9 * s) * i
-}
-
-// Whether the transaction of note i is in the log.
-fn note_synced(
-    t: &[u8],
-    c: usize,
-    s: usize,
-    i: usize,
-    message: &[u8],
-    log: NewLog,
-    table: &[u16],
-) -> bool
-    requires { ⌜ Notes c s (now t) × (i < length (notesAt c s (now t))) × Lookup (now message) log (now table) ⌝ }
-    ensures { λ r. ⌜ r ≡ any (λ e. noteOf e (noteIn (notesAt c s (now (t .entry))) i)) (logIn (now (message .entry)) log) ⌝ }
-{
-    let at = note_place(s, i);
-    is_synced(
-        message,
-        log,
-        table,
-        octets::get32(t, at),
-        octets::get16(t, at + 4),
-    )
-}
-
-// Puts note i in the place of an earlier one.
-fn move_note(t: &mut [u8], c: usize, s: usize, kept: usize, i: usize)
-    requires { ⌜ Notes c s (now t) × (i < length (notesAt c s (now t))) × (kept ≤ i) ⌝ }
-    ensures { λ _. ⌜ NotesHold c s (set (notesAt c s (now (t .entry))) kept (noteIn (notesAt c s (now (t .entry))) i)) (now (t .exit)) ⌝ }
-{
-    let to = note_place(s, kept);
-    let from = note_place(s, i);
-    octets::move_down(t, to, from, 6 + 9 * s);
-}
-
-// Takes out the notes from place n on.
-fn truncate_notes(t: &mut [u8], c: usize, s: usize, n: usize)
-    requires { ⌜ Notes c s (now t) × (n ≤ length (notesAt c s (now t))) ⌝ }
-    ensures { λ _. ⌜ NotesHold c s (take n (notesAt c s (now (t .entry)))) (now (t .exit)) ⌝ }
-{
-    let m = notes::count(t);
-    let from = note_place(s, n);
-    octets::fill_zero(t, from, note_place(s, m) - from);
-    octets::put32(t, 0, n as u32);
-}
-
-// Moves note i to place `kept` unless its transaction is synced, and tells how many are kept then.
-fn sift_note(
-    t: &mut [u8],
-    c: usize,
-    s: usize,
-    i: usize,
-    kept: usize,
-    message: &[u8],
-    log: NewLog,
-    table: &[u16],
-) -> usize
-    requires { ⌜ Notes c s (now t) × (i < length (notesAt c s (now t))) × (kept ≤ i) × Lookup (now message) log (now table) ⌝ }
-    ensures { λ r. ⌜
-        NotesHold c s (moved (stays (logIn (now (message .entry)) log)) noNote (notesAt c s (now (t .entry))) i kept) (now (t .exit))
-        × (r ≡ movedTo (stays (logIn (now (message .entry)) log)) noNote (notesAt c s (now (t .entry))) i kept) ⌝ }
-{
-    if note_synced(t, c, s, i, message, log, table) {
-        return kept;
-    }
-    move_note(t, c, s, kept, i);
-    kept + 1
-}
-
-// Takes out the notes of synced transactions, in one pass.
-fn leave_notes(t: &mut [u8], c: usize, s: usize, message: &[u8], log: NewLog, table: &[u16])
-    requires { ⌜ Notes c s (now t) × Lookup (now message) log (now table) ⌝ }
-    ensures { λ _. ⌜ NotesHold c s (notesWithout (logIn (now (message .entry)) log) (notesAt c s (now (t .entry)))) (now (t .exit)) ⌝ }
-{
-    let n = notes::count(t);
-    let mut kept = 0;
-    let mut i = 0;
-    while i < n {
-        kept = sift_note(t, c, s, i, kept, message, log, table);
-        i += 1;
-    }
-    truncate_notes(t, c, s, kept);
+    leaving::leave(&mut t[0..half], c, message, log, table, last);
 }
 
 // ---- the state
@@ -296,12 +85,12 @@ fn late_length(
     shape: Shape,
     state: &[u8],
     message: &[u8],
-    log: NewLog,
+    log: Listed,
     table: &[u16],
     last: u64,
 ) -> usize
-    requires { ⌜ Stands shape (stateOf shape (now state)) (now state) × Lookup (now message) log (now table) × (last ≡ lastStamp (logIn (now message) log)) ⌝ }
-    ensures { λ r. ⌜ r ≡ length (lateBy (stateOf shape (now (state .entry))) (logIn (now (message .entry)) log)) ⌝ }
+    requires { ⌜ Stands shape (stateOf shape (now state)) (now state) × Lookup (now message) log (now table) × (last ≡ lastStamp (listedIn (now message) log)) ⌝ }
+    ensures { λ r. ⌜ r ≡ length (lateBy (stateOf shape (now (state .entry))) (listedIn (now (message .entry)) log)) ⌝ }
 {
     let places = places::places_of(shape);
     let early = places.early;
@@ -317,9 +106,9 @@ fn late_length(
 }
 
 // Takes the log over: synced entries leave early, late and the notes, and the sync point becomes the log's length.
-fn sync_state(shape: Shape, state: &mut [u8], message: &[u8], log: NewLog, table: &[u16], last: u64)
-    requires { ⌜ Stands shape (stateOf shape (now state)) (now state) × Lookup (now message) log (now table) × (last ≡ lastStamp (logIn (now message) log)) × (log .count ≤ shape .c) × (length (lateBy (stateOf shape (now state)) (logIn (now message) log)) ≤ shape .c) ⌝ }
-    ensures { λ _. ⌜ now (state .exit) ≡ image shape (syncedBy (stateOf shape (now (state .entry))) (logIn (now (message .entry)) log)) ⌝ }
+fn sync_state(shape: Shape, state: &mut [u8], message: &[u8], log: Listed, table: &[u16], last: u64)
+    requires { ⌜ Stands shape (stateOf shape (now state)) (now state) × Lookup (now message) log (now table) × (last ≡ lastStamp (listedIn (now message) log)) × (log .count ≤ shape .c) × (length (lateBy (stateOf shape (now state)) (listedIn (now message) log)) ≤ shape .c) ⌝ }
+    ensures { λ _. ⌜ now (state .exit) ≡ image shape (syncedBy (stateOf shape (now (state .entry))) (listedIn (now (message .entry)) log)) ⌝ }
 {
     let places = places::places_of(shape);
     let early = places.early;
@@ -327,7 +116,7 @@ fn sync_state(shape: Shape, state: &mut [u8], message: &[u8], log: NewLog, table
     let votes = places.votes;
     let c = shape.c as usize;
     sync_buffers(&mut state[early..notes], c, message, log, table, last);
-    leave_notes(
+    leaving::leave_notes(
         &mut state[notes..votes],
         c,
         shape.s as usize,
@@ -348,11 +137,11 @@ fn tell_slow(
     out: &mut [u8],
     at: usize,
     message: &[u8],
-    log: NewLog,
+    log: Listed,
     i: usize,
 ) -> usize
     requires { ⌜ Coming shape (now state) (now message) log × (i < log .count) × (at + lengthFor (shape .s) 6 1 ≤ length (now out)) ⌝ }
-    ensures { λ r. ⌜ (r ≡ at + lengthFor (shape .s) 6 1) × (now (out .exit) ≡ splice (now (out .entry)) at (wireBytes (slowReply (stateOf shape (now (state .entry))) (logIn (now (message .entry)) log) i))) ⌝ }
+    ensures { λ r. ⌜ (r ≡ at + lengthFor (shape .s) 6 1) × (now (out .exit) ≡ splice (now (out .entry)) at (wireBytes (slowReply (stateOf shape (now (state .entry))) (listedIn (now (message .entry)) log) i))) ⌝ }
 {
     let from = log.at + 24 * i;
     let end = from + 24;
@@ -362,7 +151,7 @@ fn tell_slow(
 }
 
 // How long the outgoing messages are: one for each position past the sync point.
-fn slow_length(shape: Shape, state: &[u8], message: &[u8], log: NewLog) -> usize
+fn slow_length(shape: Shape, state: &[u8], message: &[u8], log: Listed) -> usize
     requires { ⌜ Coming shape (now state) (now message) log ⌝ }
     ensures { λ r. ⌜ r ≡ lengthFor (shape .s) 6 1 * (log .count - stateOf shape (now (state .entry)) .sync) ⌝ }
 {
@@ -371,9 +160,9 @@ fn slow_length(shape: Shape, state: &[u8], message: &[u8], log: NewLog) -> usize
 }
 
 // Writes kind 6 for each position past the sync point, and says where the last ends.
-fn tell_synced(shape: Shape, state: &[u8], out: &mut [u8], message: &[u8], log: NewLog) -> usize
+fn tell_synced(shape: Shape, state: &[u8], out: &mut [u8], message: &[u8], log: Listed) -> usize
     requires { ⌜ Coming shape (now state) (now message) log × (lengthFor (shape .s) 6 1 * (log .count - stateOf shape (now state) .sync) ≤ length (now out)) ⌝ }
-    ensures { λ r. ⌜ (r ≡ length (flat wireBytes (slowReplies (stateOf shape (now (state .entry))) (logIn (now (message .entry)) log)))) × (now (out .exit) ≡ splice (now (out .entry)) 0 (flat wireBytes (slowReplies (stateOf shape (now (state .entry))) (logIn (now (message .entry)) log)))) ⌝ }
+    ensures { λ r. ⌜ (r ≡ length (flat wireBytes (slowReplies (stateOf shape (now (state .entry))) (listedIn (now (message .entry)) log)))) × (now (out .exit) ≡ splice (now (out .entry)) 0 (flat wireBytes (slowReplies (stateOf shape (now (state .entry))) (listedIn (now (message .entry)) log)))) ⌝ }
 {
     let sync = places::get_sync(state) as usize;
     let n = log.count - sync;
@@ -394,11 +183,11 @@ fn sync_by(
     state: &mut [u8],
     message: &[u8],
     out: &mut [u8],
-    log: NewLog,
+    log: Listed,
     table: &[u16],
 ) -> Answer
     requires { ⌜ Coming shape (now state) (now message) log × Lookup (now message) log (now table) ⌝ }
-    ensures { λ r. ⌜ left r (now (state .exit)) (now (out .exit)) ≡ closes shape (now (state .entry)) (now (out .entry)) (takes shape (stateOf shape (now (state .entry))) (logIn (now (message .entry)) log)) ⌝ }
+    ensures { λ r. ⌜ left r (now (state .exit)) (now (out .exit)) ≡ closes shape (now (state .entry)) (now (out .entry)) (takes shape (stateOf shape (now (state .entry))) (listedIn (now (message .entry)) log)) ⌝ }
 {
     let last = octets::get64(message, log.at + 24 * (log.count - 1));
     let late = late_length(shape, state, message, log, table, last);
@@ -419,14 +208,14 @@ fn sync_with(
     state: &mut [u8],
     message: &[u8],
     out: &mut [u8],
-    log: NewLog,
+    log: Listed,
     table: &mut [u16],
 ) -> Answer
     requires { ⌜ Coming shape (now state) (now message) log ⌝ }
-    ensures { λ r. ⌜ left r (now (state .exit)) (now (out .exit)) ≡ closes shape (now (state .entry)) (now (out .entry)) (takes shape (stateOf shape (now (state .entry))) (logIn (now (message .entry)) log)) ⌝ }
+    ensures { λ r. ⌜ left r (now (state .exit)) (now (out .exit)) ≡ closes shape (now (state .entry)) (now (out .entry)) (takes shape (stateOf shape (now (state .entry))) (listedIn (now (message .entry)) log)) ⌝ }
 {
-    let filled = repeats::fill(message, spots_of(log), table);
-    let known = NewLog {
+    let filled = repeats::fill(message, leaving::spots_of(log), table);
+    let known = Listed {
         at: log.at,
         count: log.count,
         filled,
@@ -435,36 +224,36 @@ fn sync_with(
 }
 
 // With a table for at most 256 rows.
-fn sync_few(shape: Shape, state: &mut [u8], message: &[u8], out: &mut [u8], log: NewLog) -> Answer
+fn sync_few(shape: Shape, state: &mut [u8], message: &[u8], out: &mut [u8], log: Listed) -> Answer
     requires { ⌜ Coming shape (now state) (now message) log ⌝ }
-    ensures { λ r. ⌜ left r (now (state .exit)) (now (out .exit)) ≡ closes shape (now (state .entry)) (now (out .entry)) (takes shape (stateOf shape (now (state .entry))) (logIn (now (message .entry)) log)) ⌝ }
+    ensures { λ r. ⌜ left r (now (state .exit)) (now (out .exit)) ≡ closes shape (now (state .entry)) (now (out .entry)) (takes shape (stateOf shape (now (state .entry))) (listedIn (now (message .entry)) log)) ⌝ }
 {
     let mut table = [65535u16; 576];
     sync_with(shape, state, message, out, log, &mut table)
 }
 
 // With a table for at most 1,536 rows.
-fn sync_more(shape: Shape, state: &mut [u8], message: &[u8], out: &mut [u8], log: NewLog) -> Answer
+fn sync_more(shape: Shape, state: &mut [u8], message: &[u8], out: &mut [u8], log: Listed) -> Answer
     requires { ⌜ Coming shape (now state) (now message) log ⌝ }
-    ensures { λ r. ⌜ left r (now (state .exit)) (now (out .exit)) ≡ closes shape (now (state .entry)) (now (out .entry)) (takes shape (stateOf shape (now (state .entry))) (logIn (now (message .entry)) log)) ⌝ }
+    ensures { λ r. ⌜ left r (now (state .exit)) (now (out .exit)) ≡ closes shape (now (state .entry)) (now (out .entry)) (takes shape (stateOf shape (now (state .entry))) (listedIn (now (message .entry)) log)) ⌝ }
 {
     let mut table = [65535u16; 4160];
     sync_with(shape, state, message, out, log, &mut table)
 }
 
 // With a table for the largest capacity.
-fn sync_many(shape: Shape, state: &mut [u8], message: &[u8], out: &mut [u8], log: NewLog) -> Answer
+fn sync_many(shape: Shape, state: &mut [u8], message: &[u8], out: &mut [u8], log: Listed) -> Answer
     requires { ⌜ Coming shape (now state) (now message) log ⌝ }
-    ensures { λ r. ⌜ left r (now (state .exit)) (now (out .exit)) ≡ closes shape (now (state .entry)) (now (out .entry)) (takes shape (stateOf shape (now (state .entry))) (logIn (now (message .entry)) log)) ⌝ }
+    ensures { λ r. ⌜ left r (now (state .exit)) (now (out .exit)) ≡ closes shape (now (state .entry)) (now (out .entry)) (takes shape (stateOf shape (now (state .entry))) (listedIn (now (message .entry)) log)) ⌝ }
 {
     let mut table = [65535u16; 10304];
     sync_with(shape, state, message, out, log, &mut table)
 }
 
 // With a table by the log's length: a short one must not pay for a large table.
-fn sync_sized(shape: Shape, state: &mut [u8], message: &[u8], out: &mut [u8], log: NewLog) -> Answer
+fn sync_sized(shape: Shape, state: &mut [u8], message: &[u8], out: &mut [u8], log: Listed) -> Answer
     requires { ⌜ Coming shape (now state) (now message) log ⌝ }
-    ensures { λ r. ⌜ left r (now (state .exit)) (now (out .exit)) ≡ closes shape (now (state .entry)) (now (out .entry)) (takes shape (stateOf shape (now (state .entry))) (logIn (now (message .entry)) log)) ⌝ }
+    ensures { λ r. ⌜ left r (now (state .exit)) (now (out .exit)) ≡ closes shape (now (state .entry)) (now (out .entry)) (takes shape (stateOf shape (now (state .entry))) (listedIn (now (message .entry)) log)) ⌝ }
 {
     if log.count <= 256 {
         return sync_few(shape, state, message, out, log);
@@ -497,7 +286,7 @@ pub fn on_replica_sync(
     if shape.c < count as u64 {
         return Answer::Refused(8);
     }
-    let log = NewLog {
+    let log = Listed {
         at: place + 4,
         count,
         filled: false,

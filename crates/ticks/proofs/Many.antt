@@ -1,39 +1,26 @@
 -- Releases one after the other, each with its reply. Assumes nothing.
 use Prim.Native.Nat.{ℕ, suc, _+_, _*_, _≤_, _<_}
 use mathlib.Core.Path.{_≡_, refl, sym, ap, ap₂, _∙_}
-use mathlib.Core.Bool.{Bool, true, false, _&&_, _||_, not}
 use mathlib.Core.List.{List, [], _∷_, _++_, append-assoc, append-nil}
 use native.Mathlib.Omega.{arith}
 use native.Mathlib.Numerals.{add-one}
 use lib.ListN.{length, take, drop, length-append, List·getD-append}
-use lib.Seq.{take-suc, take-all, take-append-le, getD-drop, getD-take, getD-append-add, length-take-le}
+use lib.Seq.{drop-at, take-suc, take-all, take-append-le, getD-take, getD-append-add, length-take-le}
 use Rattle.octets.specs.Bytes.{flat}
-use Rattle.rules.specs.Choice.{pick, any, below}
-use Rattle.rules.specs.Entry.{noEntry, entryOf}
-use Rattle.rules.specs.Log.{distinct}
+use Rattle.rules.specs.Choice.{pick, below}
+use Rattle.rules.specs.Entry.{noEntry, entryOf, without}
 use Rattle.rules.specs.Wire.{Wire, wireBytes}
 use Rattle.rules.specs.Read.{lengthFor}
 use Rattle.rules.specs.Digest.{digest}
-use Rattle.rules.specs.State.{Note, State, noteOf}
+use Rattle.rules.specs.State.{State}
 use Rattle.rules.specs.Step.{sends, sendOut, dueBy, notesWithout, released, placedReply, placedReplies}
 use Rattle.rules.specs.declared.Entry.{Entry}
-use Rattle.rules.proofs.Choice.{any-append, all-map}
-use Rattle.due.proofs.Kept.{keep-ext, keep-keep, without-none, without-next, due-rest}
+use Rattle.rules.proofs.Choice.{all-map}
+use Rattle.due.proofs.Kept.{without-none}
 use Rattle.notes.proofs.Leaving as notes
+use Rattle.places.specs.With.{withLog, withEarly, withNotes}
 use Rattle.handler.proofs.Rows.{all-below, flat-ext, sends-flat, sends-below, sends-more}
 use Rattle.handler.proofs.Sends.{sent-length}
-
--- ---- the notes of one transaction more leave
-
-notes-more : (ds : List Entry) (xs : List Note) (d : Entry) → notesWithout (ds ++ (d ∷ [])) xs ≡ notesWithout (d ∷ []) (notesWithout ds xs)
-notes-more ds xs d =
-    keep-ext (λ x. not (any (λ e. noteOf e x) (ds ++ (d ∷ [])))) (λ x. not (any (λ e. noteOf e x) ds) && not (any (λ e. noteOf e x) (d ∷ [])))
-    (λ x. ap not (any-append (λ e. noteOf e x) ds (d ∷ [])) ∙ neither (any (λ e. noteOf e x) ds) (any (λ e. noteOf e x) (d ∷ []))) xs
-    ∙ sym (keep-keep (λ x. not (any (λ e. noteOf e x) ds)) (λ x. not (any (λ e. noteOf e x) (d ∷ []))) xs)
-  where
-    neither : (a b : Bool) → not (a || b) ≡ (not a && not b)
-    neither true b = refl
-    neither false b = refl
 
 -- ---- the replies
 
@@ -95,28 +82,28 @@ module _ (st : State) (time : ℕ) where
   abbrev pub dues : List Entry
   dues = dueBy time (st .early)
 
-  -- once the first i are released
-  abbrev pub after : ℕ → State
-  after i = released st (st .clock) (st .sync) (take i dues)
+  -- with the first i of them at the end of the log
+  abbrev pub longer : ℕ → State
+  longer i = withLog st (st .log ++ take i dues)
 
-  pub after-start : after 0 ≡ st
-  after-start = rw (append-nil (st .log), without-none (st .early), notes.without-none (st .notes))
+  pub longer-start : longer 0 ≡ st
+  longer-start = rw (append-nil (st .log))
 
-  module _ (d : distinct (st .early) ≡ true) (i : ℕ) (l : i < length dues) where
-    pub after-due : dueBy time (after i .early) ≡ drop i dues
-    after-due = due-rest time (st .early) d i
+  pub longer-log : (i : ℕ) → i < length dues → (st .log ++ take i dues) ++ (entryOf dues i ∷ []) ≡ st .log ++ take (i + 1) dues
+  longer-log i l = append-assoc (st .log) (take i dues) (entryOf dues i ∷ []) ∙ rw add-one (ap (λ (x : List Entry). st .log ++ x) (sym (take-suc dues i noEntry l)))
 
-    pub after-first : entryOf (dueBy time (after i .early)) 0 ≡ entryOf dues i
-    after-first = ap (λ (es : List Entry). entryOf es 0) after-due ∙ rw getD-drop (ap (entryOf dues) (omega arith))
+  pub longer-next : (i : ℕ) → i < length dues → withLog (longer i) (longer i .log ++ (entryOf dues i ∷ [])) ≡ longer (i + 1)
+  longer-next i l = ap (withLog st) (longer-log i l)
 
-    pub after-log : (e : Entry) → e ≡ entryOf dues i → (st .log ++ take i dues) ++ (e ∷ []) ≡ st .log ++ take (i + 1) dues
-    after-log e h = append-assoc (st .log) (take i dues) (e ∷ []) ∙ rw (h, add-one) (ap (λ (x : List Entry). st .log ++ x) (sym (take-suc dues i noEntry l)))
+  -- those that are new in it
+  pub longer-rest : (n i : ℕ) → n ≡ length (st .log) → drop n (longer i .log) ≡ take i dues
+  longer-rest n i e = drop-at (st .log) (take i dues) n (sym e)
 
-    after-notes : (e : Entry) → e ≡ entryOf dues i → notesWithout (e ∷ []) (notesWithout (take i dues) (st .notes)) ≡ notesWithout (take (i + 1) dues) (st .notes)
-    after-notes e h = sym (notes-more (take i dues) (st .notes) e) ∙ rw (h, add-one) (ap (λ (x : List Entry). notesWithout x (st .notes)) (sym (take-suc dues i noEntry l)))
+  -- once they left early and the notes they are released
+  pub longer-released : (n i : ℕ) → n ≡ length (st .log)
+      → withNotes (withEarly (longer i) (without (drop n (longer i .log)) (st .early))) (notesWithout (drop n (longer i .log)) (st .notes)) ≡ released st (st .clock) (st .sync) (take i dues)
+  longer-released n i e = ap (λ (gone : List Entry). withNotes (withEarly (longer i) (without gone (st .early))) (notesWithout gone (st .notes))) (longer-rest n i e)
 
-    pub after-next : released (after i) (st .clock) (st .sync) (entryOf (dueBy time (after i .early)) 0 ∷ []) ≡ after (i + 1)
-    after-next =
-        let e = entryOf (dueBy time (after i .early)) 0 in
-        let h : e ≡ entryOf dues i = after-first in
-        rw (after-log e h, after-notes e h, h, ← without-next dues (st .early) i l)
+  -- none is released
+  pub released-none : released st (st .clock) (st .sync) (take 0 dues) ≡ st
+  released-none = rw (append-nil (st .log), without-none (st .early), notes.without-none (st .notes))

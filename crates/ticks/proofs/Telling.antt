@@ -31,7 +31,7 @@ use Rattle.places.proofs.Head.{get-head}
 use Rattle.handler.specs.Sending.{messageBytes, headedIn}
 use Rattle.handler.proofs.Sends.{sender, sent-length, message-sent, own-group, own-replica, view-in}
 use Rattle.releases.specs.Midway.{Midway}
-use Rattle.releases.proofs.LogBytes.{log-bytes, log-entry, early-entry}
+use Rattle.releases.proofs.LogBytes.{log-rest, log-entry, early-entry}
 
 -- how long a message is
 pub placed-long : (s : ℕ) → lengthFor s 5 1 ≡ 72 + 4 * s
@@ -110,7 +110,7 @@ module _ {sh : Shape} {b : List ℕ} (m : Midway sh b) where
   -- ---- the log, to all followers
   module _ (from end : ℕ) (hf : from ≡ startOf sh 3 + 4) (he : end ≡ from + 24 * length (stateOf sh b .log)) where
     whole-bytes : take (end - from) (drop from b) ≡ flat entryBytes (stateOf sh b .log)
-    whole-bytes = log-bytes (m .laid) (m .state .log .room) from end hf he
+    whole-bytes = log-rest (m .laid) (m .state .log .room) 0 (length (stateOf sh b .log)) from (end - from) (omega arith) (omega arith) (omega arith)
 
     pub log-room : (at L : ℕ) → at + lengthFor (sh .s) 4 (length (stateOf sh b .log)) ≤ L
         → Sized sh b × (24 * (length (take (end - from) (drop from b)) / 24) ≡ length (take (end - from) (drop from b))) × (length (take (end - from) (drop from b)) ≤ 98304) × (at + (24 + 4 * sh .s + 8 * 0 + length (take (end - from) (drop from b))) ≤ L)

@@ -4,24 +4,32 @@ use mathlib.Core.Path.{_≡_, refl, sym, ap, subst, _∙_}
 use mathlib.Core.List.{List, [], _∷_, _++_, append-nil}
 use native.Mathlib.Omega.{arith}
 use native.Mathlib.Nat.{mul-add, mul-one}
-use lib.ListN.{length, take, drop, length-append, length-drop}
+use lib.ListN.{length, take, drop, length-append}
 use lib.Seq.{getD-append-add, getD-take, length-take-le}
 use Rattle.octets.specs.Bytes.{flat, splice}
 use Rattle.octets.proofs.Laws.{length-splice, splice-none, splice-next}
 use Rattle.rules.specs.Choice.{below}
-use Rattle.rules.specs.Entry.{noEntry, entryOf}
+use Rattle.rules.specs.Entry.{noEntry, entryOf, without}
 use Rattle.rules.specs.Wire.{wireBytes}
 use Rattle.rules.specs.Read.{lengthFor}
 use Rattle.rules.specs.Digest.{digest}
 use Rattle.rules.specs.State.{State}
 use Rattle.rules.specs.Image.{stateOf}
-use Rattle.rules.specs.Step.{sends, sendOut, dueBy, released, placedReplies}
+use Rattle.rules.specs.Step.{sends, sendOut, dueBy, notesWithout, placedReplies}
 use Rattle.rules.specs.declared.Entry.{Entry}
 use Rattle.rules.specs.declared.Shape.{Shape}
+use Rattle.places.specs.With.{withLog, withEarly, withNotes}
 use Rattle.places.proofs.Rows.{within}
-use Rattle.releases.specs.Midway.{Midway, Reaches}
+use Rattle.releases.specs.Midway.{Midway, Reaches, Cleared}
 use Rattle.ticks.specs.Released.{Released}
-use Rattle.ticks.proofs.Many.{dues, after, after-start, after-due, after-log, after-first, after-next, replies-more, replies-length}
+use Rattle.ticks.proofs.Many.{dues, longer, longer-start, longer-log, longer-next, longer-rest, longer-released, released-none, replies-more, replies-length}
+
+-- from the state in b, once the first i entries due by a time are at the end of the log: the state, and the replies, which end at r
+pub record Appended (sh : Shape) (b out : List ℕ) (time i r : ℕ) (b′ out′ : List ℕ) : Type 0 where
+  pub reached : Reaches sh (longer (stateOf sh b) time i) b′
+  pub end : r ≡ lengthFor (sh .s) 5 1 * i
+  pub replies : out′ ≡ splice out 0 (flat wireBytes (placedReplies (stateOf sh b) (take i (dues (stateOf sh b) time))))
+  pub long : length out′ ≡ length out
 
 module _ {sh : Shape} {b₀ : List ℕ} (m : Midway sh b₀) (out₀ : List ℕ) (time : ℕ) where
   abbrev st : State
@@ -30,12 +38,12 @@ module _ {sh : Shape} {b₀ : List ℕ} (m : Midway sh b₀) (out₀ : List ℕ)
   abbrev ds : List Entry
   ds = dues st time
 
-  -- none is released yet
-  pub turn-start : Released sh b₀ out₀ time 0 0 b₀ out₀
+  -- none is there yet
+  pub turn-start : Appended sh b₀ out₀ time 0 0 b₀ out₀
   unfolding flat sends below
   turn-start =
       record {
-        reached = record { is = sym (after-start st time); midway = m };
+        reached = record { is = sym (longer-start st time); midway = m };
         end = omega arith;
         replies = sym (splice-none out₀ 0);
         long = refl;
@@ -45,7 +53,7 @@ module _ {sh : Shape} {b₀ : List ℕ} (m : Midway sh b₀) (out₀ : List ℕ)
   sum-start sum e = e ∙ ap digest (sym (append-nil (st .log)))
 
   module _ (n k : ℕ) (hn : n ≡ length (st .log)) (hk : k ≤ length ds) (hc : n + k ≤ sh .c) (ho : lengthFor (sh .s) 5 1 * k ≤ length out₀)
-      (i at sum : ℕ) {b out : List ℕ} (l : i < k) (r : Released sh b₀ out₀ time i at b out) (hs : sum ≡ digest (st .log ++ take i ds)) where
+      (i at sum : ℕ) {b out : List ℕ} (l : i < k) (r : Appended sh b₀ out₀ time i at b out) (hs : sum ≡ digest (st .log ++ take i ds)) where
     less : i < length ds
     less = omega arith
 
@@ -53,26 +61,26 @@ module _ {sh : Shape} {b₀ : List ℕ} (m : Midway sh b₀) (out₀ : List ℕ)
     long-log j h = length-append (st .log) (take j ds) ∙ ap (λ (x : ℕ). length (st .log) + x) (length-take-le j ds h) ∙ ap (λ (x : ℕ). x + j) (sym hn)
 
     -- what the next release asks for
-    pub turn-asks : Midway sh b × (n + i ≡ length (stateOf sh b .log)) × (n + i < sh .c) × (0 < length (dueBy time (stateOf sh b .early))) × (sum ≡ digest (stateOf sh b .log))
+    pub turn-asks : Midway sh b × (n + i ≡ length (stateOf sh b .log)) × (n + i < sh .c) × (i < length (dueBy time (stateOf sh b .early))) × (drop n (stateOf sh b .log) ≡ take i (dueBy time (stateOf sh b .early))) × (sum ≡ digest (stateOf sh b .log))
     turn-asks =
-        let e : stateOf sh b ≡ after st time i = r .reached .is in
+        let e : stateOf sh b ≡ longer st time i = r .reached .is in
         let a : length (stateOf sh b .log) ≡ n + i = ap (λ (x : State). length (x .log)) e ∙ long-log i (omega (arith, less)) in
-        let d : length (dueBy time (stateOf sh b .early)) ≡ length (drop i ds) = ap (λ (x : State). length (dueBy time (x .early))) e ∙ ap length (after-due st time (m .early) i less) in
-        let z : length (drop i ds) ≡ length ds - i = length-drop i ds in
-        (r .reached .midway, sym a, omega arith, omega (arith, less), hs ∙ ap (λ (x : State). digest (x .log)) (sym e))
+        let d : length (dueBy time (stateOf sh b .early)) ≡ length ds = ap (λ (x : State). length (dueBy time (x .early))) e in
+        let g : drop n (stateOf sh b .log) ≡ take i (dueBy time (stateOf sh b .early)) = ap (λ (x : State). drop n (x .log)) e ∙ longer-rest st time n i hn ∙ ap (λ (x : State). take i (dueBy time (x .early))) (sym e) in
+        (r .reached .midway, sym a, omega arith, omega (arith, less), g, hs ∙ ap (λ (x : State). digest (x .log)) (sym e))
 
     module _ (sum₁ : ℕ) {b₁ : List ℕ}
-        (w : Reaches sh (released (stateOf sh b) (stateOf sh b .clock) (stateOf sh b .sync) (entryOf (dueBy time (stateOf sh b .early)) 0 ∷ [])) b₁)
-        (hs₁ : sum₁ ≡ digest (stateOf sh b .log ++ (entryOf (dueBy time (stateOf sh b .early)) 0 ∷ []))) where
-      -- the state once it is released
-      next-is : stateOf sh b₁ ≡ after st time (i + 1)
-      next-is = w .is ∙ ap (λ (x : State). released x (x .clock) (x .sync) (entryOf (dueBy time (x .early)) 0 ∷ [])) (r .reached .is) ∙ after-next st time (m .early) i less
+        (w : Reaches sh (withLog (stateOf sh b) (stateOf sh b .log ++ (entryOf (dueBy time (stateOf sh b .early)) i ∷ []))) b₁)
+        (hs₁ : sum₁ ≡ digest (stateOf sh b .log ++ (entryOf (dueBy time (stateOf sh b .early)) i ∷ []))) where
+      -- the state once it is there
+      next-is : stateOf sh b₁ ≡ longer st time (i + 1)
+      next-is = w .is ∙ ap (λ (x : State). withLog x (x .log ++ (entryOf (dueBy time (x .early)) i ∷ []))) (r .reached .is) ∙ longer-next st time i less
 
       next-log : stateOf sh b₁ .log ≡ st .log ++ take (i + 1) ds
       next-log = ap (λ (x : State). x .log) next-is
 
       next-sum : sum₁ ≡ digest (st .log ++ take (i + 1) ds)
-      next-sum = hs₁ ∙ ap (λ (x : State). digest (x .log ++ (entryOf (dueBy time (x .early)) 0 ∷ []))) (r .reached .is) ∙ ap digest (after-log st time (m .early) i less _ (after-first st time (m .early) i less))
+      next-sum = hs₁ ∙ ap (λ (x : State). digest (x .log ++ (entryOf (dueBy time (x .early)) i ∷ []))) (r .reached .is) ∙ ap digest (longer-log st time i less)
 
       next-entry : entryOf (stateOf sh b₁ .log) (n + i) ≡ entryOf ds i
       next-entry = ap (λ (es : List Entry). entryOf es (n + i)) next-log ∙ rw hn (getD-append-add (st .log) (take (i + 1) ds) i noEntry) ∙ taken-at i
@@ -86,10 +94,10 @@ module _ {sh : Shape} {b₀ : List ℕ} (m : Midway sh b₀) (out₀ : List ℕ)
           let a : length (stateOf sh b₁ .log) ≡ n + (i + 1) = ap length next-log ∙ long-log (i + 1) (omega (arith, less)) in
           (w .midway, omega arith, omega (arith, within (lengthFor (sh .s) 5 1) i k l, r .end, r .long))
 
-      -- one more is released
+      -- one more is there
       pub turn-next : (at₁ : ℕ) (out₁ : List ℕ)
           → (at₁ ≡ at + lengthFor (sh .s) 5 1) × (out₁ ≡ splice out at (wireBytes (sendOut (stateOf sh b₁) 5 (1 ∷ (n + i + 1) ∷ sum₁ ∷ []) (entryOf (stateOf sh b₁ .log) (n + i)))))
-          → Released sh b₀ out₀ time (i + 1) at₁ b₁ out₁ × (sum₁ ≡ digest (st .log ++ take (i + 1) ds))
+          → Appended sh b₀ out₀ time (i + 1) at₁ b₁ out₁ × (sum₁ ≡ digest (st .log ++ take (i + 1) ds))
       turn-next at₁ out₁ (p, q) =
           let L = lengthFor (sh .s) 5 1 in
           let x = flat wireBytes (placedReplies st (take i ds)) in
@@ -110,10 +118,36 @@ module _ {sh : Shape} {b₀ : List ℕ} (m : Midway sh b₀) (out₀ : List ℕ)
             next-sum,
           )
 
-  -- all are released
-  pub turn-end : (k i at : ℕ) {b out : List ℕ} → i ≤ k → k ≤ i → Released sh b₀ out₀ time i at b out → Released sh b₀ out₀ time k at b out
-  turn-end k i at {b} {out} l h r = let e : i ≡ k = omega arith in subst (λ (j : ℕ). Released sh b₀ out₀ time j at b out) e r
+  -- all are there: what is asked for them to leave, and all are released
+  module _ (n k i at : ℕ) {b out : List ℕ} (hn : n ≡ length (st .log)) (hk : k ≤ length ds) (l : i ≤ k) (h : k ≤ i) (r : Appended sh b₀ out₀ time i at b out) where
+    pub leave-asks : Midway sh b × (n + k ≡ length (stateOf sh b .log))
+    leave-asks =
+        let e : i ≡ k = omega arith in
+        let a : length (stateOf sh b .log) ≡ length (st .log) + i = ap (λ (x : State). length (x .log)) (r .reached .is) ∙ length-append (st .log) (take i ds) ∙ ap (λ (x : ℕ). length (st .log) + x) (length-take-le i ds (omega arith)) in
+        (r .reached .midway, omega arith)
+
+    pub turn-end : (b₁ : List ℕ) → Cleared sh b n b₁ → Released sh b₀ out₀ time k at b₁ out
+    turn-end b₁ w =
+        let e : i ≡ k = omega arith in
+        subst (λ (j : ℕ). Released sh b₀ out₀ time j at b₁ out) e
+        (record {
+          reached =
+              record {
+                is = w .is ∙ ap (λ (x : State). withNotes (withEarly x (without (drop n (x .log)) (x .early))) (notesWithout (drop n (x .log)) (x .notes))) (r .reached .is) ∙ longer-released st time n i hn;
+                midway = w .midway;
+              };
+          end = r .end;
+          replies = r .replies;
+          long = r .long;
+        })
 
   -- or there is none to release
   pub none-end : (k : ℕ) → k ≡ 0 → Released sh b₀ out₀ time k 0 b₀ out₀
-  none-end k e = subst (λ (j : ℕ). Released sh b₀ out₀ time j 0 b₀ out₀) (sym e) turn-start
+  none-end k e =
+      subst (λ (j : ℕ). Released sh b₀ out₀ time j 0 b₀ out₀) (sym e)
+      (record {
+        reached = record { is = sym (released-none st time); midway = m };
+        end = turn-start .end;
+        replies = turn-start .replies;
+        long = refl;
+      })

@@ -71,7 +71,7 @@ fn tell_status(shape: Shape, state: &[u8], out: &mut [u8], at: usize) -> usize
 
 // ---- the release
 
-// Releases the first k entries due by a time, each with its reply, from the start of the outgoing buffer on. Says where the last reply ends. n is the log's length.
+// Releases the first k entries due by a time, each with its reply, from the start of the outgoing buffer on: one after the other to the log, then all at once out of early and the notes. Says where the last reply ends. n is the log's length.
 fn release(shape: Shape, state: &mut [u8], out: &mut [u8], time: u64, n: usize, k: usize) -> usize
     requires { ⌜ Midway shape (now state) × (n ≡ length (stateOf shape (now state) .log)) × (k ≤ length (dueBy time (stateOf shape (now state) .early))) × (n + k ≤ shape .c) × (lengthFor (shape .s) 5 1 * k ≤ length (now out)) ⌝ }
     ensures { λ r. ⌜ Released shape (now (state .entry)) (now (out .entry)) time k r (now (state .exit)) (now (out .exit)) ⌝ }
@@ -83,10 +83,11 @@ fn release(shape: Shape, state: &mut [u8], out: &mut [u8], time: u64, n: usize, 
     let mut at = 0;
     let mut i = 0;
     while i < k {
-        sum = releases::release_one(shape, state, time, n + i, sum);
+        sum = releases::release_one(shape, state, time, n, i, sum);
         at = tell_placed(shape, state, out, at, n + i, sum);
         i += 1;
     }
+    releases::leave_released(shape, state, n, k);
     at
 }
 

@@ -6,7 +6,7 @@ use lib.ListN.{length}
 use Rattle.octets.proofs.Codecs.{length-items}
 use Rattle.rules.specs.Image.{noteLength}
 use Rattle.rules.specs.Read.{entryAt}
-use Rattle.syncs.specs.Synced.{logIn}
+use Rattle.leaving.specs.Listed.{listedIn}
 use Rattle.syncs.proofs.Home.{is-both, late-asked, notes-asked, taken-over}
 use borrow.Author.Needs.{needs}
 use Rattle.syncs.proofs.sync_state.Statement.{statement}
@@ -29,7 +29,7 @@ sync-buffers-requires c κs =
     let p = c .before .places-of in
     let q = c .before .before .before .before .before .pre in
     let m : p .result .notes - p .result .early ≡ 4 + 24 * (c .before .before .before .before .before .args .shape .c) + (4 + 24 * (c .before .before .before .before .before .args .shape .c)) = omega (arith, p .ensures .early, p .ensures .notes) in
-    (is-both (q .0) (logIn (c .before .before .before .before .before .args .message .now) (c .before .before .before .before .before .args .log)) (c .before .before .before .before .before .args .last) (q .2) (p .result .early) _ (p .ensures .early) m, late-asked (q .0) (logIn (c .before .before .before .before .before .args .message .now) (c .before .before .before .before .before .args .log)) (c .before .before .before .before .before .args .last) (q .2) (p .result .early) _ (p .ensures .early) m (q .4), q .1)
+    (is-both (q .0) (listedIn (c .before .before .before .before .before .args .message .now) (c .before .before .before .before .before .args .log)) (c .before .before .before .before .before .args .last) (q .2) (p .result .early) _ (p .ensures .early) m, late-asked (q .0) (listedIn (c .before .before .before .before .before .args .message .now) (c .before .before .before .before .before .args .log)) (c .before .before .before .before .before .args .last) (q .2) (p .result .early) _ (p .ensures .early) m (q .4), q .1)
 
 sub-leave-notes : tie.Need-sub-leave-notes
 sub-leave-notes c = search needs
@@ -46,7 +46,7 @@ leave-notes-requires c κs =
     let q = c .before .before .before .before .before .before .before .before .before .pre in
     let m : p .result .notes - p .result .early ≡ 4 + 24 * (c .before .before .before .before .before .before .before .before .before .args .shape .c) + (4 + 24 * (c .before .before .before .before .before .before .before .before .before .args .shape .c)) = omega (arith, p .ensures .early, p .ensures .notes) in
     let w : p .result .votes - p .result .notes ≡ 4 + noteLength (c .before .before .before .before .before .before .before .before .before .args .shape .s) * (c .before .before .before .before .before .before .before .before .before .args .shape .c) = omega (arith, p .ensures .notes, p .ensures .votes) in
-    (notes-asked (q .0) (logIn (c .before .before .before .before .before .before .before .before .before .args .message .now) (c .before .before .before .before .before .before .before .before .before .args .log)) (c .before .before .before .before .before .before .before .before .before .args .last) (q .2) (p .result .early) _ (p .ensures .early) m _ (c .before .before .before .sync-buffers .ensures) (p .result .notes) _ (p .ensures .notes) w, q .1)
+    (notes-asked (q .0) (listedIn (c .before .before .before .before .before .before .before .before .before .args .message .now) (c .before .before .before .before .before .before .before .before .before .args .log)) (c .before .before .before .before .before .before .before .before .before .args .last) (q .2) (p .result .early) _ (p .ensures .early) m _ (c .before .before .before .sync-buffers .ensures) (p .result .notes) _ (p .ensures .notes) w, q .1)
 
 put-table-requires : tie.Need-put-table-requires
 put-table-requires c κs = search needs
@@ -64,8 +64,8 @@ returns c =
     let a = c .before .before .before .before .before .before .before .before .before .before .before .before .before .before .before .before .before .before .before .before .args in
     let m : p .result .notes - p .result .early ≡ 4 + 24 * (a .shape .c) + (4 + 24 * (a .shape .c)) = omega (arith, p .ensures .early, p .ensures .notes) in
     let w : p .result .votes - p .result .notes ≡ 4 + noteLength (a .shape .s) * (a .shape .c) = omega (arith, p .ensures .notes, p .ensures .votes) in
-    let z : length (logIn (a .message .now) (a .log)) ≡ a .log .count = length-items (entryAt (a .message .now)) 24 (a .log .at) (a .log .count) in
-    taken-over (q .0) (logIn (a .message .now) (a .log)) (a .last) (q .2) (p .result .early) _ (p .ensures .early) m _ (c .before .before .before .before .before .before .before .before .before .before .before .before .before .before .sync-buffers .ensures) (p .result .notes) _ (p .ensures .notes) w _ _ _ _ _ (c .before .before .before .before .before .before .before .before .before .before .leave-notes .ensures) (omega (arith, q .3)) (p .ensures .log) (c .before .before .before .before .before .before .put-table .ensures) (c .before .before .put-sync .ensures) (sym z)
+    let z : length (listedIn (a .message .now) (a .log)) ≡ a .log .count = length-items (entryAt (a .message .now)) 24 (a .log .at) (a .log .count) in
+    taken-over (q .0) (listedIn (a .message .now) (a .log)) (a .last) (q .2) (p .result .early) _ (p .ensures .early) m _ (c .before .before .before .before .before .before .before .before .before .before .before .before .before .before .sync-buffers .ensures) (p .result .notes) _ (p .ensures .notes) w _ _ _ _ _ (c .before .before .before .before .before .before .before .before .before .before .leave-notes .ensures) (omega (arith, q .3)) (p .ensures .log) (c .before .before .before .before .before .before .put-table .ensures) (c .before .before .put-sync .ensures) (sym z)
 
 pub sync-state-spec : {M : Type 1} → statement M
 sync-state-spec =

@@ -7,14 +7,14 @@ use Rattle.octets.specs.Bytes.{splice}
 use Rattle.rules.specs.Image.{stateOf}
 use Rattle.rules.specs.Read.{lengthFor}
 use Rattle.places.proofs.Head.{sync-of}
-use Rattle.syncs.specs.Synced.{logIn}
+use Rattle.leaving.specs.Listed.{listedIn}
 use Rattle.syncs.proofs.Slow.{toldBytes, told-start, told-room, told-turn, told-all}
 use borrow.Author.Needs.{needs}
 use Rattle.syncs.proofs.tell_synced.Statement.{statement}
 use Rattle.syncs.proofs.tell_synced.Tie as tie
 
 abbrev Inv-loop : tie.InvT-loop
-Inv-loop shape state out₀ message log sync n at₀ j₀ out at j = (j ≤ n) × (n ≡ log .count - sync) × (sync ≡ stateOf shape state .sync) × (sync + n ≤ log .count) × (length out ≡ length out₀) × (at ≡ lengthFor (shape .s) 6 1 * j) × (out ≡ splice out₀ 0 (toldBytes (stateOf shape state) (logIn message log) j))
+Inv-loop shape state out₀ message log sync n at₀ j₀ out at j = (j ≤ n) × (n ≡ log .count - sync) × (sync ≡ stateOf shape state .sync) × (sync + n ≤ log .count) × (length out ≡ length out₀) × (at ≡ lengthFor (shape .s) 6 1 * j) × (out ≡ splice out₀ 0 (toldBytes (stateOf shape state) (listedIn message log) j))
 
 abbrev μ-loop : tie.MeasureT-loop
 μ-loop shape state out₀ message log sync n at₀ j₀ out at j = n - j

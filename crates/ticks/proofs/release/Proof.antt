@@ -1,4 +1,4 @@
--- `ticks::release` meets its contract. The invariant: the first i entries due are released, their replies are written, and `sum` is the digest of the log. Assumes nothing.
+-- `ticks::release` meets its contract. The invariant: the first i entries due are at the end of the log, their replies are written, and `sum` is the digest of the log. Assumes nothing.
 use borrow.Author.Needs.{needs}
 use Rattle.ticks.proofs.release.Statement.{statement}
 use Rattle.ticks.proofs.release.Tie as tie
@@ -10,11 +10,10 @@ use lib.ListN.{take}
 use Rattle.rules.specs.Digest.{digest}
 use Rattle.rules.specs.Image.{stateOf}
 use Rattle.rules.specs.Step.{dueBy}
-use Rattle.ticks.specs.Released.{Released}
-use Rattle.ticks.proofs.Turns.{turn-start, sum-start, turn-asks, turn-tells, turn-next, turn-end, none-end}
+use Rattle.ticks.proofs.Turns.{Appended, turn-start, sum-start, turn-asks, turn-tells, turn-next, leave-asks, turn-end, none-end}
 
 abbrev Inv-loop : tie.InvT-loop
-Inv-loop shape state₀ out₀ time n k sum₀ at₀ i₀ state out sum at i = (i ≤ k) × Released shape state₀ out₀ time i at state out × (sum ≡ digest (stateOf shape state₀ .log ++ take i (dueBy time (stateOf shape state₀ .early))))
+Inv-loop shape state₀ out₀ time n k sum₀ at₀ i₀ state out sum at i = (i ≤ k) × Appended shape state₀ out₀ time i at state out × (sum ≡ digest (stateOf shape state₀ .log ++ take i (dueBy time (stateOf shape state₀ .early))))
 
 abbrev μ-loop : tie.MeasureT-loop
 μ-loop shape state₀ out₀ time n k sum₀ at₀ i₀ state out sum at i = k - i
@@ -27,9 +26,6 @@ log-digest-requires c κs = search needs
 
 loop-holds : tie.Need-loop-holds Inv-loop μ-loop
 loop-holds c = (omega arith, turn-start (c .before .before .before .before .before .pre .0) _ _, sum-start (c .before .before .before .before .before .pre .0) (c .before .before .before .before .before .args .out .now) (c .before .before .before .before .before .args .time) _ (c .log-digest .ensures))
-
-add-release-one : tie.Need-add-release-one Inv-loop μ-loop
-add-release-one c = search needs
 
 release-one-requires : tie.Need-release-one-requires Inv-loop μ-loop
 release-one-requires c κs = turn-asks (c .before .before .before .before .before .before .before .before .pre .0) _ _ _ _ (c .before .before .before .before .before .before .before .before .pre .1) (c .before .before .before .before .before .before .before .before .pre .2) (c .before .before .before .before .before .before .before .before .pre .3) (c .before .before .before .before .before .before .before .before .pre .4) _ _ _ (c .before .loop-test .taken) (c .before .before .loop .inv .1) (c .before .before .loop .inv .2)
@@ -51,14 +47,17 @@ loop-again c =
     let t = turn-next (c .before .before .before .before .before .before .before .before .before .before .before .before .before .before .before .before .pre .0) _ _ _ _ (c .before .before .before .before .before .before .before .before .before .before .before .before .before .before .before .before .pre .1) (c .before .before .before .before .before .before .before .before .before .before .before .before .before .before .before .before .pre .2) (c .before .before .before .before .before .before .before .before .before .before .before .before .before .before .before .before .pre .3) (c .before .before .before .before .before .before .before .before .before .before .before .before .before .before .before .before .pre .4) _ _ _ (c .before .before .before .before .before .before .before .before .before .loop-test .taken) (c .before .before .before .before .before .before .before .before .before .before .loop .inv .1) (c .before .before .before .before .before .before .before .before .before .before .loop .inv .2) _ (c .before .before .before .before .before .before .before .release-one .ensures .0) (c .before .before .before .before .before .before .before .release-one .ensures .1) _ _ (c .before .before .tell-placed .ensures) in
     (omega arith, t .0, t .1)
 
+leave-released-requires : tie.Need-leave-released-requires Inv-loop μ-loop
+leave-released-requires c κs = leave-asks (c .before .before .before .before .before .before .before .before .pre .0) _ _ _ _ _ _ (c .before .before .before .before .before .before .before .before .pre .1) (c .before .before .before .before .before .before .before .before .pre .2) (c .before .before .loop .inv .0) (c .before .loop-test .left) (c .before .before .loop .inv .1)
+
 same-length : tie.Need-same-length Inv-loop μ-loop
-same-length c = (c .before .loop .inv .1 .reached .midway .size) ∙ sym (c .before .before .before .before .before .before .before .pre .0 .size)
+same-length c = (c .before .before .leave-released .ensures .midway .size) ∙ sym (c .before .before .before .before .before .before .before .before .before .before .before .pre .0 .size)
 
 same-length-2 : tie.Need-same-length-2 Inv-loop μ-loop
-same-length-2 c = (c .before .loop .inv .1 .long)
+same-length-2 c = (c .before .before .before .before .before .loop .inv .1 .long)
 
 returns-2 : tie.Need-returns-2 Inv-loop μ-loop
-returns-2 c = turn-end (c .before .before .before .before .before .before .before .pre .0) _ _ _ _ _ (c .before .loop .inv .0) (c .loop-test .left) (c .before .loop .inv .1)
+returns-2 c = turn-end (c .before .before .before .before .before .before .before .before .before .before .before .pre .0) _ _ _ _ _ _ (c .before .before .before .before .before .before .before .before .before .before .before .pre .1) (c .before .before .before .before .before .before .before .before .before .before .before .pre .2) (c .before .before .before .before .before .loop .inv .0) (c .before .before .before .before .loop-test .left) (c .before .before .before .before .before .loop .inv .1) _ (c .before .before .leave-released .ensures)
 
 pub release-spec : {M : Type 1} → statement M
 release-spec =
@@ -69,13 +68,13 @@ release-spec =
     returns
     log-digest-requires
     loop-holds
-    add-release-one
     release-one-requires
     add-tell-placed
     tell-placed-requires
     add-i
     loop-less
     loop-again
+    leave-released-requires
     same-length
     same-length-2
     returns-2)

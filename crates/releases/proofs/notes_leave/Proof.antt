@@ -1,0 +1,39 @@
+-- `releases::notes_leave` meets its contract: the notes without those of the entries come home. Assumes nothing.
+use borrow.Author.Needs.{needs}
+use Rattle.releases.proofs.notes_leave.Statement.{statement}
+use Rattle.releases.proofs.notes_leave.Tie as tie
+use mathlib.Core.Path.{refl}
+use Rattle.releases.proofs.Way.{notes-open, notes-left}
+
+places-of-requires : tie.Need-places-of-requires
+places-of-requires c κs = search needs
+
+sub-leave-notes : tie.Need-sub-leave-notes
+sub-leave-notes c = search needs
+
+part-leave-notes-start : tie.Need-part-leave-notes-start
+part-leave-notes-start c = search needs
+
+part-leave-notes-end : tie.Need-part-leave-notes-end
+part-leave-notes-end c = search needs
+
+leave-notes-requires : tie.Need-leave-notes-requires
+leave-notes-requires c κs = (notes-open (c .before .before .before .before .before .pre .0) (c .before .places-of .result) (c .before .places-of .ensures), (c .before .before .before .before .before .pre .1))
+
+same-length : tie.Need-same-length
+same-length c = search needs
+
+returns : tie.Need-returns
+returns c = notes-left (c .before .before .before .before .before .before .before .before .pre .0) (c .before .before .before .before .places-of .result) (c .before .before .before .before .places-of .ensures) _ (c .before .before .leave-notes .ensures) refl
+
+pub notes-leave-spec : {M : Type 1} → statement M
+notes-leave-spec =
+    tie.close
+    (tie.spec
+    places-of-requires
+    sub-leave-notes
+    part-leave-notes-start
+    part-leave-notes-end
+    leave-notes-requires
+    same-length
+    returns)
