@@ -13,7 +13,10 @@ use Rattle.rules.specs.Entry.{sameTxn}
 use Rattle.rules.specs.Log.{seenBefore}
 use Rattle.rules.specs.Read.{entryAt}
 use Rattle.rules.specs.declared.Entry.{Entry}
-use Rattle.repeats.specs.Repeat.{seenKey}
+use Rattle.rules.proofs.Order.{txn-turns}
+use Rattle.repeats.specs.Repeat.{seenKey, rowOf}
+use Rattle.repeats.proofs.Laws.{first-agree}
+use Rattle.entries.specs.First.{findRow}
 
 -- x is the key of e
 pub record Keyed (x : ℕ) (e : Entry) : Type 0 where
@@ -21,13 +24,17 @@ pub record Keyed (x : ℕ) (e : Entry) : Type 0 where
   pub low : e .request < 4294967296
 
 -- of an entry in bytes, the six bytes of its request and coordinator
+pub key-at : (b : List ℕ) (a : ℕ) → num b (a + 16) 6 ≡ entryAt b a .request + entryAt b a .coordinator * 4294967296
+unfolding entryAt
+key-at b a =
+    let z : a + 16 + 4 ≡ a + 20 = omega arith in
+    num-add b (a + 16) 4 2 ∙ ap (λ (y : ℕ). num b (a + 16) 4 + num b y 2 * 4294967296) z
+
 pub keyed-at : (b : List ℕ) (a at x : ℕ) → Bytes b → a + 24 ≤ length b → at ≡ a + 16 → x ≡ num b at 6 → Keyed x (entryAt b a)
 unfolding entryAt
 keyed-at b a at x w h p q =
-    let z : a + 16 + 4 ≡ a + 20 = omega arith in
-    let n : num b (a + 16) 6 ≡ num b (a + 16) 4 + num b (a + 16 + 4) 2 * 4294967296 = num-add b (a + 16) 4 2 in
     record {
-      is = q ∙ ap (λ (y : ℕ). num b y 6) p ∙ n ∙ ap (λ (y : ℕ). num b (a + 16) 4 + num b y 2 * 4294967296) z;
+      is = q ∙ ap (λ (y : ℕ). num b y 6) p ∙ key-at b a;
       low = num-lt b (a + 16) 4 w (omega arith);
     }
 
@@ -54,3 +61,8 @@ pub seen-like : (f g : ℕ → Entry) (e : Entry) (i : ℕ) → ((j : ℕ) → j
 unfolding seenBefore
 seen-like f g e zero h = refl
 seen-like f g e (suc i) h = rw (seen-like f g e i (λ j l. h j (omega arith)), h i (omega arith))
+
+-- the row of a key is that of its transaction
+pub row-keyed : (f : ℕ → Entry) (key : ℕ → ℕ) (x : ℕ) (e : Entry) (n : ℕ) → Keyed x e → ((i : ℕ) → i < n → Keyed (key i) (f i)) → rowOf key x n ≡ findRow f (e .request) (e .coordinator) n
+unfolding rowOf
+row-keyed f key x e n k h = first-agree _ _ n (λ i l. key-is (key i) x (f i) e (h i l) k ∙ txn-turns (f i) e)

@@ -4,7 +4,7 @@ use mathlib.Core.Path.{_≡_, refl, sym, ap, subst, _∙_}
 use mathlib.Core.Bool.{Bool, true, false, true≢false}
 use mathlib.Core.List.{List, [], _∷_, _++_}
 use native.Mathlib.Omega.{arith}
-use lib.ListN.{length, set, length-append}
+use lib.ListN.{length, set, length-append, length-set}
 use lib.Seq.{set-getD}
 use lib.Dec.{ltb}
 use borrow.Author.Tests.{lt-ltb, le-ltb}
@@ -66,6 +66,15 @@ module _ (c : ℕ) (t : List ℕ) (e : Entry) (n i : ℕ) (h : Table c t) (hn : 
       let q : i ≡ findRow (entryOf (tableAt c t 0)) (e .request) (e .coordinator) n = hi ∙ rows-in c (tableAt c t 0) t h (sameTxn e) n long in
       rw (q, long) (first-to (λ k. sameTxn e (entryOf (tableAt c t 0) k)) (length (tableAt c t 0)))
 
+  -- how many there are then
+  pub found-long : i < n → length (takeIn e (tableAt c t 0)) ≡ length (tableAt c t 0)
+  found-long l = ap length (taken-found e (tableAt c t 0) i first (omega (arith, long))) ∙ simp length-set
+
+  pub missing-long : n ≤ i → length (takeIn e (tableAt c t 0)) ≡ n + 1
+  missing-long l =
+      let es = tableAt c t 0 in
+      ap length (taken-missing e es i first (omega (arith, long))) ∙ length-append es (e ∷ []) ∙ omega (arith, long)
+
   -- the one that stands there is not lower
   pub stays : (d : Entry) → d ≡ entryOf (tableAt c t 0) i → i < n → e .stamp ≤ d .stamp → Taken c (takeIn e (tableAt c t 0)) true t
   stays d hd l s =
@@ -91,7 +100,7 @@ module _ (c : ℕ) (t : List ℕ) (e : Entry) (n i : ℕ) (h : Table c t) (hn : 
   pub no-place : (u : List ℕ) → n ≤ i → c ≤ n → Taken c (takeIn e (tableAt c t 0)) false u
   no-place u l m =
       let es = tableAt c t 0 in
-      told-full c (takeIn e es) u (omega (arith, long, ap length (taken-missing e es i first (omega (arith, long))), length-append es (e ∷ [])))
+      told-full c (takeIn e es) u (omega (arith, missing-long l))
 
 -- ---- one after the other
 

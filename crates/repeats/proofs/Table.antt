@@ -232,3 +232,47 @@ module _ (key other : ℕ → ℕ) (m : ℕ) (h : (i : ℕ) → i < m → key i 
         bounded = w .bounded;
         found = λ i k. sym (held-agree t (other i)) ∙ ap (held key m t) (sym (h i k)) ∙ w .found i k;
       }
+
+-- ---- a table of m rows, where it is to have w
+
+module _ (key : ℕ → ℕ) (m w : ℕ) (h : m ≤ w) (t : List ℕ) where
+  taken-inside : (p : ℕ) → getD t p m < m → Dec (p < length t) → p < length t
+  taken-inside p l (yes k) = k
+  taken-inside p l (no k) = let z : getD t p m ≡ m = List·getD-eq-default t m {n = p} (omega (arith, k)) in absurd (omega arith)
+
+  taken-wider : (p : ℕ) → getD t p m < m → getD t p w ≡ getD t p m
+  taken-wider p l = inside t p w m (taken-inside p l (decLt p (length t)))
+
+  -- a slot that is taken ends the same paths
+  ends-wider : (x p : ℕ) → getD t p m < m → ends key w t x p ≡ ends key m t x p
+  unfolding ends
+  ends-wider x p l = rw (taken-wider p l, lt-leb w (getD t p m) (omega arith), lt-leb m (getD t p m) l)
+
+  wider-turn : (x p n : ℕ) → (getD t (stop key m t x (p + 1) n) m < m → stop key w t x (p + 1) n ≡ stop key m t x (p + 1) n) → (b : Bool) → ends key m t x p ≡ b → getD t (stop key m t x p (suc n)) m < m → stop key w t x p (suc n) ≡ stop key m t x p (suc n)
+  wider-turn x p n ih true e l =
+      let z : stop key m t x p (suc n) ≡ p = stop-here key m t x p (suc n) n refl e in
+      stop-here key w t x p (suc n) n refl (ends-wider x p (rw z at l) ∙ e) ∙ sym z
+  wider-turn x p n ih false e l =
+      let z : stop key m t x p (suc n) ≡ stop key m t x (p + 1) n = stop-next key m t x p (suc n) n refl e in
+      stop-next key w t x p (suc n) n refl (ends-wider x p (not-free key m t x p e) ∙ e) ∙ ih (rw z at l) ∙ sym z
+
+  -- so does a path that ends at one
+  stop-wider : (x n p : ℕ) → getD t (stop key m t x p n) m < m → stop key w t x p n ≡ stop key m t x p n
+  stop-wider x zero p l = stop-none key w t x p 0 refl ∙ sym (stop-none key m t x p 0 refl)
+  stop-wider x (suc n) p l = wider-turn x p n (stop-wider x n (p + 1)) (ends key m t x p) refl l
+
+  held-wider : (x : ℕ) → held key m t x < m → held key w t x ≡ held key m t x
+  unfolding held slotAt
+  held-wider x l =
+      ap (λ (p : ℕ). getD t p w) (stop-wider x 64 (slotOf (length t) x) l) ∙ taken-wider (stop key m t x (slotOf (length t) x) 64) l
+
+  -- the m rows are there, whatever the slots that were free hold
+  pub holds-wider : Filled key m t → Holds key w t m
+  unfolding Holds
+  holds-wider f j l = held-wider (key j) (rw (f .found j l) l) ∙ f .found j l
+
+  -- and one row more is
+  pub one-more : (u : List ℕ) (i : ℕ) → i ≡ m → w ≡ m + 1 → length u ≡ length t → Filled key m t → Went key w i t u → Filled key w u
+  one-more u i e n l f v =
+      let g : Holds key w t i = rw e (holds-wider f) in
+      filled key w u (i + 1) (omega (arith, f .roomy)) (omega (arith, f .bounded)) (omega arith) (holds-more key w t u i l (omega arith) g v)

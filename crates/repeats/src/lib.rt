@@ -2,7 +2,7 @@
 // spares both the search over all rows: where it cannot (a path of 64 slots is full), it says so.
 ghost use mathlib.Core.Path.{_≡_};
 ghost use mathlib.Core.Bool.{Bool, true, false};
-ghost use Prim.Native.Nat.{ℕ, _+_, _*_, _≤_, _<_};
+ghost use Prim.Native.Nat.{ℕ, _+_, _-_, _*_, _≤_, _<_};
 ghost use lib.ListN.{length};
 ghost use lib.Dec.{eqb};
 ghost use Rattle.repeats.specs.Rows.{countOf, spotOf, keyOf, Inside};
@@ -174,6 +174,18 @@ pub fn fill(b: &[u8], sp: Spots, table: &mut [u16]) -> bool
         i += 1;
     }
     true
+}
+
+// Puts the last row into a table that has all the rows before it: true only if it went in.
+pub fn add(b: &[u8], sp: Spots, table: &mut [u16]) -> bool
+    requires { ⌜ Inside (now b) sp × (0 < countOf sp) × Filled (keyOf (now b) sp) (countOf sp - 1) (now table) ⌝ }
+    ensures { λ r. ⌜ (r ≡ true → Filled (keyOf (now (b .entry)) sp) (countOf sp) (now (table .exit))) ⌝ }
+{
+    let m = count(sp);
+    if 65535 < m {
+        return false;
+    }
+    put(b, sp, table, m - 1)
 }
 
 // The row with key x, or how many rows there are where none has it.

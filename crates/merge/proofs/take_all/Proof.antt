@@ -1,10 +1,9 @@
 -- `merge::take_all` meets its contract. The invariant: the entries passed are taken in. Assumes nothing.
-use Rattle.merge.proofs.take_all.Statement.{statement}
-use Rattle.merge.proofs.take_all.Tie as tie
+use borrow.Author.Needs.{needs}
 use Prim.Native.Nat.{_≤_, _-_}
 use mathlib.Core.Path.{_≡_, refl, subst}
+use mathlib.Core.Bool.{true}
 use mathlib.Core.List.{List}
-use borrow.Author.Needs.{needs}
 use borrow.Author.Tests.{not-true, not-false}
 use native.Mathlib.Omega.{arith}
 use lib.ListN.{length}
@@ -12,16 +11,20 @@ use Rattle.rules.specs.Image.{tableAt}
 use Rattle.rules.specs.declared.Entry.{Entry}
 use Rattle.entries.specs.Table.{Holds}
 use Rattle.entries.proofs.Table.{is-table}
-use Rattle.merge.proofs.Taking.{firstIn, row-start, row-again, row-full, row-end}
+use Rattle.merge.specs.Rows.{Rows}
+use Rattle.merge.proofs.Taking.{firstIn, row-start, row-again, row-full}
+use Rattle.merge.proofs.Rows.{rows-read, rows-again, took-full, took-end}
+use Rattle.merge.proofs.take_all.Statement.{statement}
+use Rattle.merge.proofs.take_all.Tie as tie
 
 abbrev Inv-loop : tie.InvT-loop
-Inv-loop t₀ c src at count i₀ t i = (i ≤ count) × (length t ≡ length t₀) × Holds c (firstIn (tableAt c t₀ 0) src at i) t
+Inv-loop t₀ c src at count rows₀ filled known₀ i₀ t rows known i = (i ≤ count) × (length t ≡ length t₀) × (length rows ≡ length rows₀) × Holds c (firstIn (tableAt c t₀ 0) src at i) t × (known ≡ true → Rows (firstIn (tableAt c t₀ 0) src at i) rows)
 
 abbrev μ-loop : tie.MeasureT-loop
-μ-loop t₀ c src at count i₀ t i = count - i
+μ-loop t₀ c src at count rows₀ filled known₀ i₀ t rows known i = count - i
 
 loop-holds : tie.Need-loop-holds Inv-loop μ-loop
-loop-holds c = (omega arith, refl, subst (λ (ds : List Entry). Holds (c .before .before .args .c) ds ((c .before .before .args .t) .now)) (row-start _ _ _) ((c .before .before .pre) .0))
+loop-holds c = (omega arith, refl, refl, subst (λ (ds : List Entry). Holds (c .before .before .before .args .c) ds (c .before .before .before .args .t .now)) (row-start _ _ _) (c .before .before .before .pre .0), λ q. subst (λ (ds : List Entry). Rows ds (c .before .before .before .args .rows .now)) (row-start _ _ _) ((c .before .before .before .pre .2) q))
 
 mul-entry-at : tie.Need-mul-entry-at Inv-loop μ-loop
 mul-entry-at c = search needs
@@ -33,13 +36,16 @@ entry-at-requires : tie.Need-entry-at-requires Inv-loop μ-loop
 entry-at-requires c κs = search needs
 
 take-in-requires : tie.Need-take-in-requires Inv-loop μ-loop
-take-in-requires c κs = is-table _ _ _ ((c .before .before .before .loop .inv) .2)
+take-in-requires c κs = (is-table _ _ _ (c .before .before .before .before .loop .inv .3), λ q. rows-read _ _ _ (c .before .before .before .before .loop .inv .3) _ ((c .before .before .before .before .loop .inv .4) q))
 
 same-length : tie.Need-same-length Inv-loop μ-loop
 same-length c = search needs
 
+same-length-2 : tie.Need-same-length-2 Inv-loop μ-loop
+same-length-2 c = search needs
+
 returns : tie.Need-returns Inv-loop μ-loop
-returns c = row-full _ _ _ _ _ _ _ _ _ ((c .before .before .before .before .before .before .before .loop .inv) .2) (c .before .before .before .before .before .entry-at .ensures) (c .before .before .before .take-in .ensures) _ (c .before .before .before .before .before .before .loop-test .taken) (not-true _ (c .if1 .taken))
+returns c = took-full _ _ _ _ (row-full _ _ _ _ _ _ _ _ _ (c .before .before .before .before .before .before .before .before .before .before .before .loop .inv .3) (c .before .before .before .before .before .before .before .before .before .entry-at .ensures) (c .before .before .before .before .before .before .take-in .ensures .taken) _ (c .before .before .before .before .before .before .before .before .before .before .loop-test .taken) (not-true _ (c .if1 .taken)))
 
 add-i : tie.Need-add-i Inv-loop μ-loop
 add-i c = search needs
@@ -48,13 +54,16 @@ loop-less : tie.Need-loop-less Inv-loop μ-loop
 loop-less c = search needs
 
 loop-again : tie.Need-loop-again Inv-loop μ-loop
-loop-again c = (omega arith, search needs, row-again _ _ _ _ _ _ _ _ _ ((c .before .before .before .before .before .before .before .loop .inv) .2) (c .before .before .before .before .before .entry-at .ensures) (c .before .before .before .take-in .ensures) (not-false _ (c .if1 .left)))
+loop-again c = (omega arith, search needs, search needs, row-again _ _ _ _ _ _ _ _ _ (c .before .before .before .before .before .before .before .before .before .before .before .loop .inv .3) (c .before .before .before .before .before .before .before .before .before .entry-at .ensures) (c .before .before .before .before .before .before .take-in .ensures .taken) (not-false _ (c .if1 .left)), rows-again _ _ _ _ _ _ _ _ _ _ (c .before .before .before .before .before .before .before .before .before .before .before .loop .inv .3) (c .before .before .before .before .before .before .before .before .before .entry-at .ensures) (c .before .before .before .before .before .before .take-in .ensures))
 
-same-length-2 : tie.Need-same-length-2 Inv-loop μ-loop
-same-length-2 c = search needs
+same-length-3 : tie.Need-same-length-3 Inv-loop μ-loop
+same-length-3 c = search needs
+
+same-length-4 : tie.Need-same-length-4 Inv-loop μ-loop
+same-length-4 c = search needs
 
 returns-2 : tie.Need-returns-2 Inv-loop μ-loop
-returns-2 c = row-end _ _ _ _ _ _ _ ((c .before .loop .inv) .2) ((c .before .loop .inv) .0) (c .loop-test .left)
+returns-2 c = took-end _ _ _ _ _ _ _ _ _ (c .before .loop .inv .3) (c .before .loop .inv .4) (c .before .loop .inv .0) (c .loop-test .left)
 
 pub take-all-spec : {M : Type 1} → statement M
 take-all-spec =
@@ -68,9 +77,11 @@ take-all-spec =
     entry-at-requires
     take-in-requires
     same-length
+    same-length-2
     returns
     add-i
     loop-less
     loop-again
-    same-length-2
+    same-length-3
+    same-length-4
     returns-2)

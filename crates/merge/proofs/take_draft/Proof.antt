@@ -1,0 +1,60 @@
+-- `merge::take_draft` meets its contract: the draft is copied, and its rows are put in. Assumes nothing.
+use borrow.Author.Needs.{needs}
+use native.Mathlib.Omega.{arith}
+use Rattle.merge.proofs.Rows.{fill-asked, fill-found}
+use Rattle.merge.proofs.Turns.{draft-copied}
+use Rattle.merge.proofs.take_draft.Statement.{statement}
+use Rattle.merge.proofs.take_draft.Tie as tie
+
+places-of-requires : tie.Need-places-of-requires
+places-of-requires c κs = search needs
+
+add-end : tie.Need-add-end
+add-end c = search needs
+
+sub-copy-in : tie.Need-sub-copy-in
+sub-copy-in c = search needs
+
+part-copy-in-start : tie.Need-part-copy-in-start
+part-copy-in-start c = search needs
+
+part-copy-in-end : tie.Need-part-copy-in-end
+part-copy-in-end c = search needs
+
+copy-in-requires : tie.Need-copy-in-requires
+copy-in-requires c κs = search needs
+
+count-requires : tie.Need-count-requires
+count-requires c κs = search needs
+
+spots-of-requires : tie.Need-spots-of-requires
+spots-of-requires c κs = search needs
+
+fill-requires : tie.Need-fill-requires
+fill-requires c κs = fill-asked _ _ _ (draft-copied (c .before .before .before .before .before .before .before .before .before .before .before .before .before .before .before .pre .0) _ _ _ _ (c .before .before .before .before .before .before .before .before .before .before .before .places-of .ensures .draft) (c .before .before .before .before .before .before .before .before .before .before .before .places-of .ensures .table) (c .before .before .before .before .before .before .before .before .before .before .before .before .before .before .before .pre .1) (c .before .before .before .before .before .before .before .copy-in .ensures)) _ _ (c .before .before .before .count .ensures) (c .before .spots-of .ensures)
+
+same-length : tie.Need-same-length
+same-length c = search needs
+
+same-length-2 : tie.Need-same-length-2
+same-length-2 c = search needs
+
+returns : tie.Need-returns
+returns c = let k = draft-copied (c .before .before .before .before .before .before .before .before .before .before .before .before .before .before .before .before .before .before .pre .0) _ _ _ _ (c .before .before .before .before .before .before .before .before .before .before .before .before .before .before .places-of .ensures .draft) (c .before .before .before .before .before .before .before .before .before .before .before .before .before .before .places-of .ensures .table) (c .before .before .before .before .before .before .before .before .before .before .before .before .before .before .before .before .before .before .pre .1) (c .before .before .before .before .before .before .before .before .before .before .copy-in .ensures) in (k, fill-found _ _ _ k _ _ _ _ (c .before .before .before .before .before .before .count .ensures) (c .before .before .before .before .spots-of .ensures) (c .before .before .fill .ensures))
+
+pub take-draft-spec : {M : Type 1} → statement M
+take-draft-spec =
+    tie.close
+    (tie.spec
+    places-of-requires
+    add-end
+    sub-copy-in
+    part-copy-in-start
+    part-copy-in-end
+    copy-in-requires
+    count-requires
+    spots-of-requires
+    fill-requires
+    same-length
+    same-length-2
+    returns)
