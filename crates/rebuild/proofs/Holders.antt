@@ -1,14 +1,14 @@
 -- Which votes hold an entry, by timestamp and transaction. Assumes nothing.
-use Prim.Native.Nat.{ℕ, _+_, _*_, _≤_, _<_}
+use Prim.Native.Nat.{ℕ, zero, suc, _+_, _*_, _-_, _≤_, _<_}
 use mathlib.Core.Path.{_≡_, refl, sym, ap, _∙_}
-use mathlib.Core.Bool.{Bool, true, false, _&&_}
+use mathlib.Core.Bool.{Bool, true, false, _&&_, not}
 use mathlib.Core.Option.{Option, none, some}
 use mathlib.Core.List.{List, [], _∷_}
 use native.Mathlib.Omega.{arith}
 use lib.ListN.{length, getD, take, length-append}
 use lib.Seq.{length-take-le, getD-take, ext-getD}
 use lib.Dec.{eqb, ltb}
-use borrow.Author.Tests.{eqb-true, eqb-false, le-ltb}
+use borrow.Author.Tests.{eqb-true, eqb-false, eq-eqb, ne-eqb, le-ltb}
 use Rattle.octets.specs.Bytes.{num, items}
 use Rattle.octets.proofs.Codecs.{length-items, getD-items}
 use Rattle.rules.specs.Choice.{pick, any, keep, isSome}
@@ -93,15 +93,34 @@ module _ (top : ℕ) (vs : List (Option Vote)) (e : Entry) where
       ∙ length-append (keep p (lower top vs r)) _
       ∙ ap (λ (m : ℕ). holders (lower top vs r) e + m) (one-holder (countsAt top (getD vs r none)) (voteOf (getD vs r none)))
 
-  module _ (r sum u n : ℕ) (l : length vs ≡ n) (h : r < n) (w : sum ≡ holders (lower top vs r) e) (b : Bool) (q : b ≡ holdsAt top e (getD vs r none)) where
-    pub holders-more : b ≡ true → u ≡ sum + 1 → u ≡ holders (lower top vs (r + 1)) e
+  module _ (r base sum u n : ℕ) (l : length vs ≡ n) (h : r < n) (w : base + sum ≡ holders (lower top vs r) e) (b : Bool) (q : b ≡ holdsAt top e (getD vs r none)) where
+    pub holders-more : b ≡ true → u ≡ sum + 1 → base + u ≡ holders (lower top vs (r + 1)) e
     holders-more y z = let a = holders-next r (omega arith) in let d = pick-true {A = ℕ} (holdsAt top e (getD vs r none)) 1 0 (sym q ∙ y) in omega arith
 
-    pub holders-same : b ≡ false → u ≡ sum → u ≡ holders (lower top vs (r + 1)) e
+    pub holders-same : b ≡ false → u ≡ sum → base + u ≡ holders (lower top vs (r + 1)) e
     holders-same y z = let a = holders-next r (omega arith) in let d = pick-false {A = ℕ} (holdsAt top e (getD vs r none)) 1 0 (sym q ∙ y) in omega arith
 
   pub holders-end : (r end sum : ℕ) → r ≤ end → end ≤ r → sum ≡ holders (lower top vs r) e → sum ≡ holders (lower top vs end) e
   holders-end r end sum a b w = let z : r ≡ end = omega arith in w ∙ ap (λ (i : ℕ). holders (lower top vs i) e) z
+
+  -- more votes have no fewer holders
+  holders-rise : (r m : ℕ) → r + m ≤ length vs → holders (lower top vs r) e ≤ holders (lower top vs (r + m)) e
+  holders-rise r zero h = let z : r + 0 ≡ r = omega arith in rw z (omega arith)
+  holders-rise r (suc m) h =
+      let z : r + suc m ≡ r + m + 1 = omega arith in
+      rw z (omega (arith, holders-rise r m (omega arith), holders-next (r + m) (omega arith)))
+
+  -- no vote passed holds it, and this one does
+  pub held-here : (r end n : ℕ) → length vs ≡ n → r < end → end ≤ n → 0 ≡ holders (lower top vs r) e → (b : Bool) → b ≡ holdsAt top e (getD vs r none) → b ≡ true → true ≡ not (eqb (holders (lower top vs end) e) 0)
+  held-here r end n l h k w b q y =
+      let m = holders-more r 0 0 1 n l (omega arith) w b q y refl in
+      let a = holders-rise (r + 1) (end - (r + 1)) (omega arith) in
+      let z : r + 1 + (end - (r + 1)) ≡ end = omega arith in
+      let s : holders (lower top vs (r + 1)) e ≤ holders (lower top vs end) e = rw z at a in
+      sym (ap not (ne-eqb (holders (lower top vs end) e) 0 (λ f. omega arith)))
+
+  pub held-nowhere : (r end : ℕ) → r ≤ end → end ≤ r → 0 ≡ holders (lower top vs r) e → false ≡ not (eqb (holders (lower top vs end) e) 0)
+  held-nowhere r end a b w = sym (ap not (eq-eqb (holders (lower top vs end) e) 0 (sym (holders-end r end 0 a b w))))
 
 pub not-held : (top : ℕ) (e : Entry) (x : Option Vote) (b : Bool) → b ≡ countsAt top x → b ≡ false → false ≡ holdsAt top e x
 unfolding holdsAt

@@ -4,6 +4,7 @@ pub mod Counting
 pub mod Listed
 pub mod Sound
 pub mod Holders
+pub mod Tables
 pub mod New
 pub mod Added
 pub mod Whole

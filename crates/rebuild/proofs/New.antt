@@ -4,19 +4,23 @@ use mathlib.Core.Path.{_≡_, refl, sym, ap, _∙_}
 use mathlib.Core.Bool.{Bool, true, false, _&&_, not}
 use mathlib.Core.Option.{Option, none}
 use mathlib.Core.List.{List, []}
+use native.Mathlib.Decide.{decLt}
 use native.Mathlib.Omega.{arith}
 use lib.ListN.{length, getD, take, List·getD-eq-default}
 use lib.Seq.{take-nil}
 use lib.Dec.{eqb, ltb, leb}
-use borrow.Author.Tests.{le-ltb, lt-ltb, eq-eqb, ne-eqb}
+use borrow.Author.Tests.{le-ltb, lt-ltb, le-leb, lt-leb, eq-eqb, eqb-true, not-true, not-false}
+use Rattle.octets.specs.Bytes.{num}
 use Rattle.rules.specs.Choice.{any}
 use Rattle.rules.specs.Group.{recovery}
-use Rattle.rules.specs.Entry.{among, later}
+use Rattle.rules.specs.Entry.{sameTxn, among, later}
 use Rattle.rules.specs.Read.{entryAt}
 use Rattle.rules.specs.State.{Vote}
 use Rattle.rules.specs.Rebuild.{withNormal, best, prefix, boundaryIn, holders, isAdded}
 use Rattle.rules.specs.declared.Entry.{Entry}
 use Rattle.rules.specs.declared.Shape.{Shape}
+use Rattle.repeats.specs.Repeat.{firstTo}
+use Rattle.repeats.proofs.Laws.{First, first-to, first-is}
 use Rattle.entries.specs.First.{findRow}
 use Rattle.entries.proofs.First.{read-among}
 use Rattle.rebuild.specs.Ballots.{votesIn, voteOf, Given, Lists}
@@ -29,6 +33,19 @@ use Rattle.rebuild.proofs.Sound.{vote-synced}
 use Rattle.rebuild.proofs.Holders.{listed-take}
 
 -- ---- the prefix
+
+-- the first of n numbers that passes is below m where the first of m numbers is
+first-within : (p : ℕ → Bool) (m n : ℕ) → m ≤ n → ltb (firstTo p n) m ≡ ltb (firstTo p m) m
+first-within p m n h = go (decLt (firstTo p n) m)
+  where
+    f : First p n (firstTo p n)
+    f = first-to p n
+
+    go : Dec (firstTo p n < m) → ltb (firstTo p n) m ≡ ltb (firstTo p m) m
+    go (yes l) = ap (λ (i : ℕ). ltb i m) (sym (first-is p m (firstTo p n) (record { low = omega arith; before = f .before; at = λ _. f .at (omega arith) })))
+    go (no l) =
+        let e : firstTo p m ≡ m = first-is p m m (record { low = omega arith; before = λ i k. f .before i (omega (arith, l)); at = λ k. absurd (omega arith) }) in
+        le-ltb (firstTo p n) m (omega (arith, l)) ∙ sym (le-ltb (firstTo p m) m (omega arith))
 
 pub prefix-by : (vs : List Vote) (v : Vote) (m : ℕ) → best vs ≡ v → m ≡ v .sync → prefix vs ≡ take m (v .log)
 unfolding prefix
@@ -58,12 +75,14 @@ module _ (sh : Shape) (s msg : List ℕ) (a : Cast) (g : Given sh s msg a) (b : 
     pub prefix-within : b .length ≤ length (voteOf (getD (votesIn sh s msg a) (b .replica) none) .log)
     prefix-within = rw (k .length) (vote-synced sh s msg a g (b .replica) h (k .held h))
 
-    pub prefix-long : (t : List ℕ) → Lists (sh .c) (voteOf (getD (votesIn sh s msg a) (b .replica) none) .log) t → 4 + 24 * b .length ≤ length t
-    prefix-long t l = let w = prefix-within in omega (arith, l .size)
-
-    pub prefix-found : (e : Entry) (t : List ℕ) (i : ℕ) → Lists (sh .c) (voteOf (getD (votesIn sh s msg a) (b .replica) none) .log) t → i ≡ findRow (λ j. entryAt t (4 + 24 * j)) (e .request) (e .coordinator) (b .length) → ltb i (b .length) ≡ among (prefix (withNormal (b .top) (votesIn sh s msg a))) e
-    prefix-found e t i l f =
-        read-among t 4 e (b .length) i f
+    -- the first in all of the log is one of the prefix where there is one
+    pub prefix-found : (e : Entry) (t : List ℕ) (n i : ℕ) → Lists (sh .c) (voteOf (getD (votesIn sh s msg a) (b .replica) none) .log) t → n ≡ num t 0 4 → i ≡ findRow (λ j. entryAt t (4 + 24 * j)) (e .request) (e .coordinator) n → ltb i (b .length) ≡ among (prefix (withNormal (b .top) (votesIn sh s msg a))) e
+    prefix-found e t n i l q f =
+        let w = prefix-within in
+        let p : ℕ → Bool = λ j. sameTxn e (entryAt t (4 + 24 * j)) in
+        ap (λ (j : ℕ). ltb j (b .length)) f
+        ∙ first-within p (b .length) n (omega (arith, l .count))
+        ∙ read-among t 4 e (b .length) (firstTo p (b .length)) refl
         ∙ ap (λ (es : List Entry). among es e) (listed-take (sh .c) _ t l (b .length) prefix-within ∙ sym (prefix-is (sh .n) (votesIn sh s msg a) b k))
 
 -- ---- the tests of an entry
@@ -83,26 +102,36 @@ module _ (n : ℕ) (vs : List (Option Vote)) (b : Basis) (k : Based n vs b) (r :
   last-fails true z h = sym h
   last-fails false z h = refl
 
-  pub new-lower : (m : ℕ) → m ≡ holders (lower (b .top) vs r) e → (m ≡ 0 → ⊥) → false ≡ isNew n (b .top) vs r e
+  pub new-lower : (t : Bool) → t ≡ not (eqb (holders (lower (b .top) vs r) e) 0) → t ≡ true → false ≡ isNew n (b .top) vs r e
   unfolding isNew
-  new-lower m q h = last-fails (isAdded n ws e) _ (rw (← q) (ne-eqb m 0 h))
+  new-lower t q h = last-fails (isAdded n ws e) _ (not-true (eqb (holders (lower (b .top) vs r) e) 0) (sym q ∙ h))
 
-  middle-fails : (x y w z : Bool) → y ≡ true → false ≡ ((x && (not y && w)) && z)
-  middle-fails true y w z h = rw h
-  middle-fails false y w z h = refl
+  none-lower : (t : Bool) → t ≡ not (eqb (holders (lower (b .top) vs r) e) 0) → t ≡ false → holders (lower (b .top) vs r) e ≡ 0
+  none-lower t q h = eqb-true (holders (lower (b .top) vs r) e) 0 (not-false (eqb (holders (lower (b .top) vs r) e) 0) (sym q ∙ h))
 
-  pub new-prefix : (t : Bool) → t ≡ among (prefix ws) e → t ≡ true → false ≡ isNew n (b .top) vs r e
-  unfolding isNew
-  new-prefix t q h = middle-fails (later (boundaryIn ws) e) (among (prefix ws) e) _ _ (sym q ∙ h)
+  module _ (t : Bool) (all rec : ℕ) (l : length vs ≡ n) (q : t ≡ not (eqb (holders (lower (b .top) vs r) e) 0)) (z : t ≡ false) (w : holders (lower (b .top) vs r) e + all ≡ holders (lower (b .top) vs n) e) (y : rec ≡ recovery n) where
+    -- those of replicas from r on are all that hold it
+    all-holders : all ≡ holders ws e
+    all-holders =
+        let a : holders (lower (b .top) vs n) e ≡ holders ws e = ap (λ (xs : List Vote). holders xs e) (lower-all (b .top) vs n (omega arith)) in
+        omega (arith, none-lower t q z)
 
-  all-hold : (x y w z : Bool) → x ≡ true → y ≡ false → z ≡ true → w ≡ ((x && (not y && w)) && z)
-  all-hold x y true z p q h = rw (p, q, h)
-  all-hold x y false z p q h = rw (p, q)
+    copies-fail : (x m c v : Bool) → c ≡ false → false ≡ ((x && (m && c)) && v)
+    copies-fail true true c v h = rw h
+    copies-fail true false c v h = refl
+    copies-fail false m c v h = refl
 
-  pub new-held : (m all rec : ℕ) (t : Bool) → length vs ≡ n → b .boundary < e .stamp → m ≡ holders (lower (b .top) vs r) e → m ≡ 0 → t ≡ among (prefix ws) e → t ≡ false → all ≡ holders (lower (b .top) vs n) e → rec ≡ recovery n → leb rec all ≡ isNew n (b .top) vs r e
-  unfolding isNew later
-  new-held m all rec t l h q z f u w y =
-      let a : all ≡ holders ws e = w ∙ ap (λ (xs : List Vote). holders xs e) (lower-all (b .top) vs n (omega arith)) in
-      rw (y, a)
-      (all-hold (later (boundaryIn ws) e) (among (prefix ws) e) (leb (recovery n) (holders ws e)) (eqb (holders (lower (b .top) vs r) e) 0)
-      (rw (← k .boundary) (lt-ltb (b .boundary) (e .stamp) h)) (sym f ∙ u) (eq-eqb (holders (lower (b .top) vs r) e) 0 (sym q ∙ z)))
+    pub new-few : all < rec → false ≡ isNew n (b .top) vs r e
+    unfolding isNew
+    new-few h = copies-fail (later (boundaryIn ws) e) (not (among (prefix ws) e)) (leb (recovery n) (holders ws e)) _ (lt-leb (recovery n) (holders ws e) (omega (arith, all-holders)))
+
+    all-hold : (x m c v : Bool) → x ≡ true → c ≡ true → v ≡ true → m ≡ ((x && (m && c)) && v)
+    all-hold x true c v f g i = rw (f, g, i)
+    all-hold x false c v f g i = rw f
+
+    pub new-held : (p : Bool) → b .boundary < e .stamp → rec ≤ all → p ≡ among (prefix ws) e → not p ≡ isNew n (b .top) vs r e
+    unfolding isNew later
+    new-held p h i f =
+        rw f
+        (all-hold (later (boundaryIn ws) e) (not (among (prefix ws) e)) (leb (recovery n) (holders ws e)) (eqb (holders (lower (b .top) vs r) e) 0)
+        (rw (← k .boundary) (lt-ltb (b .boundary) (e .stamp) h)) (le-leb (recovery n) (holders ws e) (omega (arith, all-holders))) (eq-eqb (holders (lower (b .top) vs r) e) 0 (none-lower t q z)))

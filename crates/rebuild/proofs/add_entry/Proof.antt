@@ -8,7 +8,7 @@ is-new-requires : tie.Need-is-new-requires
 is-new-requires c κs = search needs
 
 returns : tie.Need-returns
-returns c = entry-passed _ ((c .before .before .before .before .before .args .e)) _ _ ((c .before .is-new .ensures)) _ ((c .before .before .before .before .before .pre .3)) ((c .if1 .taken))
+returns c = entry-passed _ (c .before .before .before .before .before .before .args .e) _ _ (c .before .is-new .ensures) _ (c .before .before .before .before .before .before .pre .4) (c .if1 .taken)
 
 count-requires : tie.Need-count-requires
 count-requires c κs = search needs
@@ -17,7 +17,7 @@ same-length : tie.Need-same-length
 same-length c = search needs
 
 returns-2 : tie.Need-returns-2
-returns-2 c = entry-full _ ((c .before .before .before .before .before .before .before .before .args .e)) _ _ ((c .before .before .before .before .is-new .ensures)) _ _ _ ((c .before .before .before .before .before .before .before .before .pre .3)) ((c .before .before .before .if1 .left)) ((c .before .count .ensures)) ((c .if2 .taken))
+returns-2 c = entry-full _ (c .before .before .before .before .before .before .before .before .before .args .e) _ _ (c .before .before .before .before .is-new .ensures) _ _ _ (c .before .before .before .before .before .before .before .before .before .pre .4) (c .before .before .before .if1 .left) (c .before .count .ensures) (c .if2 .taken)
 
 insert-in-order-requires : tie.Need-insert-in-order-requires
 insert-in-order-requires c κs = search needs
@@ -26,7 +26,7 @@ same-length-2 : tie.Need-same-length-2
 same-length-2 c = search needs
 
 returns-3 : tie.Need-returns-3
-returns-3 c = entry-added _ ((c .before .before .before .before .before .before .before .before .before .before .before .before .args .e)) _ _ ((c .before .before .before .before .before .before .before .before .is-new .ensures)) _ _ ((c .before .before .before .before .before .before .before .if1 .left)) ((c .before .before .insert-in-order .ensures))
+returns-3 c = entry-added _ (c .before .before .before .before .before .before .before .before .before .before .before .before .before .args .e) _ _ (c .before .before .before .before .before .before .before .before .is-new .ensures) _ _ (c .before .before .before .before .before .before .before .if1 .left) (c .before .before .insert-in-order .ensures)
 
 pub add-entry-spec : {M : Type 1} → statement M
 add-entry-spec =

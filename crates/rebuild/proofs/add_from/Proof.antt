@@ -24,25 +24,25 @@ ended : (i m n : ℕ) → m ≤ i → m ≡ n → n ≤ i
 ended i m n h e = omega arith
 
 abbrev Inv-loop : tie.InvT-loop
-Inv-loop shape state message cast basis r table₀ log count i₀ table i = (i ≤ count) × (count ≡ length (voteOf (getD (votesIn shape state message cast) r none) .log)) × Holds (shape .c) (placeAll (tableAt (shape .c) table₀ 0) (keep (isNew (shape .n) (basis .top) (votesIn shape state message cast) r) (take i (voteOf (getD (votesIn shape state message cast) r none) .log)))) table
+Inv-loop shape state message cast basis index rows r table₀ log count i₀ table i = (i ≤ count) × (count ≡ length (voteOf (getD (votesIn shape state message cast) r none) .log)) × Holds (shape .c) (placeAll (tableAt (shape .c) table₀ 0) (keep (isNew (shape .n) (basis .top) (votesIn shape state message cast) r) (take i (voteOf (getD (votesIn shape state message cast) r none) .log)))) table
 
 abbrev μ-loop : tie.MeasureT-loop
-μ-loop shape state message cast basis r table₀ log count i₀ table i = count - i
+μ-loop shape state message cast basis index rows r table₀ log count i₀ table i = count - i
 
 counted-requires : tie.Need-counted-requires Inv-loop μ-loop
-counted-requires c κs = ((c .before .before .before .pre .0 .sent), (c .before .before .before .pre .2))
+counted-requires c κs = ((c .before .before .before .before .pre .0 .sent), (c .before .before .before .before .pre .3))
 
 returns : tie.Need-returns Inv-loop μ-loop
-returns c = from-passed _ _ _ _ _ ((c .before .counted .ensures) ((c .before .before .before .before .before .args .message .now))) _ _ ((c .before .before .before .before .before .pre .3)) ((c .if1 .taken))
+returns c = from-passed _ _ _ _ _ ((c .before .counted .ensures) (c .before .before .before .before .before .before .args .message .now)) _ _ (c .before .before .before .before .before .before .pre .4) (c .if1 .taken)
 
 log-of-requires : tie.Need-log-of-requires Inv-loop μ-loop
-log-of-requires c κs = ((c .before .before .before .before .before .pre .0), (c .before .before .before .before .before .pre .2), counts-some _ (getD (votesIn ((c .before .before .before .before .before .args .shape)) ((c .before .before .before .before .before .args .state .now)) ((c .before .before .before .before .before .args .message .now)) ((c .before .before .before .before .before .args .cast))) ((c .before .before .before .before .before .args .r)) none) _ ((c .before .counted .ensures) ((c .before .before .before .before .before .args .message .now))) (not-false _ ((c .if1 .left))))
+log-of-requires c κs = ((c .before .before .before .before .before .before .pre .0), (c .before .before .before .before .before .before .pre .3), counts-some _ (getD (votesIn (c .before .before .before .before .before .before .args .shape) (c .before .before .before .before .before .before .args .state .now) (c .before .before .before .before .before .before .args .message .now) (c .before .before .before .before .before .before .args .cast)) (c .before .before .before .before .before .before .args .r) none) _ ((c .before .counted .ensures) (c .before .before .before .before .before .before .args .message .now)) (not-false _ (c .if1 .left)))
 
 count-requires : tie.Need-count-requires Inv-loop μ-loop
 count-requires c κs = omega (arith, (c .log-of .ensures .size))
 
 loop-holds : tie.Need-loop-holds Inv-loop μ-loop
-loop-holds c = (omega arith, (c .count .ensures) ∙ (c .before .log-of .ensures .count), log-start _ _ _ (voteOf (getD (votesIn ((c .before .before .before .before .before .before .before .args .shape)) ((c .before .before .before .before .before .before .before .args .state .now)) ((c .before .before .before .before .before .before .before .args .message .now)) ((c .before .before .before .before .before .before .before .args .cast))) ((c .before .before .before .before .before .before .before .args .r)) none) .log) _ ((c .before .before .before .before .before .before .before .pre .3)))
+loop-holds c = (omega arith, (c .count .ensures) ∙ (c .before .log-of .ensures .count), log-start _ _ _ (voteOf (getD (votesIn (c .before .before .before .before .before .before .before .before .args .shape) (c .before .before .before .before .before .before .before .before .args .state .now) (c .before .before .before .before .before .before .before .before .args .message .now) (c .before .before .before .before .before .before .before .before .args .cast)) (c .before .before .before .before .before .before .before .before .args .r) none) .log) _ (c .before .before .before .before .before .before .before .before .pre .4))
 
 mul-entry-at : tie.Need-mul-entry-at Inv-loop μ-loop
 mul-entry-at c = omega (arith, (c .before .before .before .log-of .ensures .room))
@@ -54,13 +54,13 @@ entry-at-requires : tie.Need-entry-at-requires Inv-loop μ-loop
 entry-at-requires c κs = omega (arith, (c .before .before .before .log-of .ensures .size))
 
 add-entry-requires : tie.Need-add-entry-requires Inv-loop μ-loop
-add-entry-requires c κs = ((c .before .before .before .before .before .before .before .before .before .before .before .pre .0), (c .before .before .before .before .before .before .before .before .before .before .before .pre .1), (c .before .before .before .before .before .before .before .before .before .before .before .pre .2), is-table _ _ _ ((c .before .before .before .loop .inv .2)))
+add-entry-requires c κs = ((c .before .before .before .before .before .before .before .before .before .before .before .before .pre .0), (c .before .before .before .before .before .before .before .before .before .before .before .before .pre .1), (c .before .before .before .before .before .before .before .before .before .before .before .before .pre .2), (c .before .before .before .before .before .before .before .before .before .before .before .before .pre .3), is-table _ _ _ (c .before .before .before .loop .inv .2))
 
 same-length : tie.Need-same-length Inv-loop μ-loop
-same-length c = omega arith
+same-length c = omega (arith, (c .before .before .before .before .before .before .before .before .before .before .before .before .before .before .before .before .pre .4 .size))
 
 returns-2 : tie.Need-returns-2 Inv-loop μ-loop
-returns-2 c = from-stopped _ _ _ _ _ ((c .before .before .before .before .before .before .before .before .before .before .before .counted .ensures) ((c .before .before .before .before .before .before .before .before .before .before .before .before .before .before .before .args .message .now))) _ _ _ ((c .before .before .before .before .before .before .before .before .before .before .if1 .left)) (log-stop _ _ _ _ _ _ _ _ ((c .before .before .before .before .before .before .before .loop .inv .2)) (below _ _ _ ((c .before .before .before .before .before .before .loop-test .taken)) ((c .before .before .before .before .before .before .before .loop .inv .1))) ((c .before .before .before .before .before .entry-at .ensures) ∙ listed-at _ _ _ ((c .before .before .before .before .before .before .before .before .before .log-of .ensures)) _ (below _ _ _ ((c .before .before .before .before .before .before .loop-test .taken)) ((c .before .before .before .before .before .before .before .loop .inv .1)))) ((c .before .before .before .add-entry .result)) ((c .before .before .before .add-entry .ensures)) ((c .if2 .taken)))
+returns-2 c = from-stopped _ _ _ _ _ ((c .before .before .before .before .before .before .before .before .before .before .before .counted .ensures) (c .before .before .before .before .before .before .before .before .before .before .before .before .before .before .before .before .args .message .now)) _ _ _ (c .before .before .before .before .before .before .before .before .before .before .if1 .left) (log-stop _ _ _ _ _ _ _ _ (c .before .before .before .before .before .before .before .loop .inv .2) (below _ _ _ (c .before .before .before .before .before .before .loop-test .taken) (c .before .before .before .before .before .before .before .loop .inv .1)) ((c .before .before .before .before .before .entry-at .ensures) ∙ listed-at _ _ _ (c .before .before .before .before .before .before .before .before .before .log-of .ensures) _ (below _ _ _ (c .before .before .before .before .before .before .loop-test .taken) (c .before .before .before .before .before .before .before .loop .inv .1))) (c .before .before .before .add-entry .result) (c .before .before .before .add-entry .ensures) (c .if2 .taken))
 
 add-i : tie.Need-add-i Inv-loop μ-loop
 add-i c = omega arith
@@ -69,13 +69,13 @@ loop-less : tie.Need-loop-less Inv-loop μ-loop
 loop-less c = omega arith
 
 loop-again : tie.Need-loop-again Inv-loop μ-loop
-loop-again c = (omega arith, (c .before .before .before .before .before .before .before .loop .inv .1), log-turn _ _ _ _ _ _ _ _ ((c .before .before .before .before .before .before .before .loop .inv .2)) (below _ _ _ ((c .before .before .before .before .before .before .loop-test .taken)) ((c .before .before .before .before .before .before .before .loop .inv .1))) ((c .before .before .before .before .before .entry-at .ensures) ∙ listed-at _ _ _ ((c .before .before .before .before .before .before .before .before .before .log-of .ensures)) _ (below _ _ _ ((c .before .before .before .before .before .before .loop-test .taken)) ((c .before .before .before .before .before .before .before .loop .inv .1)))) ((c .before .before .before .add-entry .result)) ((c .before .before .before .add-entry .ensures)) ((c .if2 .left)))
+loop-again c = (omega arith, (c .before .before .before .before .before .before .before .loop .inv .1), log-turn _ _ _ _ _ _ _ _ (c .before .before .before .before .before .before .before .loop .inv .2) (below _ _ _ (c .before .before .before .before .before .before .loop-test .taken) (c .before .before .before .before .before .before .before .loop .inv .1)) ((c .before .before .before .before .before .entry-at .ensures) ∙ listed-at _ _ _ (c .before .before .before .before .before .before .before .before .before .log-of .ensures) _ (below _ _ _ (c .before .before .before .before .before .before .loop-test .taken) (c .before .before .before .before .before .before .before .loop .inv .1))) (c .before .before .before .add-entry .result) (c .before .before .before .add-entry .ensures) (c .if2 .left))
 
 same-length-2 : tie.Need-same-length-2 Inv-loop μ-loop
 same-length-2 c = omega arith
 
 returns-3 : tie.Need-returns-3 Inv-loop μ-loop
-returns-3 c = from-added _ _ _ _ _ ((c .before .before .before .before .before .counted .ensures) ((c .before .before .before .before .before .before .before .before .before .args .message .now))) _ _ _ ((c .before .before .before .before .if1 .left)) (log-end _ _ _ _ _ _ (ended _ _ _ ((c .loop-test .left)) ((c .before .loop .inv .1))) ((c .before .loop .inv .2)))
+returns-3 c = from-added _ _ _ _ _ ((c .before .before .before .before .before .counted .ensures) (c .before .before .before .before .before .before .before .before .before .before .args .message .now)) _ _ _ (c .before .before .before .before .if1 .left) (log-end _ _ _ _ _ _ (ended _ _ _ (c .loop-test .left) (c .before .loop .inv .1)) (c .before .loop .inv .2))
 
 pub add-from-spec : {M : Type 1} → statement M
 add-from-spec =

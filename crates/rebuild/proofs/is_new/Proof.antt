@@ -3,41 +3,41 @@ use borrow.Author.Needs.{needs}
 use Rattle.rebuild.proofs.is_new.Statement.{statement}
 use Rattle.rebuild.proofs.is_new.Tie as tie
 use Rattle.rebuild.proofs.Votes.{votes-long}
-use Rattle.rebuild.proofs.New.{new-late, new-lower, new-prefix, new-held}
+use Rattle.rebuild.proofs.New.{new-late, new-lower, new-few, new-held}
 
 returns : tie.Need-returns
-returns c = new-late _ _ _ ((c .before .before .before .before .before .pre .1)) _ ((c .before .before .before .before .before .args .e)) ((c .if1 .taken))
+returns c = new-late _ _ _ (c .before .before .before .before .before .before .pre .1) _ (c .before .before .before .before .before .before .args .e) (c .if1 .taken)
 
-holders-below-requires : tie.Need-holders-below-requires
-holders-below-requires c κs = search needs
+held-below-requires : tie.Need-held-below-requires
+held-below-requires c κs = search needs
 
 returns-2 : tie.Need-returns-2
-returns-2 c = new-lower _ _ _ ((c .before .before .before .before .before .before .before .pre .1)) _ ((c .before .before .before .before .before .before .before .args .e)) _ ((c .before .holders-below .ensures)) ((c .if2 .taken))
+returns-2 c = new-lower _ _ _ (c .before .before .before .before .before .before .before .before .pre .1) _ (c .before .before .before .before .before .before .before .before .args .e) _ (c .before .held-below .ensures) (c .if2 .taken)
 
-in-prefix-requires : tie.Need-in-prefix-requires
-in-prefix-requires c κs = search needs
-
-returns-3 : tie.Need-returns-3
-returns-3 c = new-prefix _ _ _ ((c .before .before .before .before .before .before .before .before .before .pre .1)) _ ((c .before .before .before .before .before .before .before .before .before .args .e)) _ ((c .before .in-prefix .ensures)) ((c .if3 .taken))
-
-holders-below-requires-2 : tie.Need-holders-below-requires-2
-holders-below-requires-2 c κs = search needs
+holders-from-requires : tie.Need-holders-from-requires
+holders-from-requires c κs = search needs
 
 recovery-requires : tie.Need-recovery-requires
 recovery-requires c κs = search needs
 
+returns-3 : tie.Need-returns-3
+returns-3 c = new-few _ _ _ (c .before .before .before .before .before .before .before .before .before .before .before .pre .1) _ (c .before .before .before .before .before .before .before .before .before .before .before .args .e) _ _ _ (votes-long _ _ _ _ (c .before .before .before .before .before .before .before .before .before .before .before .pre .0 .sent)) (c .before .before .before .before .held-below .ensures) (c .before .before .before .if2 .left) (c .before .before .holders-from .ensures) (c .before .recovery .ensures) (c .if3 .taken)
+
+in-prefix-requires : tie.Need-in-prefix-requires
+in-prefix-requires c κs = search needs
+
 returns-4 : tie.Need-returns-4
-returns-4 c = new-held _ _ _ ((c .before .before .before .before .before .before .before .before .before .before .before .pre .1)) _ ((c .before .before .before .before .before .before .before .before .before .before .before .args .e)) _ _ _ _ (votes-long _ _ _ _ ((c .before .before .before .before .before .before .before .before .before .before .before .pre .0 .sent))) ((c .before .before .before .before .before .before .if1 .left)) ((c .before .before .before .before .before .holders-below .ensures)) ((c .before .before .before .before .if2 .left)) ((c .before .before .before .in-prefix .ensures)) ((c .before .before .if3 .left)) ((c .before .holders-below2 .ensures)) ((c .recovery .ensures))
+returns-4 c = new-held _ _ _ (c .before .before .before .before .before .before .before .before .before .before .before .before .pre .1) _ (c .before .before .before .before .before .before .before .before .before .before .before .before .args .e) _ _ _ (votes-long _ _ _ _ (c .before .before .before .before .before .before .before .before .before .before .before .before .pre .0 .sent)) (c .before .before .before .before .before .held-below .ensures) (c .before .before .before .before .if2 .left) (c .before .before .before .holders-from .ensures) (c .before .before .recovery .ensures) _ (c .before .before .before .before .before .before .if1 .left) (c .before .if3 .left) (c .in-prefix .ensures)
 
 pub is-new-spec : {M : Type 1} → statement M
 is-new-spec =
     tie.close
     (tie.spec
     returns
-    holders-below-requires
+    held-below-requires
     returns-2
-    in-prefix-requires
-    returns-3
-    holders-below-requires-2
+    holders-from-requires
     recovery-requires
+    returns-3
+    in-prefix-requires
     returns-4)

@@ -2,8 +2,10 @@
 use borrow.Author.Needs.{needs}
 use Rattle.rebuild.proofs.log_holds.Statement.{statement}
 use Rattle.rebuild.proofs.log_holds.Tie as tie
+use native.Mathlib.Omega.{arith}
 use Rattle.rebuild.proofs.Sound.{vote-good}
 use Rattle.rebuild.proofs.Holders.{key-missing, key-found}
+use Rattle.rebuild.proofs.Tables.{looks-in}
 
 log-of-requires : tie.Need-log-of-requires
 log-of-requires c κs = search needs
@@ -11,11 +13,11 @@ log-of-requires c κs = search needs
 count-requires : tie.Need-count-requires
 count-requires c κs = search needs
 
-find-requires : tie.Need-find-requires
-find-requires c κs = search needs
+find-row-requires : tie.Need-find-row-requires
+find-row-requires c κs = looks-in _ _ _ _ _ (c .before .before .before .before .before .pre .3) _ (c .before .log-of .ensures) (c .before .before .before .before .before .pre .0 .sent .stands .fits .small) (omega (arith, (c .before .before .before .before .before .pre .0 .sent .stands .fits .most))) _ (c .count .ensures)
 
 returns : tie.Need-returns
-returns c = key-missing _ _ _ ((c .before .before .before .log-of .ensures)) ((c .before .before .before .before .before .before .args .e)) _ _ ((c .before .before .count .ensures)) ((c .before .find .ensures)) ((c .if1 .taken))
+returns c = key-missing _ _ _ (c .before .before .before .log-of .ensures) (c .before .before .before .before .before .before .before .args .e) _ _ (c .before .before .count .ensures) (c .before .find-row .ensures) (c .if1 .taken)
 
 mul-entry-at : tie.Need-mul-entry-at
 mul-entry-at c = search needs
@@ -27,7 +29,7 @@ entry-at-requires : tie.Need-entry-at-requires
 entry-at-requires c κs = search needs
 
 returns-2 : tie.Need-returns-2
-returns-2 c = key-found _ _ _ ((c .before .before .before .before .before .before .log-of .ensures)) _ _ ((c .before .before .before .before .before .before .before .before .before .args .e)) _ _ _ (vote-good _ _ _ _ ((c .before .before .before .before .before .before .before .before .before .pre .0)) _ ((c .before .before .before .before .before .before .before .before .before .pre .1)) ((c .before .before .before .before .before .before .before .before .before .pre .2))) ((c .before .before .before .before .before .count .ensures)) ((c .before .before .before .before .find .ensures)) ((c .before .before .before .if1 .left)) ((c .before .before .entry-at .ensures))
+returns-2 c = key-found _ _ _ (c .before .before .before .before .before .before .log-of .ensures) _ _ (c .before .before .before .before .before .before .before .before .before .before .args .e) _ _ _ (vote-good _ _ _ _ (c .before .before .before .before .before .before .before .before .before .before .pre .0) _ (c .before .before .before .before .before .before .before .before .before .before .pre .1) (c .before .before .before .before .before .before .before .before .before .before .pre .2)) (c .before .before .before .before .before .count .ensures) (c .before .before .before .before .find-row .ensures) (c .before .before .before .if1 .left) (c .before .before .entry-at .ensures)
 
 pub log-holds-spec : {M : Type 1} → statement M
 log-holds-spec =
@@ -35,7 +37,7 @@ log-holds-spec =
     (tie.spec
     log-of-requires
     count-requires
-    find-requires
+    find-row-requires
     returns
     mul-entry-at
     add-entry-at

@@ -1,0 +1,78 @@
+-- `rebuild::rebuild_by` meets its contract. The invariant: the table holds the prefix, and in order what the votes of the replicas passed add. Assumes nothing.
+use Rattle.rebuild.proofs.rebuild_by.Statement.{statement}
+use Rattle.rebuild.proofs.rebuild_by.Tie as tie
+use Prim.Native.Nat.{_≤_, _-_}
+use native.Mathlib.Omega.{arith}
+use Rattle.rules.specs.Entry.{placeAll}
+use Rattle.rules.specs.Rebuild.{withNormal, prefix}
+use Rattle.entries.specs.Table.{Holds}
+use Rattle.entries.proofs.Table.{is-table}
+use Rattle.rebuild.specs.Ballots.{votesIn}
+use Rattle.rebuild.proofs.Votes.{votes-long}
+use Rattle.rebuild.proofs.Sound.{lower-good}
+use Rattle.rebuild.proofs.Whole.{addedBelow, whole-start, whole-turn, whole-stop, whole-end}
+
+abbrev Inv-loop : tie.InvT-loop
+Inv-loop shape state message cast size rows table₀ basis index r₀ table r = (r ≤ shape .n) × Holds (shape .c) (placeAll (prefix (withNormal (basis .top) (votesIn shape state message cast))) (addedBelow (shape .n) (basis .top) (votesIn shape state message cast) r)) table
+
+abbrev μ-loop : tie.MeasureT-loop
+μ-loop shape state message cast size rows table₀ basis index r₀ table r = shape .n - r
+
+take-prefix-requires : tie.Need-take-prefix-requires Inv-loop μ-loop
+take-prefix-requires c κs = ((c .before .before .before .before .before .pre .0), (c .before .before .before .before .before .pre .3))
+
+index-votes-requires : tie.Need-index-votes-requires Inv-loop μ-loop
+index-votes-requires c κs = ((c .before .before .before .before .before .before .before .before .before .pre .0), (c .before .before .before .before .before .before .before .before .before .pre .1), (c .before .before .before .before .before .before .before .before .before .pre .2))
+
+loop-holds : tie.Need-loop-holds Inv-loop μ-loop
+loop-holds c = (omega arith, whole-start _ _ _ _ _ _ (c .before .before .before .before .before .before .take-prefix .ensures .1))
+
+add-from-requires : tie.Need-add-from-requires Inv-loop μ-loop
+add-from-requires c κs = ((c .before .before .before .before .before .before .before .before .before .before .before .before .before .before .before .before .before .pre .0), (c .before .before .before .before .before .before .before .before .before .before .before .take-prefix .ensures .0), (c .before .before .before .before .before .before .before .index-votes .ensures), (c .before .before .if1 .taken), is-table _ _ _ (c .before .before .before .before .loop .inv .1))
+
+same-length : tie.Need-same-length Inv-loop μ-loop
+same-length c = omega arith
+
+same-length-2 : tie.Need-same-length-2 Inv-loop μ-loop
+same-length-2 c = omega (arith, (c .before .before .before .before .before .before .before .before .before .before .before .before .before .before .before .before .before .before .before .before .before .pre .3), (c .before .before .before .before .before .before .before .before .loop .inv .1 .size))
+
+returns : tie.Need-returns Inv-loop μ-loop
+returns c = whole-stop _ _ _ _ _ _ (votes-long _ _ _ _ (c .before .before .before .before .before .before .before .before .before .before .before .before .before .before .before .before .before .before .before .before .before .pre .0 .sent)) (c .before .before .before .before .before .before .before .before .before .before .before .before .before .before .before .take-prefix .ensures .0) (lower-good _ _ _ _ (c .before .before .before .before .before .before .before .before .before .before .before .before .before .before .before .before .before .before .before .before .before .pre .0) _) _ _ _ (c .before .before .before .before .before .before .if1 .taken) (c .before .before .before .before .before .before .before .before .loop .inv .1) (c .before .before .before .add-from .result) (c .before .before .before .add-from .ensures) (c .if2 .taken)
+
+add-r : tie.Need-add-r Inv-loop μ-loop
+add-r c = omega arith
+
+loop-less : tie.Need-loop-less Inv-loop μ-loop
+loop-less c = omega arith
+
+loop-again : tie.Need-loop-again Inv-loop μ-loop
+loop-again c = (omega arith, whole-turn _ _ _ _ _ _ (votes-long _ _ _ _ (c .before .before .before .before .before .before .before .before .before .before .before .before .before .before .before .before .before .before .before .before .before .pre .0 .sent)) (c .before .before .before .before .before .before .before .before .before .before .before .before .before .before .before .take-prefix .ensures .0) (lower-good _ _ _ _ (c .before .before .before .before .before .before .before .before .before .before .before .before .before .before .before .before .before .before .before .before .before .pre .0) _) _ _ _ (c .before .before .before .before .before .before .if1 .taken) (c .before .before .before .before .before .before .before .before .loop .inv .1) (c .before .before .before .add-from .result) (c .before .before .before .add-from .ensures) (c .if2 .left))
+
+same-length-3 : tie.Need-same-length-3 Inv-loop μ-loop
+same-length-3 c = omega arith
+
+same-length-4 : tie.Need-same-length-4 Inv-loop μ-loop
+same-length-4 c = omega (arith, (c .before .before .before .before .before .before .before .before .before .before .before .before .before .before .before .pre .3), (c .before .before .loop .inv .1 .size))
+
+returns-2 : tie.Need-returns-2 Inv-loop μ-loop
+returns-2 c = whole-end _ _ _ _ _ _ (votes-long _ _ _ _ (c .before .before .before .before .before .before .before .before .before .before .before .before .before .before .before .pre .0 .sent)) (c .before .before .before .before .before .before .before .before .before .take-prefix .ensures .0) (lower-good _ _ _ _ (c .before .before .before .before .before .before .before .before .before .before .before .before .before .before .before .pre .0) _) _ _ (c .if1 .left) (c .before .before .loop .inv .1)
+
+pub rebuild-by-spec : {M : Type 1} → statement M
+rebuild-by-spec =
+    tie.close
+    (tie.spec
+    Inv-loop
+    μ-loop
+    take-prefix-requires
+    index-votes-requires
+    loop-holds
+    add-from-requires
+    same-length
+    same-length-2
+    returns
+    add-r
+    loop-less
+    loop-again
+    same-length-3
+    same-length-4
+    returns-2)
