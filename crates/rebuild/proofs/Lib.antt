@@ -7,4 +7,5 @@ pub mod Holders
 pub mod Tables
 pub mod New
 pub mod Added
+pub mod Climbing
 pub mod Whole

@@ -9,7 +9,7 @@ use native.Mathlib.Omega.{arith}
 use lib.ListN.{length, getD, take, List·getD-eq-default}
 use lib.Seq.{take-nil}
 use lib.Dec.{eqb, ltb, leb}
-use borrow.Author.Tests.{le-ltb, lt-ltb, le-leb, lt-leb, eq-eqb, eqb-true, not-true, not-false}
+use borrow.Author.Tests.{le-ltb, lt-ltb, ltb-true, le-leb, lt-leb, eq-eqb, eqb-true, not-true, not-false}
 use Rattle.octets.specs.Bytes.{num}
 use Rattle.rules.specs.Choice.{any}
 use Rattle.rules.specs.Group.{recovery}
@@ -19,6 +19,7 @@ use Rattle.rules.specs.State.{Vote}
 use Rattle.rules.specs.Rebuild.{withNormal, best, prefix, boundaryIn, holders, isAdded}
 use Rattle.rules.specs.declared.Entry.{Entry}
 use Rattle.rules.specs.declared.Shape.{Shape}
+use Rattle.rules.proofs.Choice.{and-left}
 use Rattle.repeats.specs.Repeat.{firstTo}
 use Rattle.repeats.proofs.Laws.{First, first-to, first-is}
 use Rattle.entries.specs.First.{findRow}
@@ -97,6 +98,12 @@ module _ (n : ℕ) (vs : List (Option Vote)) (b : Basis) (k : Based n vs b) (r :
   pub new-late : e .stamp ≤ b .boundary → false ≡ isNew n (b .top) vs r e
   unfolding isNew later
   new-late h = first-fails (later (boundaryIn ws) e) _ _ (rw (← k .boundary) (le-ltb (b .boundary) (e .stamp) h))
+
+  -- what is to be added is later than the boundary
+  pub new-later : (t : Bool) → t ≡ isNew n (b .top) vs r e → not t ≡ false → b .boundary < e .stamp
+  unfolding isNew later
+  new-later t q h =
+      rw (k .boundary) (ltb-true (boundaryIn ws) (e .stamp) (and-left (ltb (boundaryIn ws) (e .stamp)) _ (and-left (isAdded n ws e) _ (sym q ∙ not-false t h))))
 
   last-fails : (x z : Bool) → z ≡ false → false ≡ (x && z)
   last-fails true z h = sym h

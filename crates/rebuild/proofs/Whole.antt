@@ -8,7 +8,7 @@ use native.Mathlib.Omega.{arith}
 use lib.ListN.{length, getD, take, drop, length-append, take-append-drop}
 use lib.Seq.{length-take-le, getD-take}
 use lib.Dec.{eqb}
-use borrow.Author.Tests.{lt-ltb, ltb-true, not-true, not-false}
+use borrow.Author.Tests.{ltb-true, not-true, not-false}
 use Rattle.octets.specs.Bytes.{items}
 use Rattle.octets.proofs.Codecs.{All}
 use Rattle.rules.specs.Choice.{pick, keep}
@@ -21,14 +21,14 @@ use Rattle.rules.specs.Rebuild.{topFrom, withNormal, best, prefix, boundaryIn, 
 use Rattle.rules.specs.declared.Entry.{Entry}
 use Rattle.rules.specs.declared.Shape.{Shape}
 use Rattle.rules.proofs.Choice.{pick-true, pick-false, and-left, all-map, kept-passes, keep-append}
-use Rattle.rules.proofs.Order.{before-asym, ordered-length}
+use Rattle.rules.proofs.Order.{ordered-length}
 use Rattle.rules.proofs.Logs.{good-parts, last-greatest}
 use Rattle.rules.proofs.Rebuilt.{counting-rising, prefix-good}
 use Rattle.entries.specs.Table.{Holds}
 use Rattle.entries.proofs.Table.{decoded, empty}
 use Rattle.entries.proofs.Sorting.{length-placed}
 use Rattle.rebuild.specs.Ballots.{votesIn, voteOf, countsAt, Given, Lists}
-use Rattle.rebuild.specs.Rebuild.{BestTo, Based, lower, isNew, newFrom, Adds, Gives}
+use Rattle.rebuild.specs.Rebuild.{BestTo, Based, Climbs, lower, isNew, newFrom, Adds, Gives}
 use Rattle.rebuild.specs.declared.Best.{Best}
 use Rattle.rebuild.specs.declared.Basis.{Basis}
 use Rattle.rebuild.specs.declared.Cast.{Cast}
@@ -38,6 +38,7 @@ use Rattle.rebuild.proofs.Sound.{vote-synced}
 use Rattle.rebuild.proofs.Holders.{listed-take}
 use Rattle.rebuild.proofs.New.{prefix-by, none-past, none-taken}
 use Rattle.rebuild.proofs.Added.{placed-append}
+use Rattle.rebuild.proofs.Climbing.{before-not, low-climbs}
 
 -- ---- what it starts from
 
@@ -151,10 +152,6 @@ module _ (n top : ℕ) (vs : List (Option Vote)) where
 
 -- ---- behind the prefix
 
-before-not : (e d : Entry) → d .stamp < e .stamp → before e d ≡ false
-unfolding before
-before-not e d h = before-asym d e (rw (lt-ltb (d .stamp) (e .stamp) h))
-
 place-behind : (e : Entry) (ps ds : List Entry) → All (λ d. d .stamp < e .stamp) ps → place e (ps ++ ds) ≡ ps ++ place e ds
 unfolding place
 place-behind e [] ds a = refl
@@ -184,12 +181,18 @@ module _ (s g c n : ℕ) (vs : List (Option Vote)) (b : Basis) (l : length vs �
   unfolding rebuilt added
   rebuilt-is = ap (λ (t : ℕ). prefix (withNormal t vs) ++ added n (withNormal t vs)) (sym (k .top))
 
+  -- its timestamps are not later than the boundary
+  front-low : All (λ d. d .stamp ≤ lastStamp front) front
+  front-low = last-greatest front (good-parts s g front (prefix-good s g (withNormal (b .top) vs) good) .rises)
+
+  pub front-climbs : Climbs (b .boundary) front
+  front-climbs = rw (k .boundary) (low-climbs (lastStamp front) front front-low)
+
   all-behind : placeAll front all ≡ front ++ ordered all
   unfolding later
   all-behind =
-      let a = last-greatest front (good-parts s g front (prefix-good s g (withNormal (b .top) vs) good) .rises) in
       let d = all-map (λ e h. ltb-true (lastStamp front) (e .stamp) (and-left (later (lastStamp front) e) _ h)) all (kept-passes (isAdded n (withNormal (b .top) vs)) (copies [] (withNormal (b .top) vs))) in
-      ap (λ (x : List Entry). placeAll x all) (sym (append-nil front)) ∙ placed-behind (lastStamp front) front [] all a d
+      ap (λ (x : List Entry). placeAll x all) (sym (append-nil front)) ∙ placed-behind (lastStamp front) front [] all front-low d
 
   pub whole-end : (r : ℕ) (t : List ℕ) → n ≤ r → Holds c (placeAll front (addedBelow n (b .top) vs r)) t → Gives c n vs t (Log (b .boundary))
   unfolding Gives boundaryOf

@@ -19,7 +19,7 @@ ghost use Rattle.entries.specs.First.{findRow};
 ghost use Rattle.entries.specs.Table.{Holds, Table};
 ghost use Rattle.rebuild.specs.Ballots.{votesIn, voteOf, countsAt, Sent, Given, Tells, Lists};
 ghost use Rattle.rebuild.specs.Tables.{spotsOf, Looks, Indexed};
-ghost use Rattle.rebuild.specs.Rebuild.{BestTo, Based, Adds, Gives, lower, holdsAt, isNew, newFrom};
+ghost use Rattle.rebuild.specs.Rebuild.{BestTo, Based, Climbs, Adds, Gives, lower, holdsAt, isNew, newFrom};
 
 // The vote that a message brings: its sender, last normal gView and sync point, where the count of its entries stands, and whether it enters a greater view.
 pub struct Cast {
@@ -434,7 +434,7 @@ fn add_entry<'a>(
     e: Entry,
     table: &mut [u8],
 ) -> bool
-    requires { ⌜ Given shape (now state) (now message) cast × Based (shape .n) (votesIn shape (now state) (now message) cast) basis × Indexed (votesIn shape (now state) (now message) cast) index (now rows) × (r < shape .n) × Table (shape .c) (now table) ⌝ }
+    requires { ⌜ Given shape (now state) (now message) cast × Based (shape .n) (votesIn shape (now state) (now message) cast) basis × Indexed (votesIn shape (now state) (now message) cast) index (now rows) × (r < shape .n) × Table (shape .c) (now table) × Climbs (basis .boundary) (tableAt (shape .c) (now table) 0) ⌝ }
     ensures { λ t. ⌜ Adds (shape .c) (tableAt (shape .c) (now (table .entry)) 0) (pick (isNew (shape .n) (basis .top) (votesIn shape (now (state .entry)) (now (message .entry)) cast) r e) (e ∷ []) []) (now (table .exit)) t ⌝ }
 {
     if !is_new(shape, state, message, cast, basis, index, rows, r, e) {
@@ -460,7 +460,7 @@ fn add_from<'a>(
     r: u64,
     table: &mut [u8],
 ) -> bool
-    requires { ⌜ Given shape (now state) (now message) cast × Based (shape .n) (votesIn shape (now state) (now message) cast) basis × Indexed (votesIn shape (now state) (now message) cast) index (now rows) × (r < shape .n) × Table (shape .c) (now table) ⌝ }
+    requires { ⌜ Given shape (now state) (now message) cast × Based (shape .n) (votesIn shape (now state) (now message) cast) basis × Indexed (votesIn shape (now state) (now message) cast) index (now rows) × (r < shape .n) × Table (shape .c) (now table) × Climbs (basis .boundary) (tableAt (shape .c) (now table) 0) ⌝ }
     ensures { λ t. ⌜ Adds (shape .c) (tableAt (shape .c) (now (table .entry)) 0) (newFrom (shape .n) (basis .top) (votesIn shape (now (state .entry)) (now (message .entry)) cast) r) (now (table .exit)) t ⌝ }
 {
     if !counted(shape, state, cast, basis.top, r) {

@@ -1,6 +1,5 @@
 -- `merge::add_row` meets its contract, by that of the row put in. Assumes nothing.
 use borrow.Author.Needs.{needs}
-use native.Mathlib.Omega.{arith}
 use mathlib.Core.Bool.{true≢false}
 use mathlib.Core.Path.{sym}
 use borrow.Author.Tests.{not-false}

@@ -1,6 +1,5 @@
 -- `merge::take_draft` meets its contract: the draft is copied, and its rows are put in. Assumes nothing.
 use borrow.Author.Needs.{needs}
-use native.Mathlib.Omega.{arith}
 use Rattle.merge.proofs.Rows.{fill-asked, fill-found}
 use Rattle.merge.proofs.Turns.{draft-copied}
 use Rattle.merge.proofs.take_draft.Statement.{statement}

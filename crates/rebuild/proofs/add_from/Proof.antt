@@ -15,6 +15,7 @@ use Rattle.entries.proofs.Table.{is-table}
 use Rattle.rebuild.specs.Ballots.{votesIn, voteOf}
 use Rattle.rebuild.specs.Rebuild.{isNew}
 use Rattle.rebuild.proofs.Holders.{counts-some, listed-at}
+use Rattle.rebuild.proofs.Climbing.{climbs-on}
 use Rattle.rebuild.proofs.Added.{log-start, log-turn, log-stop, log-end, from-passed, from-stopped, from-added}
 
 below : (i m n : ℕ) → i < m → m ≡ n → i < n
@@ -54,7 +55,7 @@ entry-at-requires : tie.Need-entry-at-requires Inv-loop μ-loop
 entry-at-requires c κs = omega (arith, (c .before .before .before .log-of .ensures .size))
 
 add-entry-requires : tie.Need-add-entry-requires Inv-loop μ-loop
-add-entry-requires c κs = ((c .before .before .before .before .before .before .before .before .before .before .before .before .pre .0), (c .before .before .before .before .before .before .before .before .before .before .before .before .pre .1), (c .before .before .before .before .before .before .before .before .before .before .before .before .pre .2), (c .before .before .before .before .before .before .before .before .before .before .before .before .pre .3), is-table _ _ _ (c .before .before .before .loop .inv .2))
+add-entry-requires c κs = ((c .before .before .before .before .before .before .before .before .before .before .before .before .pre .0), (c .before .before .before .before .before .before .before .before .before .before .before .before .pre .1), (c .before .before .before .before .before .before .before .before .before .before .before .before .pre .2), (c .before .before .before .before .before .before .before .before .before .before .before .before .pre .3), is-table _ _ _ (c .before .before .before .loop .inv .2), climbs-on _ _ _ _ _ (c .before .before .before .before .before .before .before .before .before .before .before .before .pre .5) (c .before .before .before .loop .inv .2))
 
 same-length : tie.Need-same-length Inv-loop μ-loop
 same-length c = omega (arith, (c .before .before .before .before .before .before .before .before .before .before .before .before .before .before .before .before .pre .4 .size))

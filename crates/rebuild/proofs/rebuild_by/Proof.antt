@@ -10,7 +10,8 @@ use Rattle.entries.proofs.Table.{is-table}
 use Rattle.rebuild.specs.Ballots.{votesIn}
 use Rattle.rebuild.proofs.Votes.{votes-long}
 use Rattle.rebuild.proofs.Sound.{lower-good}
-use Rattle.rebuild.proofs.Whole.{addedBelow, whole-start, whole-turn, whole-stop, whole-end}
+use Rattle.rebuild.proofs.Climbing.{climbs-on}
+use Rattle.rebuild.proofs.Whole.{addedBelow, front-climbs, whole-start, whole-turn, whole-stop, whole-end}
 
 abbrev Inv-loop : tie.InvT-loop
 Inv-loop shape state message cast size rows table₀ basis index r₀ table r = (r ≤ shape .n) × Holds (shape .c) (placeAll (prefix (withNormal (basis .top) (votesIn shape state message cast))) (addedBelow (shape .n) (basis .top) (votesIn shape state message cast) r)) table
@@ -28,7 +29,7 @@ loop-holds : tie.Need-loop-holds Inv-loop μ-loop
 loop-holds c = (omega arith, whole-start _ _ _ _ _ _ (c .before .before .before .before .before .before .take-prefix .ensures .1))
 
 add-from-requires : tie.Need-add-from-requires Inv-loop μ-loop
-add-from-requires c κs = ((c .before .before .before .before .before .before .before .before .before .before .before .before .before .before .before .before .before .pre .0), (c .before .before .before .before .before .before .before .before .before .before .before .take-prefix .ensures .0), (c .before .before .before .before .before .before .before .index-votes .ensures), (c .before .before .if1 .taken), is-table _ _ _ (c .before .before .before .before .loop .inv .1))
+add-from-requires c κs = ((c .before .before .before .before .before .before .before .before .before .before .before .before .before .before .before .before .before .pre .0), (c .before .before .before .before .before .before .before .before .before .before .before .take-prefix .ensures .0), (c .before .before .before .before .before .before .before .index-votes .ensures), (c .before .before .if1 .taken), is-table _ _ _ (c .before .before .before .before .loop .inv .1), climbs-on _ _ _ _ _ (front-climbs _ _ (c .before .before .before .before .before .before .before .before .before .before .before .before .before .before .before .before .before .args .shape .c) _ _ _ (votes-long _ _ _ _ (c .before .before .before .before .before .before .before .before .before .before .before .before .before .before .before .before .before .pre .0 .sent)) (c .before .before .before .before .before .before .before .before .before .before .before .take-prefix .ensures .0) (lower-good _ _ _ _ (c .before .before .before .before .before .before .before .before .before .before .before .before .before .before .before .before .before .pre .0) _)) (c .before .before .before .before .loop .inv .1))
 
 same-length : tie.Need-same-length Inv-loop μ-loop
 same-length c = omega arith
