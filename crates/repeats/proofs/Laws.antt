@@ -219,6 +219,18 @@ module _ (key : ℕ → ℕ) where
         at = λ k. absurd (omega arith);
       })
 
+  -- where a table has shown it, the place is the end
+  pub placed-last : (m r : ℕ) (t : Bool) → (t ≡ true → Distinct key m) → t ≡ true → r ≡ m → r ≡ repeatPlace key m
+  placed-last m r t d e h = h ∙ sym (distinct-repeat m (d e))
+
+  -- and none repeats
+  pub shown-distinct : (m : ℕ) (t : Bool) → (t ≡ true → Distinct key m) → t ≡ true → true ≡ eqb (repeatPlace key m) m
+  shown-distinct m t d e = sym (eq-eqb _ _ (distinct-repeat m (d e)))
+
+  -- none repeats where the place is the end
+  pub placed-test : (m r k : ℕ) → r ≡ repeatPlace key m → k ≡ m → eqb r k ≡ eqb (repeatPlace key m) m
+  placed-test m r k e h = rw (e, h)
+
 -- the place asks for the first m keys alone
 pub repeat-agree : (key other : ℕ → ℕ) (m : ℕ) → ((i : ℕ) → i < m → key i ≡ other i) → repeatPlace key m ≡ repeatPlace other m
 unfolding repeatPlace

@@ -240,15 +240,12 @@ fn many(b: &[u8], sp: Spots) -> bool
     all_in(b, sp, &mut table)
 }
 
-// Whether a table shows that no key stands twice. Says false at will, and of a few rows always: there the search is cheaper.
+// Whether a table shows that no key stands twice. Says false at will.
 fn surely_distinct(b: &[u8], sp: Spots) -> bool
     requires { ⌜ Inside (now b) sp ⌝ }
     ensures { λ r. ⌜ (r ≡ true → Distinct (keyOf (now (b .entry)) sp) (countOf sp)) ⌝ }
 {
     let m = count(sp);
-    if m <= 12 {
-        return false;
-    }
     if m <= 256 {
         return few(b, sp);
     }
@@ -258,13 +255,31 @@ fn surely_distinct(b: &[u8], sp: Spots) -> bool
     many(b, sp)
 }
 
-// The place of the first key that repeats an earlier one. The nested search runs only where no table has shown that there is none.
+// The place of the first key that repeats an earlier one. The nested search runs only where no table has shown that there is none,
+// and of a few rows at once: there it is cheaper than room for a table.
 pub fn first_repeat(b: &[u8], sp: Spots) -> usize
     requires { ⌜ Inside (now b) sp ⌝ }
     ensures { λ r. ⌜ r ≡ repeatPlace (keyOf (now (b .entry)) sp) (countOf sp) ⌝ }
 {
+    if count(sp) <= 12 {
+        return nested(b, sp);
+    }
     if surely_distinct(b, sp) {
         return count(sp);
     }
     nested(b, sp)
+}
+
+// Whether no key repeats an earlier one, by the same ways.
+pub fn none_repeats(b: &[u8], sp: Spots) -> bool
+    requires { ⌜ Inside (now b) sp ⌝ }
+    ensures { λ r. ⌜ r ≡ eqb (repeatPlace (keyOf (now (b .entry)) sp) (countOf sp)) (countOf sp) ⌝ }
+{
+    if count(sp) <= 12 {
+        return nested(b, sp) == count(sp);
+    }
+    if surely_distinct(b, sp) {
+        return true;
+    }
+    nested(b, sp) == count(sp)
 }
