@@ -187,16 +187,24 @@ pub fn noted(t: &[u8], c: usize, s: usize, e: Entry, j: usize) -> Point
     stamp_of(t, c, s, i, j)
 }
 
+// Whether notes from every group of an entry's mask are held, where note i is that of its transaction.
+pub fn agreed_from(t: &[u8], c: usize, s: usize, e: Entry, i: usize) -> bool
+    requires { ⌜ Notes c s (now t) × (i ≡ row (e .request) (e .coordinator) (notesAt c s (now t))) ⌝ }
+    ensures { λ r. ⌜ r ≡ state.agreed (sized c s) (notesAt c s (now (t .entry))) e ⌝ }
+{
+    if count(t) <= i {
+        return unmasked(e.mask, s);
+    }
+    agreed_at(t, c, s, i, e.mask)
+}
+
 // Whether notes from every group of an entry's mask are held.
 pub fn agreed(t: &[u8], c: usize, s: usize, e: Entry) -> bool
     requires { ⌜ Notes c s (now t) ⌝ }
     ensures { λ r. ⌜ r ≡ state.agreed (sized c s) (notesAt c s (now (t .entry))) e ⌝ }
 {
     let i = find(t, c, s, e.request, e.coordinator);
-    if count(t) <= i {
-        return unmasked(e.mask, s);
-    }
-    agreed_at(t, c, s, i, e.mask)
+    agreed_from(t, c, s, e, i)
 }
 
 // The greatest of the notes from groups of an entry's mask.

@@ -1,33 +1,16 @@
--- `notes::agreed` meets its contract: what its note says, or that none is asked for where it has none. Assumes nothing.
+-- `notes::agreed` meets its contract: it asks of the note that it finds. Assumes nothing.
 use borrow.Author.Needs.{needs}
 use Rattle.notes.proofs.agreed.Statement.{statement}
 use Rattle.notes.proofs.agreed.Tie as tie
-use Prim.Native.Nat.{ℕ}
-use mathlib.Core.Option.{Option}
-use mathlib.Core.List.{List}
-use native.Mathlib.Omega.{arith}
-use Rattle.rules.specs.State.{notedTo}
-use Rattle.notes.proofs.Row.{ask-found, ask-none}
 
 find-requires : tie.Need-find-requires
 find-requires c κs = search needs
 
-count-requires : tie.Need-count-requires
-count-requires c κs = search needs
-
-unmasked-requires : tie.Need-unmasked-requires
-unmasked-requires c κs = search needs
+agreed-from-requires : tie.Need-agreed-from-requires
+agreed-from-requires c κs = search needs
 
 returns : tie.Need-returns
-returns c = ask-none (λ (ts : List (Option ℕ)). notedTo ((c .before .before .before .before .before .args .e .mask)) ts ((c .before .before .before .before .before .args .s))) _ _ _ ((c .before .before .before .find .ensures)) _ (omega arith) (c .unmasked .ensures)
-
-agreed-at-requires : tie.Need-agreed-at-requires
-agreed-at-requires c κs = search needs
-
-returns-2 : tie.Need-returns-2
-returns-2 c = ask-found (λ (ts : List (Option ℕ)). notedTo ((c .before .before .before .before .before .args .e .mask)) ts ((c .before .before .before .before .before .args .s))) _ _ _ ((c .before .before .before .find .ensures)) _ (omega arith) (c .agreed-at .ensures)
+returns c = search needs
 
 pub agreed-spec : {M : Type 1} → statement M
-agreed-spec =
-    tie.close
-    (tie.spec find-requires count-requires unmasked-requires returns agreed-at-requires returns-2)
+agreed-spec = tie.close (tie.spec find-requires agreed-from-requires returns)

@@ -1,0 +1,2 @@
+-- What follows of the keys of notes.
+pub mod Keys
