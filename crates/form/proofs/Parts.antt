@@ -7,7 +7,7 @@ use native.Mathlib.Omega.{arith}
 use native.Mathlib.Nat.{add-assoc}
 use lib.ListN.{length, take, drop, length-append}
 use lib.Seq.{length-take-le}
-use Rattle.octets.specs.Bytes.{le, part, num, flat, items}
+use Rattle.octets.specs.Bytes.{le, part, num, items}
 use Rattle.octets.proofs.Laws.{Bytes, length-le, length-part, part-front, part-past, cut, le-num}
 use Rattle.octets.proofs.Codecs.{length-items}
 use Rattle.rules.specs.Choice.{same}
@@ -128,15 +128,3 @@ module _ (s : ℕ) (b : List ℕ) (a : ℕ) where
   pub note-long : length (noteBytes (noteAt s b a)) ≡ noteLength s
   unfolding noteBytes noteAt
   note-long = simp (length-append, length-le) (omega (arith, row-long pointBytes pointAt 9 (flag-long point-place) b (a + 6) s))
-
-  -- it is right where its points are
-  pub note-points : Bytes b → a + noteLength s ≤ length b → (r : Bool) → r ≡ same (flat pointBytes (items (pointAt b) 9 (a + 6) s)) (part b (a + 6) (9 * s)) → r ≡ same (noteBytes (noteAt s b a)) (part b a (noteLength s))
-  unfolding noteBytes noteAt
-  note-points bs l r h =
-      let p : List ℕ = flat pointBytes (items (pointAt b) 9 (a + 6) s) in
-      let y : List ℕ = le 2 (num b (a + 4) 2) ++ p in
-      let e : noteLength s ≡ 4 + (2 + 9 * s) = omega arith in
-      h ∙ sym (ap (λ (n : ℕ). same (le 4 (num b a 4) ++ y) (part b a n)) e
-      ∙ number-first b a 4 (2 + 9 * s) (omega arith) y bs
-      ∙ number-first b (a + 4) 2 (9 * s) (omega arith) p bs
-      ∙ ap (λ (j : ℕ). same p (part b j (9 * s))) (add-assoc a 4 2))

@@ -17,17 +17,27 @@ use Rattle.octets.proofs.Sections.{part-whole}
 use Rattle.octets.proofs.Codecs.{flat-append}
 use Rattle.rules.specs.Choice.{pick, allOf, same}
 use Rattle.rules.specs.Image.{zeroBytes}
-use Rattle.rules.proofs.Tests.{same-self, same-true}
+use Rattle.rules.proofs.Tests.{same-self}
 
 -- ---- sections in a row
 
-and-assoc : (a b c : Bool) → ((a && b) && c) ≡ (a && (b && c))
+pub and-assoc : (a b c : Bool) → ((a && b) && c) ≡ (a && (b && c))
 and-assoc true b c = refl
 and-assoc false b c = refl
 
 pub and-true : (a : Bool) → (a && true) ≡ a
 and-true true = refl
 and-true false = refl
+
+pub and-comm : (a b : Bool) → (a && b) ≡ (b && a)
+and-comm true b = sym (and-true b)
+and-comm false true = refl
+and-comm false false = refl
+
+pub and-swap : (a b c : Bool) → (a && (b && c)) ≡ (b && (a && c))
+and-swap true b c = refl
+and-swap false true c = refl
+and-swap false false c = refl
 
 pub same-append : (x u y v : List ℕ) → length x ≡ length u → same (x ++ y) (u ++ v) ≡ (same x u && same y v)
 unfolding same
@@ -51,14 +61,6 @@ same-concat (x ∷ xs) (y ∷ ys) l =
     let h : length x ≡ length y = cc in
     let t : map length xs ≡ map length ys = cc in
     same-append x y (concat xs) (concat ys) h ∙ ap (λ (r : Bool). same x y && r) (same-concat xs ys t)
-
--- lists that differ
-pub not-same : (x y : List ℕ) → (x ≡ y → ⊥) → false ≡ same x y
-not-same x y n = go (same x y) refl
-  where
-    go : (r : Bool) → same x y ≡ r → false ≡ r
-    go true e = absurd (n (same-true x y e))
-    go false e = refl
 
 -- ---- a number, and zeros, at the front of what is compared with a part of b
 
@@ -195,7 +197,7 @@ module _ {A : Type 0} (put : A → List ℕ) (get : List ℕ → ℕ → A) (k :
       rw q at e
 
 -- the first i of n places lie within them, and so does the next
-pub first-within : (k i n : ℕ) → i ≤ n → k * i ≤ k * n
+first-within : (k i n : ℕ) → i ≤ n → k * i ≤ k * n
 first-within k i n h =
     let r : k ≤ k = omega arith in
     mul-le-mul r h

@@ -1,26 +1,27 @@
 -- Each section of the state's bytes: what decides whether it has its form, and all of them together. Assumes nothing.
 use Prim.Native.Nat.{ℕ, zero, suc, _+_, _-_, _*_, _≤_, _<_, min}
 use mathlib.Core.Path.{_≡_, refl, sym, ap, ap₂, _∙_}
-use mathlib.Core.Bool.{Bool, true, false, _&&_}
+use mathlib.Core.Bool.{Bool, true, _&&_}
 use mathlib.Core.List.{List, [], _∷_, _++_, map, append-nil}
 use native.Mathlib.Omega.{arith}
 use native.Mathlib.Nat.{not-suc-le-zero, le-of-suc-le-suc, add-assoc}
 use lib.ListN.{length, getD, take, drop, length-append, length-replicate, drop-of-length-le}
 use Rattle.octets.specs.Bytes.{le, part, num, zeros, flat, items}
 use Rattle.octets.specs.Sections.{concat, cuts, total}
-use Rattle.octets.proofs.Laws.{Bytes, bytes-part, length-le, length-part, part-add, part-none}
+use Rattle.octets.proofs.Laws.{Bytes, bytes-part, length-le, length-part, part-none}
 use Rattle.octets.proofs.Sections.{part-whole, concat-cuts}
-use Rattle.octets.proofs.Codecs.{length-items, back-number, peel-all, exact-number}
+use Rattle.octets.proofs.Codecs.{length-items, peel-all, exact-number}
 use Rattle.rules.specs.Choice.{allOf, same}
 use Rattle.rules.specs.Image.{tableLength, noteLength, voteLength, replyLength, lengths, stateLength, zeroBytes, headSection, pointBytes, tableBytes, noteBytes, notesSection, voteBytes, replyBytes, sections, image, pointAt, tableAt, noteAt, voteAt, replyAt, stateIn, stateOf}
+use Rattle.rules.specs.State.{Note}
 use Rattle.rules.specs.declared.Entry.{Entry}
 use Rattle.rules.specs.declared.Shape.{Shape}
 use Rattle.rules.proofs.Tests.{same-self}
 use Rattle.rules.proofs.Image.{long-head}
 use Rattle.places.specs.Layout.{startOf, Marks}
 use Rattle.places.specs.declared.Places.{Places}
-use Rattle.form.specs.Notes.{notesIn}
-use Rattle.form.proofs.Same.{and-true, not-same, same-append, pairs, same-concat, same-zeros, number-first, zeros-first, flag-long, row-long}
+use Rattle.form.specs.Sections.{sectionForm, tablesForm}
+use Rattle.form.proofs.Same.{and-assoc, and-comm, and-swap, and-true, pairs, same-concat, number-first, zeros-first, flag-long, row-long}
 use Rattle.form.proofs.Parts.{part-part, part-lent, point-place, table-at-long, table-part, vote-place, reply-place, note-long}
 
 -- ---- the head: only its five zeros can be wrong
@@ -58,51 +59,24 @@ views-form x s bs l =
 
 -- ---- the notes
 
-module _ (sh : Shape) (b : List ℕ) where
-  notes-within : length (notesIn sh b) ≡ min (num b 0 4) (sh .c)
-  notes-within = length-items (noteAt (sh .s) b) (noteLength (sh .s)) 4 (min (num b 0 4) (sh .c))
+-- as many as the count says, but no more than there is room for
+abbrev notesIn : Shape → List ℕ → List Note
+notesIn sh t = items (noteAt (sh .s) t) (noteLength (sh .s)) 4 (min (num t 0 4) (sh .c))
 
-  long-row-of-notes : (n : ℕ) → length (flat noteBytes (items (noteAt (sh .s) b) (noteLength (sh .s)) 4 n)) ≡ noteLength (sh .s) * n
-  long-row-of-notes n = row-long noteBytes (noteAt (sh .s)) (noteLength (sh .s)) (note-long (sh .s)) b 4 n
-
-  pub notes-long : length (notesSection sh (notesIn sh b)) ≡ 4 + noteLength (sh .s) * sh .c
-  unfolding notesSection
-  notes-long =
-      let m : ℕ = min (num b 0 4) (sh .c) in
-      let r : m ≤ sh .c = omega arith in
-      let e : sh .c ≡ m + (sh .c - m) = omega arith in
-      simp (length-append, length-le, length-replicate, notes-within, long-row-of-notes m) (omega (arith, ap (λ (z : ℕ). noteLength (sh .s) * z) e))
-
-  pub notes-over : (n : ℕ) → n ≡ num b 0 4 → sh .c < n → sh .c ≤ 4096 → false ≡ same (notesSection sh (notesIn sh b)) b
-  unfolding notesSection
-  notes-over n e l h =
-      let k = notes-within in
-      not-same (notesSection sh (notesIn sh b)) b
-      (λ q. omega (arith, ap (λ (x : List ℕ). num x 0 4) q, back-number 4 (notesSection sh (notesIn sh b)) 0 (length (notesIn sh b)) _ (omega arith) refl))
-
-  module _ (bs : Bytes b) (l : length b ≡ 4 + noteLength (sh .s) * sh .c) where
-    pub notes-rest : (n at m : ℕ) (f z : Bool) → n ≡ num b 0 4 → n ≤ sh .c → at ≡ 4 + noteLength (sh .s) * n → m ≡ length b - at
-        → f ≡ same (flat noteBytes (items (noteAt (sh .s) b) (noteLength (sh .s)) 4 n)) (part b 4 (noteLength (sh .s) * n)) → z ≡ zeros (part b at m) → (f && z) ≡ same (notesSection sh (notesIn sh b)) b
-    unfolding notesSection
-    notes-rest n at m f z e h ha hm hf hz =
-        let k : ℕ = noteLength (sh .s) in
-        let F : List ℕ = flat noteBytes (items (noteAt (sh .s) b) k 4 n) in
-        let free : ℕ = k * (sh .c - n) in
-        let u : min (num b 0 4) (sh .c) ≡ n = omega arith in
-        let v : sh .c ≡ n + (sh .c - n) = omega arith in
-        let w : length b ≡ 4 + (k * n + free) = omega (arith, ap (λ (j : ℕ). k * j) v) in
-        let g : m ≡ free = omega arith in
-        let y : notesSection sh (notesIn sh b) ≡ le 4 (num b 0 4) ++ (F ++ zeroBytes free) = rw (notes-within, u, e) in
-        let lf : length F ≡ length (part b 4 (k * n)) = long-row-of-notes n ∙ sym (length-part b 4 (k * n) (omega arith)) in
-        let lz : length (part b at free) ≡ free = length-part b at free (omega arith) in
-        let t : same (notesSection sh (notesIn sh b)) b ≡ (same F (part b 4 (k * n)) && zeros (part b at free))
-        = ap₂ same y (sym (part-whole b (4 + (k * n + free)) (omega arith)))
-        ∙ number-first b 0 4 (k * n + free) (omega arith) (F ++ zeroBytes free) bs
-        ∙ ap (same (F ++ zeroBytes free)) (part-add b 4 (k * n) free)
-        ∙ same-append F (part b 4 (k * n)) (zeroBytes free) (part b (4 + k * n) free) lf
-        ∙ ap (λ (j : ℕ). same F (part b 4 (k * n)) && same (zeroBytes free) (part b j free)) (sym ha)
-        ∙ ap (λ (r : Bool). same F (part b 4 (k * n)) && r) (same-zeros free (part b at free) lz) in
-        ap₂ _&&_ hf (hz ∙ ap (λ (j : ℕ). zeros (part b at j)) g) ∙ sym t
+notes-long : (sh : Shape) (b : List ℕ) → length (notesSection sh (notesIn sh b)) ≡ 4 + noteLength (sh .s) * sh .c
+unfolding notesSection
+notes-long sh b =
+    let m : ℕ = min (num b 0 4) (sh .c) in
+    let r : m ≤ sh .c = omega arith in
+    let e : sh .c ≡ m + (sh .c - m) = omega arith in
+    simp (
+      length-append,
+      length-le,
+      length-replicate,
+      length-items (noteAt (sh .s) b) (noteLength (sh .s)) 4 m,
+      row-long noteBytes (noteAt (sh .s)) (noteLength (sh .s)) (note-long (sh .s)) b 4 m,
+    )
+    (omega (arith, ap (λ (z : ℕ). noteLength (sh .s) * z) e))
 
 -- ---- the sections, whatever the bytes are
 
@@ -151,19 +125,21 @@ sections-long sh ss =
       row-long (replyBytes (sh .c)) (replyAt (sh .c)) (replyLength (sh .c)) (flag-long (reply-place (sh .c))) (getD ss 9 []) 0 (sh .s),
     )
 
--- section i has its form
-abbrev pub sectionForm : Shape → List ℕ → ℕ → Bool
-sectionForm sh b i = same (getD (readBack sh (cuts b 0 (lengths sh))) i []) (getD (cuts b 0 (lengths sh)) i [])
+-- a section's form, by what is read back from it
+pub form-is : (sh : Shape) (b : List ℕ) (i : ℕ) → sectionForm sh b i ≡ same (getD (readBack sh (cuts b 0 (lengths sh))) i []) (getD (cuts b 0 (lengths sh)) i [])
+unfolding sectionForm stateOf
+form-is sh b i = ap (λ (ss : List (List ℕ)). same (getD ss i []) (getD (cuts b 0 (lengths sh)) i [])) (read-back sh (cuts b 0 (lengths sh)))
 
 module _ (sh : Shape) (b : List ℕ) (size : length b ≡ stateLength sh) where
   module _ (bs : Bytes b) where
     pub head-section : (r : Bool) → r ≡ zeros (part b 3 5) → r ≡ sectionForm sh b 0
-    unfolding stateIn headSection concat
+    unfolding sectionForm stateOf stateIn headSection concat
     head-section r h =
         let l : 0 + 48 ≤ length b = omega arith in
         h ∙ ap zeros (sym (part-part b 0 48 l 3 5 (omega arith))) ∙ sym (head-form (part b 0 48) (bytes-part b 0 48 bs) (length-part b 0 48 l))
 
     views-section : true ≡ sectionForm sh b 1
+    unfolding sectionForm stateOf stateIn
     views-section = views-form (part b (0 + 48) (4 * sh .s)) (sh .s) (bytes-part b (0 + 48) (4 * sh .s) bs) (length-part b (0 + 48) (4 * sh .s) (omega arith))
 
   -- a section that is tested as a slice of m bytes from a on, against what F makes of it
@@ -179,32 +155,45 @@ module _ (sh : Shape) (b : List ℕ) (size : length b ≡ stateLength sh) where
       (f ∙ ap (λ (es : List Entry). same (tableBytes (sh .c) es) (part b a (tableLength (sh .c)))) (sym (table-part (sh .c) b a l)))
 
   -- the image of the state that is read is the bytes where each section has its form
-  pub all-sections : same (image sh (stateOf sh b)) b ≡ allOf (pairs (readBack sh (cuts b 0 (lengths sh))) (cuts b 0 (lengths sh)))
+  all-sections : same (image sh (stateOf sh b)) b ≡ allOf (pairs (readBack sh (cuts b 0 (lengths sh))) (cuts b 0 (lengths sh)))
   unfolding image stateOf
   all-sections =
       let ss : List (List ℕ) = cuts b 0 (lengths sh) in
       ap₂ same (ap concat (read-back sh ss)) (sym (concat-cuts b 0 (lengths sh) (omega arith)))
       ∙ same-concat (readBack sh ss) ss (sections-long sh ss ∙ sym (cuts-long b 0 (lengths sh) (omega arith)))
 
-  pub whole : Bytes b → (head heard log early late notes votes draft replies : Bool)
-      → head ≡ sectionForm sh b 0 → heard ≡ sectionForm sh b 2 → log ≡ sectionForm sh b 3 → early ≡ sectionForm sh b 4 → late ≡ sectionForm sh b 5 → notes ≡ sectionForm sh b 6 → votes ≡ sectionForm sh b 7 → draft ≡ sectionForm sh b 8 → replies ≡ sectionForm sh b 9
-      → (head && (heard && (log && (early && (late && (notes && (votes && (draft && replies)))))))) ≡ same (image sh (stateOf sh b)) b
-  unfolding allOf
-  whole bs head heard log early late notes votes draft replies e0 e2 e3 e4 e5 e6 e7 e8 e9 =
-      rw (all-sections, ← e0, ← views-section bs, ← e2, ← e3, ← e4, ← e5, ← e6, ← e7, ← e8, ← e9, and-true replies)
+  -- the points heard and the notes put last
+  last-two : (a v h l e t n r d p : Bool) → (a && (v && (h && (l && (e && (t && (n && (r && (d && (p && true)))))))))) ≡ ((a && (v && (l && (e && (t && (r && (d && (p && true)))))))) && (h && n))
+  last-two a v h l e t n r d p =
+      let x : Bool = r && (d && (p && true)) in
+      let y : Bool = l && (e && (t && x)) in
+      let q : (l && (e && (t && (n && x)))) ≡ (y && n)
+      = ap (λ (z : Bool). l && (e && (t && z))) (and-comm n x)
+      ∙ ap (λ (z : Bool). l && (e && z)) (sym (and-assoc t x n))
+      ∙ ap (λ (z : Bool). l && z) (sym (and-assoc e (t && x) n))
+      ∙ sym (and-assoc l (e && (t && x)) n) in
+      ap (λ (z : Bool). a && (v && (h && z))) q
+      ∙ ap (λ (z : Bool). a && (v && z)) (and-swap h y n)
+      ∙ ap (λ (z : Bool). a && z) (sym (and-assoc v y (h && n)))
+      ∙ sym (and-assoc a (v && y) (h && n))
+
+  pub all-form : same (image sh (stateOf sh b)) b ≡ (tablesForm sh b && (sectionForm sh b 2 && sectionForm sh b 6))
+  unfolding tablesForm allOf sectionForm stateOf stateIn
+  all-form = let f : ℕ → Bool = sectionForm sh b in all-sections ∙ last-two (f 0) (f 1) (f 2) (f 3) (f 4) (f 5) (f 6) (f 7) (f 8) (f 9)
+
+  pub tables-whole : Bytes b → (head log early late votes draft replies : Bool)
+      → head ≡ sectionForm sh b 0 → log ≡ sectionForm sh b 3 → early ≡ sectionForm sh b 4 → late ≡ sectionForm sh b 5 → votes ≡ sectionForm sh b 7 → draft ≡ sectionForm sh b 8 → replies ≡ sectionForm sh b 9
+      → (head && ((log && (early && late)) && (votes && (draft && replies)))) ≡ tablesForm sh b
+  unfolding tablesForm allOf
+  tables-whole bs head log early late votes draft replies e0 e3 e4 e5 e7 e8 e9 =
+      rw (← e0, ← views-section bs, ← e3, ← e4, ← e5, ← e7, ← e8, ← e9, and-true replies, and-assoc log (early && late), and-assoc early late)
 
 -- ---- where the sections begin and how long they are, as the calls ask it
 
 pub record Bounds (sh : Shape) (p : Places) (len : ℕ) : Type 0 where
-  pub heard : p .heard ≤ p .log
-  pub heardEnd : p .log ≤ len
-  pub heardWide : p .log - p .heard ≡ 9 * sh .n
   pub log : p .log + tableLength (sh .c) ≤ len
   pub early : p .early + tableLength (sh .c) ≤ len
   pub late : p .late + tableLength (sh .c) ≤ len
-  pub notes : p .notes ≤ p .votes
-  pub notesEnd : p .votes ≤ len
-  pub notesWide : p .votes - p .notes ≡ 4 + noteLength (sh .s) * sh .c
   pub votes : p .votes ≤ p .draft
   pub votesEnd : p .draft ≤ len
   pub votesWide : p .draft - p .votes ≡ voteLength (sh .c) * sh .n
@@ -216,15 +205,9 @@ pub record Bounds (sh : Shape) (p : Places) (len : ℕ) : Type 0 where
 pub bounds : (sh : Shape) (p : Places) (len : ℕ) → Marks sh p → len ≡ stateLength sh → Bounds sh p len
 bounds sh p len m e =
     record {
-      heard = omega arith;
-      heardEnd = omega arith;
-      heardWide = omega arith;
       log = omega arith;
       early = omega arith;
       late = omega arith;
-      notes = omega arith;
-      notesEnd = omega arith;
-      notesWide = omega arith;
       votes = omega arith;
       votesEnd = omega arith;
       votesWide = omega arith;
@@ -233,7 +216,3 @@ bounds sh p len m e =
       repliesEnd = omega arith;
       repliesWide = omega arith;
     }
-
--- the points' slice has room for them
-pub points-fit : (n m k : ℕ) → k ≡ m → m ≡ 9 * n → 0 + 9 * n ≤ k
-points-fit n m k e h = omega arith

@@ -1,2 +1,2 @@
 -- What the contracts of this crate cite beside the definitions of others.
-pub mod Notes
+pub mod Sections

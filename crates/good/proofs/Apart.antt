@@ -1,52 +1,44 @@
 -- The buffers and the notes: no transaction twice, and what the notes say of early entries. Assumes nothing.
-use Prim.Native.Nat.{ℕ, _+_, _*_, _≤_, _<_, min}
+use Prim.Native.Nat.{ℕ, _+_, _*_, _≤_, _<_}
 use mathlib.Core.Path.{_≡_, refl, sym, ap, ap₂, _∙_}
 use mathlib.Core.Bool.{Bool, true, false, _&&_, _||_, not}
-use mathlib.Core.Option.{none, some}
+use mathlib.Core.Option.{Option, none, some}
 use mathlib.Core.List.{List, [], _∷_, _++_, map}
 use native.Mathlib.Omega.{arith}
-use native.Mathlib.Nat.{mul-le-mul-left}
-use lib.ListN.{length, length-map, List·getD-map}
-use lib.Dec.{eqb}
-use borrow.Author.Tests.{eq-eqb, ne-eqb}
-use Rattle.octets.specs.Bytes.{num, items, part}
-use Rattle.octets.proofs.Laws.{num-add}
-use Rattle.rules.specs.Choice.{pick, when, allOf, any, every}
+use lib.ListN.{length, getD, length-map, List·getD-map}
+use lib.Dec.{eqb, leb}
+use borrow.Author.Tests.{eq-eqb, ne-eqb, le-leb}
+use Rattle.octets.specs.Bytes.{num, part}
+use Rattle.rules.specs.Choice.{pick, any, every}
 use Rattle.rules.specs.Group.{holds}
-use Rattle.rules.specs.Entry.{entryOf, sameTxn, among, followsLast, lastStamp}
-use Rattle.rules.specs.Log.{allHold, distinct}
-use Rattle.rules.specs.Read.{entryAt}
-use Rattle.rules.specs.State.{Note, leads, noted, buffersGood, earlyGood, notesDistinct}
+use Rattle.rules.specs.Entry.{sameTxn, among, entryFits, mayFollow, followsLast, lastStamp}
+use Rattle.rules.specs.Log.{goodLog, allHold, distinct}
+use Rattle.rules.specs.State.{Note, State, leads, noted, notedTo, greatestTo, buffersGood, earlyGood, notesDistinct}
 use Rattle.rules.specs.State as rule
-use Rattle.rules.specs.Image.{noteLength, stateLength, noteAt, tableAt, stateOf}
+use Rattle.rules.specs.Image.{noteLength, stateLength, tableAt, stateOf}
 use Rattle.rules.specs.declared.Entry.{Entry}
 use Rattle.rules.specs.declared.Shape.{Shape}
-use Rattle.rules.proofs.Choice.{every-append}
-use Rattle.rules.proofs.Tests.{all-at}
-use Rattle.rules.proofs.Tables.{NoteFits}
-use Rattle.repeats.specs.Repeat.{repeatPlace}
-use Rattle.repeats.specs.Rows.{countOf, keyOf, spotOf, Inside}
+use Rattle.rules.proofs.Choice.{or-left, any-append}
+use Rattle.rules.proofs.Tests.{and-l, and-r, and-both, split, join, _also_, each-front, each-back, each-append}
+use Rattle.repeats.specs.Repeat.{repeatPlace, Distinct}
+use Rattle.repeats.specs.Rows.{countOf, keyOf}
 use Rattle.repeats.specs.declared.Spots.{Spots}
-use Rattle.repeats.proofs.Places.{spot-first}
-use Rattle.logs.specs.Place.{notBelow, Within}
-use Rattle.entries.proofs.Keys.{Keyed}
-use Rattle.logs.proofs.Every.{when-not, unless-not, follows-is}
-use Rattle.logs.proofs.Apart.{distinct-is}
-use Rattle.notes.specs.Notes.{noNote, noteIn, notesAt, said, sized, Notes}
+use Rattle.repeats.proofs.Table.{filled-distinct}
+use Rattle.logs.specs.Place.{fits, Within}
+use Rattle.logs.proofs.Every.{when-not, unless-not}
+use Rattle.logs.proofs.Apart.{KeysOf, keys-distinct, distinct-is}
+use Rattle.notes.specs.Notes.{noNote, noteIn, notesAt, row, said, sized, Notes}
 use Rattle.notes.specs.declared.Point.{Point}
 use Rattle.notes.specs.declared.Point.the-variants.{Unheard, Heard}
-use Rattle.notes.proofs.Notes.{note-in}
+use Rattle.notes.proofs.Row.{ask-found, ask-none}
+use Rattle.lookups.specs.Rows.{noteSpots, NoteRows}
+use Rattle.lookups.proofs.Keys.{asEntry, note-keyed}
 use Rattle.places.specs.Layout.{startOf}
-use Rattle.form.proofs.Same.{and-true}
-use Rattle.good.specs.Known.{notedRight}
+use Rattle.good.specs.Known.{notedRight, entriesGood, earlyRight, notesRight, Lent}
 use Rattle.good.proofs.Fields.{fields}
-use Rattle.good.proofs.Tables.{and-false, table-is}
+use Rattle.good.proofs.Tables.{and-false, truth}
 
 -- ---- no two notes of one transaction
-
--- a note's transaction, as an entry has it
-abbrev asEntry : Note → Entry
-asEntry x = record { stamp = 0; command = 0; request = x .request; coordinator = x .coordinator; mask = 0 }
 
 not-or : (a b : Bool) → not (a || b) ≡ (not a && not b)
 not-or true b = refl
@@ -62,68 +54,79 @@ unfolding distinct notesDistinct
 apart-is [] = refl
 apart-is (x ∷ xs) = ap₂ _&&_ (none-among (asEntry x) xs) (apart-is xs)
 
--- the keys of n notes of s groups
-abbrev pub noteRun : ℕ → ℕ → Spots
-noteRun n s = record { first = 4; «first_count» = n; second = 0; «second_count» = 0; third = 0; «third_count» = 0; stride = 6 + 9 * s }
-
 module _ (c s : ℕ) (t : List ℕ) (h : Notes c s t) where
   abbrev kept : List Note
   kept = notesAt c s t
 
-  note-keyed : (i spot : ℕ) → i < length kept → 4 + noteLength s * i ≡ spot → Keyed (num t spot 6) (asEntry (noteIn kept i))
-  unfolding noteAt
-  note-keyed i spot l e =
-      let a : ℕ = 4 + noteLength s * i in
-      let q : noteAt s t a ≡ noteIn kept i = note-in c s kept t h i l in
-      let r : num t a 4 ≡ noteIn kept i .request = ap (λ (x : Note). x .request) q in
-      let k : num t (a + 4) 2 ≡ noteIn kept i .coordinator = ap (λ (x : Note). x .coordinator) q in
-      let n : num t a 6 ≡ num t a 4 + num t (a + 4) 2 * 4294967296 = num-add t a 4 2 in
-      record {
-        is = ap (λ (x : ℕ). num t x 6) (sym e) ∙ n ∙ ap₂ (λ (x y : ℕ). x + y * 4294967296) r k;
-        low = all-at (NoteFits s) noNote kept (h .fit) i l .request;
-      }
+  abbrev noted-keys : ℕ → ℕ
+  noted-keys = keyOf t (noteSpots s (length kept))
 
-  -- the keys lie inside the bytes
-  pub run-inside : (n : ℕ) → n ≡ num t 0 4 → Inside t (noteRun n s)
-  run-inside n e =
-      let l : n ≤ c = omega (arith, h .count, h .room) in
-      let w : noteLength s * n ≤ noteLength s * c = mul-le-mul-left (noteLength s) l in
-      record { one = omega (arith, h .size); two = omega arith; three = omega arith; few = omega (arith, h .small) }
+  keys : KeysOf noted-keys (map asEntry kept)
+  keys i l =
+      let p : length (map asEntry kept) ≡ length kept = length-map kept asEntry in
+      rw (List·getD-map asEntry kept i noNote) (note-keyed c s t h i (omega arith))
 
-  pub notes-apart : (n r : ℕ) → n ≡ num t 0 4 → r ≡ repeatPlace (keyOf t (noteRun n s)) (countOf (noteRun n s)) → eqb r n ≡ notesDistinct kept
-  unfolding keyOf
-  notes-apart n r e q =
-      let es : List Entry = map asEntry kept in
-      let key : ℕ → ℕ = keyOf t (noteRun n s) in
-      let m : length es ≡ n = length-map kept asEntry ∙ sym (h .count) ∙ sym e in
-      let keys : (i : ℕ) → i < length es → Keyed (key i) (entryOf es i)
-      = λ i l.
-      let g : entryOf es i ≡ asEntry (noteIn kept i) = List·getD-map asEntry kept i noNote in
-      let f : i < n = omega arith in
-      let p : length es ≡ length kept = length-map kept asEntry in
-      rw g (note-keyed i (spotOf (noteRun n s) i) (omega arith) (spot-first (noteRun n s) i f)) in
-      let d : eqb (repeatPlace key (length es)) (length es) ≡ distinct es = distinct-is es key keys in
-      let k : countOf (noteRun n s) ≡ n = omega arith in
-      ap (λ (x : ℕ). eqb x n) (q ∙ ap (repeatPlace key) k) ∙ (rw m at d) ∙ apart-is kept
+  keys-many : countOf (noteSpots s (length kept)) ≡ length (map asEntry kept)
+  keys-many = let p : length (map asEntry kept) ≡ length kept = length-map kept asEntry in omega arith
+
+  -- no key of a note repeats an earlier one
+  pub notes-apart : (n r : ℕ) (sp : Spots) → n ≡ num t 0 4 → sp ≡ noteSpots s n → r ≡ repeatPlace (keyOf t sp) (countOf sp) → eqb r n ≡ notesDistinct kept
+  notes-apart n r sp e q f =
+      let m : n ≡ length kept = e ∙ h .count in
+      ap₂ eqb (f ∙ ap (λ (x : Spots). repeatPlace (keyOf t x) (countOf x)) (q ∙ ap (noteSpots s) m) ∙ ap (repeatPlace noted-keys) keys-many) (m ∙ sym (length-map kept asEntry))
+      ∙ distinct-is (map asEntry kept) noted-keys keys
+      ∙ apart-is kept
+
+  -- a table with the row of every note shows that
+  pub rows-apart : (table : List ℕ) → NoteRows c s t table → true ≡ notesDistinct kept
+  rows-apart table w =
+      let d : Distinct noted-keys (countOf (noteSpots s (length kept))) = filled-distinct noted-keys _ table (w .filled) in
+      sym (keys-distinct (map asEntry kept) noted-keys keys (rw keys-many at d)) ∙ apart-is kept
 
 -- ---- what the notes say of an entry
 
-module _ (c s : ℕ) (xs : List Note) (e : Entry) where
-  pub agreed-stamp : (own g : ℕ) (a : Bool) → a ≡ rule.agreed (sized c s) xs e → a ≡ true → g ≡ rule.greatest (sized c s) xs e → eqb (e .stamp) g ≡ eqb (e .stamp) (pick (rule.agreed (sized c s) xs e) (rule.greatest (sized c s) xs e) own)
+module _ (c s : ℕ) (xs : List Note) (e : Entry) (i : ℕ) (q : i ≡ row (e .request) (e .coordinator) xs) where
+  agreed-by : (a : Bool) → i < length xs → a ≡ notedTo (e .mask) (noteIn xs i .stamps) s → a ≡ rule.agreed (sized c s) xs e
+  agreed-by a l p = ask-found (λ (ts : List (Option ℕ)). notedTo (e .mask) ts s) e xs i q a l p
+
+  pub agreed-stamp : (own g : ℕ) (a : Bool) → i < length xs → a ≡ notedTo (e .mask) (noteIn xs i .stamps) s → a ≡ true → g ≡ greatestTo (e .mask) (noteIn xs i .stamps) s → eqb (e .stamp) g ≡ eqb (e .stamp) (pick (rule.agreed (sized c s) xs e) (rule.greatest (sized c s) xs e) own)
   unfolding pick
-  agreed-stamp own g a p q r = rw (sym p ∙ q, r)
+  agreed-stamp own g a l p k r =
+      let d : g ≡ rule.greatest (sized c s) xs e = ask-found (λ (ts : List (Option ℕ)). greatestTo (e .mask) ts s) e xs i q g l r in
+      rw (sym (agreed-by a l p) ∙ k, d)
 
-  pub own-stamp : (own : ℕ) (a : Bool) → a ≡ rule.agreed (sized c s) xs e → a ≡ false → eqb (e .stamp) own ≡ eqb (e .stamp) (pick (rule.agreed (sized c s) xs e) (rule.greatest (sized c s) xs e) own)
+  pub own-stamp : (own : ℕ) (a : Bool) → i < length xs → a ≡ notedTo (e .mask) (noteIn xs i .stamps) s → a ≡ false → eqb (e .stamp) own ≡ eqb (e .stamp) (pick (rule.agreed (sized c s) xs e) (rule.greatest (sized c s) xs e) own)
   unfolding pick
-  own-stamp own a p q = rw (sym p ∙ q)
+  own-stamp own a l p k = rw (sym (agreed-by a l p) ∙ k)
 
-  pub not-noted : (k : ℕ) (p : Point) → said p ≡ noted xs e k → p ≡ Unheard → false ≡ notedRight s xs k e
-  unfolding notedRight
-  not-noted k p q w = let z : noted xs e k ≡ none = sym q ∙ ap said w in rw z
+  said-by : (k : ℕ) (p : Point) → i < length xs → said p ≡ getD (noteIn xs i .stamps) k none → said p ≡ noted xs e k
+  said-by k p l w = ask-found (λ (ts : List (Option ℕ)). getD ts k none) e xs i q (said p) l w
 
-  pub was-noted : (k own : ℕ) (p : Point) (r : Bool) → said p ≡ noted xs e k → p ≡ Heard own → r ≡ eqb (e .stamp) (pick (rule.agreed (sized c s) xs e) (rule.greatest (sized c s) xs e) own) → r ≡ notedRight s xs k e
+-- the ways through the test of an entry whose note is note i of n
+module _ (c s : ℕ) (t : List ℕ) (h : Notes c s t) (e : Entry) (i n : ℕ) (q : i ≡ row (e .request) (e .coordinator) (notesAt c s t)) (m : n ≡ num t 0 4) where
+  abbrev those : List Note
+  those = notesAt c s t
+
+  pub no-note : (k : ℕ) → n ≤ i → false ≡ notedRight s those k e
   unfolding notedRight
-  was-noted k own p r q w h = let z : noted xs e k ≡ some own = sym q ∙ ap said w in rw z h
+  no-note k l =
+      let j : length those ≤ i = omega (arith, h .count) in
+      let z : noted those e k ≡ none = sym (ask-none (λ (ts : List (Option ℕ)). getD ts k none) e those i q none j refl) in
+      rw z
+
+  pub not-noted : (k : ℕ) (p : Point) → i < n → said p ≡ getD (noteIn those i .stamps) k none → p ≡ Unheard → false ≡ notedRight s those k e
+  unfolding notedRight
+  not-noted k p l w u =
+      let j : i < length those = omega (arith, h .count) in
+      let z : noted those e k ≡ none = sym (said-by c s those e i q k p j w) ∙ ap said u in
+      rw z
+
+  pub was-noted : (k own : ℕ) (p : Point) (r : Bool) → i < n → said p ≡ getD (noteIn those i .stamps) k none → p ≡ Heard own → r ≡ eqb (e .stamp) (pick (rule.agreed (sized c s) those e) (rule.greatest (sized c s) those e) own) → r ≡ notedRight s those k e
+  unfolding notedRight
+  was-noted k own p r l w u g =
+      let j : i < length those = omega (arith, h .count) in
+      let z : noted those e k ≡ some own = sym (said-by c s those e i q k p j w) ∙ ap said u in
+      rw z g
 
 -- ---- the rules' tests
 
@@ -131,23 +134,110 @@ module _ (c s : ℕ) (xs : List Note) (e : Entry) where
 pub within-at : (c : ℕ) (b : List ℕ) (at place : ℕ) → at ≡ place → Within c b place → Within c b at
 within-at c b at place e w = rw e w
 
+-- what fits of entries, as three tests
+module _ (s k : ℕ) where
+  every-and : (p q : Entry → Bool) (xs : List Entry) → every (λ e. p e && q e) xs ≡ (every p xs && every q xs)
+  unfolding every
+  every-and p q [] = refl
+  every-and p q (x ∷ xs) = ap (λ (t : Bool). (p x && q x) && t) (every-and p q xs) ∙ turn (p x) (q x) (every p xs) (every q xs)
+    where
+      turn : (a b c d : Bool) → ((a && b) && (c && d)) ≡ ((a && c) && (b && d))
+      turn false b c d = refl
+      turn true true c d = refl
+      turn true false true d = refl
+      turn true false false d = refl
+
+  -- entries that fit: in range, not below a timestamp, their masks with k
+  record Fit (last : ℕ) (xs : List Entry) : Type 0 where
+    ranges : every (entryFits s) xs ≡ true
+    after : every (λ (e : Entry). leb last (e .stamp)) xs ≡ true
+    masks : allHold k xs ≡ true
+
+  fits-all : (last : ℕ) (xs : List Entry) → every (fits s k k last) xs ≡ (every (entryFits s) xs && (every (λ e. leb last (e .stamp)) xs && (allHold k xs && allHold k xs)))
+  unfolding fits
+  fits-all last xs =
+      every-and (entryFits s) (λ e. leb last (e .stamp) && (holds (e .mask) k && holds (e .mask) k)) xs
+      ∙ ap (λ (t : Bool). every (entryFits s) xs && t)
+      (every-and (λ e. leb last (e .stamp)) (λ e. holds (e .mask) k && holds (e .mask) k) xs
+      ∙ ap (λ (t : Bool). every (λ e. leb last (e .stamp)) xs && t) (every-and (λ e. holds (e .mask) k) (λ e. holds (e .mask) k) xs))
+
+  module _ (last : ℕ) (xs : List Entry) where
+    fit : every (fits s k k last) xs ≡ true → Fit last xs
+    fit h =
+        let a : Bool = every (entryFits s) xs in
+        let b : Bool = every (λ (e : Entry). leb last (e .stamp)) xs in
+        let m : Bool = allHold k xs in
+        let q : (a && (b && (m && m))) ≡ true = sym (fits-all last xs) ∙ h in
+        let r : (b && (m && m)) ≡ true = and-r a (b && (m && m)) q in
+        record { ranges = and-l a (b && (m && m)) q; after = and-l b (m && m) r; masks = and-l m m (and-r b (m && m) r) }
+
+    fit-so : Fit last xs → every (fits s k k last) xs ≡ true
+    fit-so w = fits-all last xs ∙ and-both _ _ (w .ranges) (and-both _ _ (w .after) (and-both _ _ (w .masks) (w .masks)))
+
+  from-zero : (xs : List Entry) → every (λ e. leb 0 (e .stamp)) xs ≡ true
+  unfolding every
+  from-zero [] = refl
+  from-zero (x ∷ xs) = rw (le-leb 0 (x .stamp) (omega arith)) (from-zero xs)
+
+-- a list's front has no transaction twice where the list has none
+distinct-front : (xs ys : List Entry) → distinct (xs ++ ys) ≡ true → distinct xs ≡ true
+unfolding distinct
+distinct-front [] ys h = refl
+distinct-front (x ∷ xs) ys h =
+    let n : among (xs ++ ys) x ≡ false = when-not _ (and-l (not (among (xs ++ ys) x)) (distinct (xs ++ ys)) h) in
+    let m : among xs x ≡ false = or-left (among xs x) (among ys x) (sym (any-append (sameTxn x) xs ys) ∙ n) in
+    and-both _ _ (ap not m) (distinct-front xs ys (and-r (not (among (xs ++ ys) x)) (distinct (xs ++ ys)) h))
+
+-- log and buffers: one pass over each and a test for repeats say what the rules ask
+module _ (sh : Shape) (st : State) (last : ℕ) (log early late apart : Bool) (e0 : (log && distinct (st .log)) ≡ goodLog (sh .s) (st .group) (st .log)) (e1 : last ≡ lastStamp (st .log))
+    (e2 : early ≡ every (fits (sh .s) (st .group) (st .group) last) (st .early)) (e3 : late ≡ every (fits (sh .s) (st .group) (st .group) 0) (st .late)) (e4 : apart ≡ distinct (st .log ++ (st .early ++ st .late))) where
+  follows-is : every (λ e. leb last (e .stamp)) (st .early) ≡ every (followsLast (st .log)) (st .early)
+  unfolding mayFollow
+  follows-is = ap (λ (x : ℕ). every (λ (e : Entry). leb x (e .stamp)) (st .early)) e1
+
+  to-entries : (log && (early && (late && apart))) ≡ true → entriesGood sh st ≡ true
+  unfolding entriesGood buffersGood
+  to-entries h =
+      let k = st .group in
+      let h1 : (early && (late && apart)) ≡ true = and-r log (early && (late && apart)) h in
+      let h2 : (late && apart) ≡ true = and-r early (late && apart) h1 in
+      let d : distinct (st .log ++ (st .early ++ st .late)) ≡ true = sym e4 ∙ and-r late apart h2 in
+      let f : Fit (sh .s) k last (st .early) = fit (sh .s) k last (st .early) (sym e2 ∙ and-l early (late && apart) h1) in
+      let g : Fit (sh .s) k 0 (st .late) = fit (sh .s) k 0 (st .late) (sym e3 ∙ and-l late apart h2) in
+      and-both _ _ (sym e0 ∙ and-both _ _ (and-l log (early && (late && apart)) h) (distinct-front (st .log) (st .early ++ st .late) d))
+      (and-both _ _ (join _ (d also sym follows-is ∙ f .after also each-append (λ (e : Entry). holds (e .mask) k) (st .early) (st .late) (f .masks) (g .masks) also tt))
+      (each-append (entryFits (sh .s)) (st .early) (st .late) (f .ranges) (g .ranges)))
+
+  from-entries : entriesGood sh st ≡ true → (log && (early && (late && apart))) ≡ true
+  unfolding entriesGood buffersGood
+  from-entries h =
+      let k = st .group in
+      let fit-ones : Bool = every (entryFits (sh .s)) (st .early ++ st .late) in
+      let h1 : (buffersGood st && fit-ones) ≡ true = and-r (goodLog (sh .s) k (st .log)) (buffersGood st && fit-ones) h in
+      let u = split _ (and-l (buffersGood st) fit-ones h1) in
+      let r : fit-ones ≡ true = and-r (buffersGood st) fit-ones h1 in
+      let m : allHold k (st .early) ≡ true = each-front (λ (e : Entry). holds (e .mask) k) (st .early) (st .late) (u 2) in
+      let n : allHold k (st .late) ≡ true = each-back (λ (e : Entry). holds (e .mask) k) (st .early) (st .late) (u 2) in
+      let f : Fit (sh .s) k last (st .early) = record { ranges = each-front (entryFits (sh .s)) (st .early) (st .late) r; after = follows-is ∙ u 1; masks = m } in
+      let g : Fit (sh .s) k 0 (st .late) = record { ranges = each-back (entryFits (sh .s)) (st .early) (st .late) r; after = from-zero (sh .s) k (st .late); masks = n } in
+      and-both _ _ (and-l log (distinct (st .log)) (e0 ∙ and-l (goodLog (sh .s) k (st .log)) (buffersGood st && fit-ones) h))
+      (and-both _ _ (e2 ∙ fit-so (sh .s) k last (st .early) f) (and-both _ _ (e3 ∙ fit-so (sh .s) k 0 (st .late) g) (e4 ∙ u 0)))
+
+  entries-test : (log && (early && (late && apart))) ≡ entriesGood sh st
+  entries-test = truth _ _ to-entries from-entries
+
 module _ (sh : Shape) (b : List ℕ) (z : length b ≡ stateLength sh) where
-  pub buffers-is : (l3 l4 l5 group last n : ℕ) (apart after early late : Bool) → l3 ≡ startOf sh 3 → l4 ≡ startOf sh 4 → l5 ≡ startOf sh 5 → group ≡ num b 0 1 → last ≡ lastStamp (tableAt (sh .c) b l3) → n ≡ min (num b l4 4) (sh .c)
-      → apart ≡ distinct (tableAt (sh .c) b l3 ++ (tableAt (sh .c) b l4 ++ tableAt (sh .c) b l5)) → after ≡ every (notBelow last) (items (entryAt b) 24 (l4 + 4) n) → early ≡ allHold group (tableAt (sh .c) b l4) → late ≡ allHold group (tableAt (sh .c) b l5)
-      → (apart && (after && (early && late))) ≡ buffersGood (stateOf sh b)
-  unfolding buffersGood allOf
-  buffers-is l3 l4 l5 group last n apart after early late p3 p4 p5 g e1 e2 a1 a2 a3 a4 =
+  pub entries-are : (l3 l4 l5 group last : ℕ) (log early late apart : Bool) → l3 ≡ startOf sh 3 → l4 ≡ startOf sh 4 → l5 ≡ startOf sh 5 → group ≡ num b 0 1 → last ≡ lastStamp (tableAt (sh .c) b l3)
+      → (log && distinct (tableAt (sh .c) b l3)) ≡ goodLog (sh .s) group (tableAt (sh .c) b l3) → early ≡ every (fits (sh .s) group group last) (tableAt (sh .c) b l4) → late ≡ every (fits (sh .s) group group 0) (tableAt (sh .c) b l5)
+      → apart ≡ distinct (tableAt (sh .c) b l3 ++ (tableAt (sh .c) b l4 ++ tableAt (sh .c) b l5)) → (log && (early && (late && apart))) ≡ entriesGood sh (stateOf sh b)
+  entries-are l3 l4 l5 group last log early late apart p3 p4 p5 g e1 a1 a2 a3 a4 =
       let f = fields sh b z in
       let st = stateOf sh b in
       let t3 : tableAt (sh .c) b l3 ≡ st .log = ap (tableAt (sh .c) b) p3 ∙ sym (f .log) in
       let t4 : tableAt (sh .c) b l4 ≡ st .early = ap (tableAt (sh .c) b) p4 ∙ sym (f .early) in
       let t5 : tableAt (sh .c) b l5 ≡ st .late = ap (tableAt (sh .c) b) p5 ∙ sym (f .late) in
       let k : group ≡ st .group = g ∙ sym (f .group) in
-      let d1 : apart ≡ distinct (st .log ++ (st .early ++ st .late)) = a1 ∙ rw (t3, t4, t5) in
-      let d2 : after ≡ every (followsLast (st .log)) (st .early) = a2 ∙ ap (every (notBelow last)) (table-is (sh .c) b l4 n e2 ∙ t4) ∙ follows-is (st .log) (st .early) last (e1 ∙ ap lastStamp t3) in
-      let d3 : (early && late) ≡ allHold (st .group) (st .early ++ st .late)
-      = ap₂ _&&_ (a3 ∙ ap₂ allHold k t4) (a4 ∙ ap₂ allHold k t5) ∙ sym (every-append (λ (e : Entry). holds (e .mask) (st .group)) (st .early) (st .late)) in
-      rw (d1, d2, d3, and-true)
+      entries-test sh st last log early late apart (rw (t3, k) at a1) (rw t3 at e1) (rw (t4, k) at a2) (rw (t5, k) at a3) (rw (t3, t4, t5) at a4)
 
   module _ (t : List ℕ) (u : t ≡ part b (startOf sh 6) (4 + noteLength (sh .s) * sh .c)) where
     pub notes-are : notesAt (sh .c) (sh .s) t ≡ stateOf sh b .notes
@@ -159,16 +249,36 @@ module _ (sh : Shape) (b : List ℕ) (z : length b ≡ stateLength sh) where
         let f = fields sh b z in
         h ∙ rw (notes-are, g ∙ sym (f .group), ap (tableAt (sh .c) b) p ∙ sym (f .early))
 
-  pub early-idle : (status : ℕ) (x : Bool) → status ≡ num b 2 1 → (status ≡ 1 → ⊥) → true ≡ when (eqb (stateOf sh b .status) 1 && leads sh (stateOf sh b)) x
-  early-idle status x e h =
+  pub early-idle : (status : ℕ) → status ≡ num b 2 1 → (status ≡ 1 → ⊥) → true ≡ earlyRight sh (stateOf sh b)
+  unfolding earlyRight
+  early-idle status e h =
       let g : eqb (stateOf sh b .status) 1 ≡ false = ap (λ (y : ℕ). eqb y 1) (fields sh b z .status ∙ sym e) ∙ ne-eqb status 1 h in
       rw g
 
-  pub early-follower : (l x : Bool) → l ≡ leads sh (stateOf sh b) → not l ≡ true → true ≡ when (eqb (stateOf sh b .status) 1 && leads sh (stateOf sh b)) x
-  early-follower l x e h = let g : leads sh (stateOf sh b) ≡ false = sym e ∙ when-not l h in rw (g, and-false)
+  pub early-follower : (l : Bool) → l ≡ leads sh (stateOf sh b) → not l ≡ true → true ≡ earlyRight sh (stateOf sh b)
+  unfolding earlyRight
+  early-follower l e h = let g : leads sh (stateOf sh b) ≡ false = sym e ∙ when-not l h in rw (g, and-false)
 
-  pub early-leader : (status : ℕ) (l r x : Bool) → status ≡ num b 2 1 → status ≡ 1 → l ≡ leads sh (stateOf sh b) → not l ≡ false → r ≡ x → r ≡ when (eqb (stateOf sh b .status) 1 && leads sh (stateOf sh b)) x
-  early-leader status l r x e h p q w =
+  pub early-leader : (status : ℕ) (l r : Bool) → status ≡ num b 2 1 → status ≡ 1 → l ≡ leads sh (stateOf sh b) → not l ≡ false → r ≡ every (earlyGood sh (stateOf sh b)) (stateOf sh b .early) → r ≡ earlyRight sh (stateOf sh b)
+  unfolding earlyRight
+  early-leader status l r e h p q w =
       let g : eqb (stateOf sh b .status) 1 ≡ true = ap (λ (y : ℕ). eqb y 1) (fields sh b z .status ∙ sym e) ∙ eq-eqb status 1 h in
       let k : leads sh (stateOf sh b) ≡ true = sym p ∙ unless-not l q in
       rw (g, k) w
+
+  -- the notes and what they say
+  module _ (t : List ℕ) (w : Lent sh b t) where
+    told : notesDistinct (notesAt (sh .c) (sh .s) t) ≡ notesDistinct (stateOf sh b .notes)
+    told = ap notesDistinct (notes-are t (w .is))
+
+    pub right-rows : (table : List ℕ) (r : Bool) → NoteRows (sh .c) (sh .s) t table → r ≡ earlyRight sh (stateOf sh b) → r ≡ notesRight sh (stateOf sh b)
+    unfolding notesRight
+    right-rows table r q h = let d : notesDistinct (stateOf sh b .notes) ≡ true = sym (rows-apart (sh .c) (sh .s) t (w .notes) table q ∙ told) in rw d h
+
+    pub notes-twice : (a : Bool) → a ≡ notesDistinct (notesAt (sh .c) (sh .s) t) → not a ≡ true → false ≡ notesRight sh (stateOf sh b)
+    unfolding notesRight
+    notes-twice a e h = let d : notesDistinct (stateOf sh b .notes) ≡ false = sym (e ∙ told) ∙ when-not a h in rw d
+
+    pub right-search : (a r : Bool) → a ≡ notesDistinct (notesAt (sh .c) (sh .s) t) → not a ≡ false → r ≡ earlyRight sh (stateOf sh b) → r ≡ notesRight sh (stateOf sh b)
+    unfolding notesRight
+    right-search a r e h q = let d : notesDistinct (stateOf sh b .notes) ≡ true = sym (e ∙ told) ∙ unless-not a h in rw d q

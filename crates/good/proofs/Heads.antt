@@ -1,5 +1,5 @@
 -- The tests of the head's numbers, of the points heard, and of what is kept, each as the rules have it. Assumes nothing.
-use Prim.Native.Nat.{ℕ, zero, suc, _+_, _-_, _*_, _%_, _<_, min}
+use Prim.Native.Nat.{ℕ, zero, suc, _+_, _-_, _*_, _%_, _≤_, _<_, min}
 use mathlib.Core.Path.{_≡_, refl, sym, ap, ap₂, _∙_}
 use mathlib.Core.Bool.{Bool, true, false, _&&_, _||_, not, true≢false}
 use mathlib.Core.Option.{Option, none, some}
@@ -7,24 +7,28 @@ use mathlib.Core.List.{List, [], _∷_}
 use native.Mathlib.Omega.{arith}
 use lib.ListN.{length, getD}
 use lib.Dec.{eqb, ltb, leb}
-use Rattle.octets.specs.Bytes.{num, items}
+use Rattle.octets.specs.Bytes.{num, part, flat, items}
 use Rattle.octets.proofs.Codecs.{length-items, getD-items}
-use Rattle.rules.specs.Choice.{pick, when, allOf, count, every, isSome, passes, below}
+use Rattle.rules.specs.Choice.{pick, when, allOf, count, every, isSome, passes, below, same}
 use Rattle.rules.specs.Group.{majority}
 use Rattle.rules.specs.Entry.{latest}
 use Rattle.rules.specs.Log.{goodLog, allHold}
 use Rattle.rules.specs.State.{leads, viewGood, heardGood, voteGood, replyGood, keptGood, held}
-use Rattle.rules.specs.Image.{voteLength, replyLength, stateLength, pointAt, tableAt, voteAt, replyAt, stateOf}
+use Rattle.rules.specs.Read.{entryAt}
+use Rattle.rules.specs.Image.{voteLength, replyLength, stateLength, pointBytes, pointAt, tableAt, voteAt, replyAt, stateOf}
 use Rattle.rules.specs.declared.Entry.{Entry}
 use Rattle.rules.specs.declared.Shape.{Shape}
 use Rattle.rules.proofs.Choice.{every-append}
 use Rattle.places.specs.Layout.{startOf, PlaceAt}
 use Rattle.places.proofs.Spots.{count-like}
 use Rattle.logs.proofs.Every.{when-not, unless-not}
-use Rattle.form.proofs.Same.{and-true}
+use Rattle.form.specs.Sections.{sectionForm}
+use Rattle.form.proofs.Same.{and-assoc, and-comm, and-true, flag-long}
+use Rattle.form.proofs.Same as same-laws
+use Rattle.form.proofs.Parts.{point-place}
 use Rattle.good.specs.Known.{headFits, pointsGood}
 use Rattle.good.proofs.Fields.{fields, view-of}
-use Rattle.good.proofs.Tables.{row-next, count-is}
+use Rattle.good.proofs.Tables.{row-next, count-is, table-is}
 
 -- ---- tests of a place that may be unset
 
@@ -57,9 +61,23 @@ pub point-test : (b : List ℕ) (a : ℕ) (q : ℕ → Bool) (flag r : Bool) (v 
 unfolding pointAt
 point-test b a q flag r v e w h = either q (eqb (num b a 1) 0) (num b (a + 1) 8) flag r e (h ∙ ap q w)
 
--- one more point heard
-pub heard-turn : (b : List ℕ) (o i most v : ℕ) (l fine flag : Bool) → fine ≡ every (passes (λ p. l && leb p most)) (items (pointAt b) 9 o i) → v ≡ num b (o + 9 * i + 1) 8 → flag ≡ isSome (pointAt b (o + 9 * i)) → (fine && (not flag || (l && leb v most))) ≡ every (passes (λ p. l && leb p most)) (items (pointAt b) 9 o (i + 1))
-heard-turn b o i most v l fine flag e w h = row-next (passes (λ p. l && leb p most)) (pointAt b) 9 o i fine _ e (point-test b (o + 9 * i) (λ p. l && leb p most) flag _ v h w refl)
+-- one more point heard: what it says, and its form
+pub heard-turn : (b : List ℕ) (o i most v : ℕ) (k l fine flag : Bool) → fine ≡ every (passes (λ p. not k || (l && leb p most))) (items (pointAt b) 9 o i) → v ≡ num b (o + 9 * i + 1) 8 → flag ≡ isSome (pointAt b (o + 9 * i)) → (fine && (not flag || (not k || (l && leb v most)))) ≡ every (passes (λ p. not k || (l && leb p most))) (items (pointAt b) 9 o (i + 1))
+heard-turn b o i most v k l fine flag e w h = row-next (passes (λ p. not k || (l && leb p most))) (pointAt b) 9 o i fine _ e (point-test b (o + 9 * i) (λ p. not k || (l && leb p most)) flag _ v h w refl)
+
+module _ (b : List ℕ) (o : ℕ) where
+  -- the first i points have their form
+  abbrev pub pointsForm : ℕ → Bool
+  pointsForm i = same (flat pointBytes (items (pointAt b) 9 o i)) (part b o (9 * i))
+
+  pub form-none : true ≡ pointsForm 0
+  form-none = same-laws.row-none pointBytes pointAt 9 (flag-long point-place) b o
+
+  pub form-turn : (at i : ℕ) (f p : Bool) → at ≡ o → o + 9 * (i + 1) ≤ length b → f ≡ pointsForm i → p ≡ same (pointBytes (pointAt b (at + 9 * i))) (part b (at + 9 * i) 9) → (f && p) ≡ pointsForm (i + 1)
+  form-turn at i f p e l hf hp = same-laws.row-next pointBytes pointAt 9 (flag-long point-place) b o i (at + 9 * i) f p (omega arith) l hf hp
+
+  pub points-end : (k l : Bool) (most i n : ℕ) (f w : Bool) → i ≤ n → n ≤ i → f ≡ pointsForm i → w ≡ every (passes (λ p. not k || (l && leb p most))) (items (pointAt b) 9 o i) → (f && w) ≡ (pointsForm n && every (passes (λ p. not k || (l && leb p most))) (items (pointAt b) 9 o n))
+  points-end k l most i n f w x y hf hw = let q : i ≡ n = omega arith in ap₂ _&&_ (rw q at hf) (rw q at hw)
 
 -- ---- the rules' tests
 
@@ -87,6 +105,21 @@ heard-by : (l t w : Bool) (y : ℕ) (xs : List (Option ℕ)) → w ≡ every (pa
 unfolding pick
 heard-by true t w y xs h = ap (λ (u : Bool). t && u) h
 heard-by false t w y xs h = h ∙ every-agree (passes (λ p. false && leb p y)) (λ p. not (isSome p)) (no-point y) xs
+
+no-test : (xs : List (Option ℕ)) → every (passes (λ p. true)) xs ≡ true
+unfolding every
+no-test [] = refl
+no-test (none ∷ xs) = no-test xs
+no-test (some p ∷ xs) = no-test xs
+
+-- the form and, where asked, what the points say
+heard-both : (k f l t w : Bool) (y : ℕ) (xs : List (Option ℕ)) → w ≡ (f && every (passes (λ p. not k || (l && leb p y))) xs) → (w && (not k || (not l || t))) ≡ (f && (not k || pick l (t && every (passes (λ p. leb p y)) xs) (every (λ p. not (isSome p)) xs)))
+heard-both true f l t w y xs h =
+    let v : Bool = every (passes (λ p. l && leb p y)) xs in
+    ap (λ (u : Bool). u && (not l || t)) h
+    ∙ and-assoc f v (not l || t)
+    ∙ ap (λ (u : Bool). f && u) (and-comm v (not l || t) ∙ heard-by l t v y xs refl)
+heard-both false f l t w y xs h = and-true w ∙ h ∙ ap (λ (u : Bool). f && u) (no-test xs)
 
 module _ (sh : Shape) (b : List ℕ) (z : length b ≡ stateLength sh) where
   pub head-is : (group replica status clock boundary : ℕ) → group ≡ num b 0 1 → replica ≡ num b 1 1 → status ≡ num b 2 1 → clock ≡ num b 16 8 → boundary ≡ num b 40 8
@@ -121,17 +154,22 @@ module _ (sh : Shape) (b : List ℕ) (z : length b ≡ stateLength sh) where
       rw (e1 ∙ sym (f .status), e2 ∙ sym (f .normal), e3 ∙ sym (f .view), e4)
       (ap (λ (t : Bool). t && when (eqb (stateOf sh b .status) 3) (leads sh (stateOf sh b))) (sym (pick-both (eqb (stateOf sh b .status) 1) _ _)))
 
-  pub heard-is : (at n status sync : ℕ) (l w : Bool) → at ≡ startOf sh 3 → n ≡ min (num b at 4) (sh .c) → status ≡ num b 2 1 → sync ≡ num b 24 8 → l ≡ leads sh (stateOf sh b) → w ≡ every (passes (λ p. l && leb p sync)) (items (pointAt b) 9 (startOf sh 2) (sh .n))
-      → (not (eqb status 1) || ((not l || eqb sync n) && w)) ≡ heardGood sh (stateOf sh b)
+  heard-form : same (flat pointBytes (items (pointAt b) 9 (startOf sh 2) (sh .n))) (part b (startOf sh 2) (9 * sh .n)) ≡ sectionForm sh b 2
+  unfolding sectionForm
+  heard-form =
+      let e : startOf sh 2 ≡ 0 + 48 + 4 * sh .s = omega arith in
+      ap₂ (λ (xs : List (Option ℕ)) (j : ℕ). same (flat pointBytes xs) (part b j (9 * sh .n))) (sym (fields sh b z .heard)) e
+
+  pub heard-is : (at n status sync : ℕ) (l w : Bool) → at ≡ startOf sh 3 → n ≡ min (num b at 4) (sh .c) → status ≡ num b 2 1 → sync ≡ num b 24 8 → l ≡ leads sh (stateOf sh b)
+      → w ≡ (same (flat pointBytes (items (pointAt b) 9 (startOf sh 2) (sh .n))) (part b (startOf sh 2) (9 * sh .n)) && every (passes (λ p. not (eqb status 1) || (l && leb p sync))) (items (pointAt b) 9 (startOf sh 2) (sh .n)))
+      → (w && (not (eqb status 1) || (not l || eqb sync n))) ≡ (sectionForm sh b 2 && heardGood sh (stateOf sh b))
   unfolding heardGood
   heard-is at n status sync l w p q e1 e2 e4 e5 =
       let f = fields sh b z in
-      let y : ℕ = stateOf sh b .sync in
-      let t : Bool = eqb y (length (stateOf sh b .log)) in
-      let h : w ≡ every (passes (λ p. l && leb p y)) (stateOf sh b .heard) = e5 ∙ ap₂ (λ (v : ℕ) (xs : List (Option ℕ)). every (passes (λ p. l && leb p v)) xs) (e2 ∙ sym (f .sync)) (sym (f .heard)) in
-      ap₂ (λ (u : ℕ) (v : Bool). not (eqb u 1) || ((not l || v) && w)) (e1 ∙ sym (f .status)) (ap₂ eqb (e2 ∙ sym (f .sync)) (log-count at n p q))
-      ∙ ap (λ (u : Bool). not (eqb (stateOf sh b .status) 1) || u) (heard-by l t w y (stateOf sh b .heard) h)
-      ∙ ap (λ (u : Bool). not (eqb (stateOf sh b .status) 1) || pick u (t && every (passes (λ p. leb p y)) (stateOf sh b .heard)) (every (λ p. not (isSome p)) (stateOf sh b .heard))) e4
+      let st = stateOf sh b in
+      let g : Bool = same (flat pointBytes (items (pointAt b) 9 (startOf sh 2) (sh .n))) (part b (startOf sh 2) (9 * sh .n)) in
+      heard-both (eqb status 1) g l (eqb sync n) w sync (items (pointAt b) 9 (startOf sh 2) (sh .n)) e5
+      ∙ rw (heard-form, e1 ∙ sym (f .status), e2 ∙ sym (f .sync), log-count at n p q, e4, sym (f .heard))
 
   -- ---- votes and replies
 
@@ -158,12 +196,12 @@ module _ (sh : Shape) (b : List ℕ) (z : length b ≡ stateLength sh) where
     unfolding replyAt
     reply-unset e h = unset (replyGood sh (stateOf sh b) j) (eqb (num b replyPlace 1) 0) _ flag e h
 
-    pub reply-is : flag ≡ isSome (replyAt (sh .c) b replyPlace) → not flag ≡ false → (a group : ℕ) (log masks : Bool) → PlaceAt sh 9 (replyLength (sh .c)) j a → group ≡ num b 0 1 → log ≡ goodLog (sh .s) group (tableAt (sh .c) b (a + 1)) → masks ≡ allHold j (tableAt (sh .c) b (a + 1))
-        → (not (eqb j group) && (log && masks)) ≡ passes (replyGood sh (stateOf sh b) j) (replyAt (sh .c) b replyPlace)
+    pub reply-is : flag ≡ isSome (replyAt (sh .c) b replyPlace) → not flag ≡ false → (a group n : ℕ) (log : Bool) → PlaceAt sh 9 (replyLength (sh .c)) j a → group ≡ num b 0 1 → n ≡ min (num b (a + 1) 4) (sh .c) → log ≡ (goodLog (sh .s) group (items (entryAt b) 24 (a + 1 + 4) n) && allHold j (items (entryAt b) 24 (a + 1 + 4) n))
+        → (not (eqb j group) && log) ≡ passes (replyGood sh (stateOf sh b) j) (replyAt (sh .c) b replyPlace)
     unfolding replyAt replyGood
-    reply-is e h a group log masks w e2 e3 e4 =
+    reply-is e h a group n log w e2 e3 e4 =
         let f = fields sh b z in
-        set-so (replyGood sh (stateOf sh b) j) (eqb (num b replyPlace 1) 0) _ flag e h _ (rw (e3, e4, e2, w .at, f .group))
+        set-so (replyGood sh (stateOf sh b) j) (eqb (num b replyPlace 1) 0) _ flag e h _ (rw (e4, table-is (sh .c) b (a + 1) n e3, e2, w .at, f .group))
 
   -- ---- all that is kept
   held-row : {A : Type 0} (get : ℕ → Option A) (k o n : ℕ) (xs : List (Option A)) → xs ≡ items get k o n → count (λ i. isSome (get (o + k * i))) n ≡ held xs

@@ -5,19 +5,21 @@ use mathlib.Core.Bool.{Bool, true, false, _&&_}
 use mathlib.Core.List.{List, [], _∷_, _++_}
 use native.Mathlib.Numerals.{add-one}
 use native.Mathlib.Omega.{arith}
-use lib.ListN.{length}
+use lib.ListN.{length, getD}
 use lib.Dec.{eqb}
 use Rattle.octets.specs.Bytes.{num, items}
 use Rattle.octets.proofs.Codecs.{length-items, getD-items}
 use Rattle.rules.specs.Choice.{every, below}
 use Rattle.rules.specs.Entry.{noEntry, entryOf, stampBefore, lastStamp}
-use Rattle.rules.specs.Log.{goodTo, goodLog}
+use Rattle.rules.specs.Log.{goodTo, goodLog, distinct}
 use Rattle.rules.specs.Read.{entryAt}
 use Rattle.rules.specs.Image.{tableAt}
 use Rattle.rules.specs.declared.Entry.{Entry}
 use Rattle.rules.proofs.Choice.{every-append}
-use Rattle.logs.specs.Place.{rowAt}
+use Rattle.repeats.specs.Repeat.{firstTo}
+use Rattle.logs.specs.Place.{rowAt, unfitAt}
 use Rattle.logs.proofs.Tables.{good-items}
+use Rattle.logs.proofs.Apart.{good-two}
 use Rattle.form.proofs.Same.{and-true}
 
 -- ---- one turn more
@@ -25,6 +27,11 @@ use Rattle.form.proofs.Same.{and-true}
 pub and-false : (a : Bool) → (a && false) ≡ false
 and-false true = refl
 and-false false = refl
+
+pub truth : (a b : Bool) → (a ≡ true → b ≡ true) → (b ≡ true → a ≡ true) → a ≡ b
+truth true b f g = sym (f refl)
+truth false true f g = g refl
+truth false false f g = refl
 
 module _ {A : Type 0} (p : A → Bool) where
   every-one : (xs : List A) (x : A) → every p (xs ++ (x ∷ [])) ≡ (every p xs && p x)
@@ -74,6 +81,10 @@ module _ (c : ℕ) (b : List ℕ) (at n : ℕ) (q : n ≡ min (num b at 4) c) wh
 
   pub good-is : (s k r : ℕ) → r ≡ goodTo s k (rowAt b (at + 4)) n → eqb r n ≡ goodLog s k (tableAt c b at)
   good-is s k r e = ap (λ (x : ℕ). eqb x n) e ∙ sym (good-items s k b (at + 4) n) ∙ ap (goodLog s k) table-is
+
+  -- each fits, and no transaction stands twice
+  pub rows-are : (s k : ℕ) (r : Bool) → ((i : ℕ) → getD b i 0 < 256) → at + 4 + 24 * n ≤ length b → r ≡ eqb (firstTo (unfitAt s k k (rowAt b (at + 4))) n) n → (r && distinct (tableAt c b at)) ≡ goodLog s k (tableAt c b at)
+  rows-are s k r known h e = ap₂ (λ (x : Bool) (y : List Entry). x && distinct y) e (sym table-is) ∙ sym (good-two b (at + 4) n known h s k) ∙ ap (goodLog s k) table-is
 
   pub each-is : (p : Entry → Bool) (r : Bool) → r ≡ every p (items (entryAt b) 24 (at + 4) n) → r ≡ every p (tableAt c b at)
   each-is p r e = e ∙ ap (every p) table-is

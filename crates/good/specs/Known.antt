@@ -1,5 +1,6 @@
 -- What the checks know of a state's bytes, and tests that are parts of the rules' tests.
 use Prim.Native.Nat.{ℕ, _+_, _*_, _<_}
+use mathlib.Core.Path.{_≡_}
 use mathlib.Core.Bool.{Bool, _&&_}
 use mathlib.Core.List.{List, [], _∷_, _++_}
 use lib.ListN.{length}
@@ -8,7 +9,7 @@ use Rattle.octets.specs.Bytes.{num, part}
 use Rattle.rules.specs.Choice.{pick, when, allOf, every, isSome}
 use Rattle.rules.specs.Entry.{latest, entryFits}
 use Rattle.rules.specs.Log.{goodLog}
-use Rattle.rules.specs.State.{Note, State, leads, noted, stampsOf, notedTo, greatestTo, valueOf, viewGood, heardGood, keptGood, buffersGood, earlyGood, noteFits, notesDistinct}
+use Rattle.rules.specs.State.{Note, State, leads, noted, stampsOf, notedTo, greatestTo, valueOf, viewGood, heardGood, keptGood, buffersGood, earlyGood, notesDistinct}
 use Rattle.rules.specs.Image.{noteLength}
 use Rattle.rules.specs.declared.Entry.{Entry}
 use Rattle.rules.specs.declared.Shape.{Shape}
@@ -38,6 +39,18 @@ notedRight s xs k e =
     isSome (noted xs e k)
     && eqb (e .stamp) (pick (notedTo (e .mask) (stampsOf xs e) s) (greatestTo (e .mask) (stampsOf xs e) s) (valueOf (noted xs e k)))
 
+-- the log is good, and with it early and late buffer, whose entries are in range
+unfoldable pub entriesGood : Shape → State → Bool
+entriesGood sh st = goodLog (sh .s) (st .group) (st .log) && (buffersGood st && every (entryFits (sh .s)) (st .early ++ st .late))
+
+-- in status 1 a leader's early entries have their notes
+unfoldable pub earlyRight : Shape → State → Bool
+earlyRight sh st = when (eqb (st .status) 1 && leads sh st) (every (earlyGood sh st) (st .early))
+
+-- and no two notes are of one transaction
+unfoldable pub notesRight : Shape → State → Bool
+notesRight sh st = notesDistinct (st .notes) && earlyRight sh st
+
 -- bytes of the right length whose group is in range
 pub record Known (sh : Shape) (b : List ℕ) : Type 0 where
   pub sized : Sized sh b
@@ -51,19 +64,20 @@ pub record Formed (sh : Shape) (b : List ℕ) : Type 0 where
   pub late : Within (sh .c) b (startOf sh 5)
   pub notes : Notes (sh .c) (sh .s) (part b (startOf sh 6) (4 + noteLength (sh .s) * sh .c))
 
--- what is left of a good state where the head is in range
+-- t is the notes of the state in b
+pub record Lent (sh : Shape) (b t : List ℕ) : Type 0 where
+  pub notes : Notes (sh .c) (sh .s) t
+  pub is : t ≡ part b (startOf sh 6) (4 + noteLength (sh .s) * sh .c)
+
+-- what is left of a good state where head and notes are in range
 unfoldable pub restGood : Shape → State → Bool
 restGood sh st =
     allOf
-    (goodLog (sh .s) (st .group) (st .log)
+    (heardGood sh st
     ∷ goodLog (sh .s) (st .group) (st .draft)
     ∷ pointsGood st
     ∷ viewGood sh st
-    ∷ heardGood sh st
     ∷ keptGood sh st
-    ∷ buffersGood st
-    ∷ when (eqb (st .status) 1 && leads sh st) (every (earlyGood sh st) (st .early))
-    ∷ every (entryFits (sh .s)) (st .early ++ st .late)
-    ∷ every noteFits (st .notes)
-    ∷ notesDistinct (st .notes)
+    ∷ entriesGood sh st
+    ∷ notesRight sh st
     ∷ [])

@@ -1,23 +1,25 @@
 // The core's own check of a state: whether bytes of any length, for sizes of any kind, are those of a good state.
 use notes::Point;
-use repeats::Spots;
 use rules::Entry;
 use rules::Shape;
 ghost use mathlib.Core.Path.{_≡_};
-ghost use mathlib.Core.Bool.{_&&_};
+ghost use mathlib.Core.Bool.{true, _&&_, _||_, not};
 ghost use Prim.Native.Nat.{_+_, _*_, _≤_, _<_, min};
 ghost use lib.Dec.{eqb, leb};
 ghost use lib.ListN.{length};
-ghost use Rattle.octets.specs.Bytes.{num, items, part};
-ghost use Rattle.rules.specs.Choice.{pick, when, every, passes, below};
-ghost use Rattle.rules.specs.Entry.{entryFits, lastStamp};
-ghost use Rattle.rules.specs.Log.{goodLog, allHold};
-ghost use Rattle.rules.specs.State.{viewGood, heardGood, voteGood, replyGood, keptGood, buffersGood, earlyGood, notesDistinct};
+ghost use Rattle.octets.specs.Bytes.{num, items, flat, part};
+ghost use Rattle.rules.specs.Choice.{pick, every, passes, below, same};
+ghost use Rattle.rules.specs.Entry.{lastStamp};
+ghost use Rattle.rules.specs.Log.{goodLog, distinct};
+ghost use Rattle.rules.specs.State.{viewGood, heardGood, voteGood, replyGood, keptGood, noteFits, notesDistinct};
 ghost use Rattle.rules.specs.State as rule;
-ghost use Rattle.rules.specs.Image.{tableLength, noteLength, voteLength, replyLength, pointAt, tableAt, voteAt, replyAt, stateOf, goodBytes};
-ghost use Rattle.notes.specs.Notes.{sized, notesAt, Notes};
+ghost use Rattle.rules.specs.Image.{tableLength, voteLength, replyLength, pointBytes, pointAt, tableAt, voteAt, replyAt, stateOf, goodBytes};
+ghost use Rattle.logs.specs.Place.{fits};
+ghost use Rattle.notes.specs.Notes.{sized, notesAt, row, Notes};
+ghost use Rattle.lookups.specs.Rows.{NoteRows};
 ghost use Rattle.places.specs.Layout.{startOf, Sized};
-ghost use Rattle.good.specs.Known.{headFits, pointsGood, notedRight, Known, Formed, restGood};
+ghost use Rattle.form.specs.Sections.{sectionForm};
+ghost use Rattle.good.specs.Known.{headFits, pointsGood, notedRight, entriesGood, earlyRight, notesRight, Known, Lent, Formed, restGood};
 
 // ---- a table anywhere in bytes
 
@@ -42,22 +44,22 @@ fn log_good(b: &[u8], at: usize, c: usize, s: u64, k: u64) -> bool
     logs::good_place(b, at + 4, n, s, k) == n
 }
 
-// Whether every mask in the table at `at` holds group j.
-fn masks_hold(b: &[u8], at: usize, c: usize, j: u64) -> bool
+// Whether each entry of the table at `at` fits after the one before it: where no transaction stands twice, they are a good log of group k.
+fn rows_fit(b: &[u8], at: usize, c: usize, s: u64, k: u64) -> bool
     requires { ⌜ at + tableLength c ≤ length (now b) ⌝ }
-    ensures { λ r. ⌜ r ≡ allHold j (tableAt c (now (b .entry)) at) ⌝ }
+    ensures { λ r. ⌜ (r && distinct (tableAt c (now (b .entry)) at)) ≡ goodLog s k (tableAt c (now (b .entry)) at) ⌝ }
 {
     let n = count_at(b, at, c);
-    logs::all_hold(b, at + 4, n, j)
+    logs::rows_fit(b, at + 4, n, s, k, k)
 }
 
-// Whether every entry in the table at `at` is in range.
-fn entries_fit(b: &[u8], at: usize, c: usize, s: u64) -> bool
+// Whether each entry of the table at `at` fits after timestamp `last` at a replica of group k.
+fn all_fit(b: &[u8], at: usize, c: usize, last: u64, s: u64, k: u64) -> bool
     requires { ⌜ at + tableLength c ≤ length (now b) ⌝ }
-    ensures { λ r. ⌜ r ≡ every (entryFits s) (tableAt c (now (b .entry)) at) ⌝ }
+    ensures { λ r. ⌜ r ≡ every (fits s k k last) (tableAt c (now (b .entry)) at) ⌝ }
 {
     let n = count_at(b, at, c);
-    logs::all_fit(b, at + 4, n, s)
+    logs::all_fit(b, at + 4, n, last, s, k)
 }
 
 // The last timestamp of the table at `at`, 0 where it has no entry.
@@ -121,32 +123,36 @@ fn view_good(shape: Shape, state: &[u8]) -> bool
 
 // ---- the points heard
 
-// Whether no point heard is above `most`, and none is there at all where the own replica is no leader.
-fn heard_within(shape: Shape, state: &[u8], leading: bool, most: u64) -> bool
+// Whether every point heard has its form and, where `asked`, none is above `most`, and none is there where the own replica is no leader.
+fn heard_within(shape: Shape, state: &[u8], asked: bool, leading: bool, most: u64) -> bool
     requires { ⌜ Sized shape (now state) ⌝ }
-    ensures { λ r. ⌜ r ≡ every (passes (λ p. leading && leb p most)) (items (pointAt (now (state .entry))) 9 (startOf shape 2) (shape .n)) ⌝ }
+    ensures { λ r. ⌜ r ≡ (same (flat pointBytes (items (pointAt (now (state .entry))) 9 (startOf shape 2) (shape .n))) (part (now (state .entry)) (startOf shape 2) (9 * shape .n)) && every (passes (λ p. not asked || (leading && leb p most))) (items (pointAt (now (state .entry))) 9 (startOf shape 2) (shape .n))) ⌝ }
 {
-    let mut fine = true;
+    let at = places::places_of(shape).heard;
+    let mut formed = true;
+    let mut within = true;
     let mut i: u64 = 0;
     while i < shape.n {
         let point = places::heard_point(shape, state, i);
-        fine = fine & (!places::heard_flag(shape, state, i) | (leading & (point <= most)));
+        let right = !asked | (leading & (point <= most));
+        formed = formed & form::point_form(state, at + 9 * (i as usize));
+        within = within & (!places::heard_flag(shape, state, i) | right);
         i += 1;
     }
-    fine
+    formed & within
 }
 
-// Whether in status 1 the points heard and the sync point are those of a leader or of a follower.
+// Whether the points heard have their form and, in status 1, they and the sync point are those of a leader or of a follower.
 fn heard_good(shape: Shape, state: &[u8]) -> bool
     requires { ⌜ Known shape (now state) ⌝ }
-    ensures { λ r. ⌜ r ≡ heardGood shape (stateOf shape (now (state .entry))) ⌝ }
+    ensures { λ r. ⌜ r ≡ (sectionForm shape (now (state .entry)) 2 && heardGood shape (stateOf shape (now (state .entry)))) ⌝ }
 {
     let count = count_at(state, places::places_of(shape).log, shape.c as usize);
     let status = places::get_status(state);
     let sync = places::get_sync(state);
     let leading = leads(shape, state);
-    let within = heard_within(shape, state, leading, sync);
-    (status != 1) | ((!leading | (sync == count as u64)) & within)
+    let within = heard_within(shape, state, status == 1, leading, sync);
+    within & ((status != 1) | (!leading | (sync == count as u64)))
 }
 
 // ---- votes and replies kept
@@ -198,9 +204,8 @@ fn reply_good(shape: Shape, state: &[u8], j: u64) -> bool
     }
     let at = places::reply_place(shape, j) + 1;
     let group = places::get_group(state);
-    let log = log_good(state, at, shape.c as usize, shape.s, group);
-    let masks = masks_hold(state, at, shape.c as usize, j);
-    (j != group) & (log & masks)
+    let count = count_at(state, at, shape.c as usize);
+    (j != group) & logs::good_for(state, at + 4, count, shape.s, group, j)
 }
 
 // Whether every reply kept is one of another group to the own.
@@ -232,58 +237,73 @@ fn kept_good(shape: Shape, state: &[u8]) -> bool
     votes_fine & (replies_fine & (few_votes & few_replies))
 }
 
-// ---- the buffers
+// ---- log and buffers
 
-// Whether log, early and late buffer have no transaction twice, early entries come after the log, and every mask holds the own group.
-fn buffers_good(shape: Shape, state: &[u8]) -> bool
+// Whether the log is good, early entries come after it, those of both buffers are in range and hold the own group, and no transaction
+// stands twice in the three: one pass over each, and one test for repeats.
+fn entries_good(shape: Shape, state: &[u8]) -> bool
     requires { ⌜ Formed shape (now state) ⌝ }
-    ensures { λ r. ⌜ r ≡ buffersGood (stateOf shape (now (state .entry))) ⌝ }
+    ensures { λ r. ⌜ r ≡ entriesGood shape (stateOf shape (now (state .entry))) ⌝ }
 {
     let layout = places::places_of(shape);
     let c = shape.c as usize;
     let group = places::get_group(state);
     let last = last_stamp(state, layout.log, c);
-    let count = count_at(state, layout.early, c);
+    let log = rows_fit(state, layout.log, c, shape.s, group);
+    let early = all_fit(state, layout.early, c, last, shape.s, group);
+    let late = all_fit(state, layout.late, c, 0, shape.s, group);
     let apart = logs::distinct3(state, layout.log, layout.early, layout.late, c);
-    let after = logs::none_below(state, layout.early + 4, count, last);
-    let early = masks_hold(state, layout.early, c, group);
-    let late = masks_hold(state, layout.late, c, group);
-    apart & (after & (early & late))
+    log & (early & (late & apart))
 }
 
 // ---- the notes
 
-// Whether an entry that was noted at `own` stands at that timestamp or, once agreed, at the greatest.
-fn stamp_right(t: &[u8], c: usize, s: usize, e: Entry, own: u64) -> bool
-    requires { ⌜ Notes c s (now t) ⌝ }
+// Whether an entry that was noted at `own` stands at that timestamp or, once agreed, at the greatest of its note, which is note i.
+fn stamp_right(t: &[u8], c: usize, s: usize, e: Entry, i: usize, own: u64) -> bool
+    requires { ⌜ Notes c s (now t) × (i < length (notesAt c s (now t))) × (i ≡ row (e .request) (e .coordinator) (notesAt c s (now t))) ⌝ }
     ensures { λ r. ⌜ r ≡ eqb (e .stamp) (pick (rule.agreed (sized c s) (notesAt c s (now (t .entry))) e) (rule.greatest (sized c s) (notesAt c s (now (t .entry))) e) own) ⌝ }
 {
-    if notes::agreed(t, c, s, e) {
-        return e.stamp == notes::greatest(t, c, s, e);
+    if notes::agreed_at(t, c, s, i, e.mask) {
+        return e.stamp == notes::greatest_at(t, c, s, i, e.mask);
     }
     e.stamp == own
 }
 
-// Whether a leader's early entry has the note of its own group k, and the timestamp that the notes say.
-fn noted_right(t: &[u8], c: usize, s: usize, e: Entry, k: usize) -> bool
-    requires { ⌜ Notes c s (now t) × (k < s) ⌝ }
+// Whether a leader's early entry, whose note is note i, has the note of its own group k, and the timestamp that the notes say.
+fn noted_right(t: &[u8], c: usize, s: usize, e: Entry, i: usize, k: usize) -> bool
+    requires { ⌜ Notes c s (now t) × (k < s) × (i ≡ row (e .request) (e .coordinator) (notesAt c s (now t))) ⌝ }
     ensures { λ r. ⌜ r ≡ notedRight s (notesAt c s (now (t .entry))) k e ⌝ }
 {
-    match notes::noted(t, c, s, e, k) {
+    if notes::count(t) <= i {
+        return false;
+    }
+    match notes::stamp_of(t, c, s, i, k) {
         Point::Unheard => false,
-        Point::Heard(own) => stamp_right(t, c, s, e, own),
+        Point::Heard(own) => stamp_right(t, c, s, e, i, own),
     }
 }
 
-// Whether every entry in the table at `at` has the note of group k, and the timestamp that the notes say.
-fn all_noted(b: &[u8], at: usize, t: &[u8], c: usize, s: usize, k: usize) -> bool
-    requires { ⌜ (at + tableLength c ≤ length (now b)) × Notes c s (now t) × (k < s) ⌝ }
+// Whether every entry in the table at `at` has the note of group k, and the timestamp that the notes say. `rows` has the rows of the
+// notes where it is filled.
+fn all_noted(
+    b: &[u8],
+    at: usize,
+    t: &[u8],
+    c: usize,
+    s: usize,
+    k: usize,
+    rows: &[u16],
+    filled: bool,
+) -> bool
+    requires { ⌜ (at + tableLength c ≤ length (now b)) × Notes c s (now t) × (k < s) × (filled ≡ true → NoteRows c s (now t) (now rows)) ⌝ }
     ensures { λ r. ⌜ r ≡ every (notedRight s (notesAt c s (now (t .entry))) k) (tableAt c (now (b .entry)) at) ⌝ }
 {
     let n = count_at(b, at, c);
     let mut i = 0;
     while i < n {
-        if !noted_right(t, c, s, entries::entry_at(b, at + 4 + 24 * i), k) {
+        let e = entries::entry_at(b, at + 4 + 24 * i);
+        let note = lookups::note_row(t, c, s, rows, filled, e.request, e.coordinator);
+        if !noted_right(t, c, s, e, note, k) {
             return false;
         }
         i += 1;
@@ -291,28 +311,10 @@ fn all_noted(b: &[u8], at: usize, t: &[u8], c: usize, s: usize, k: usize) -> boo
     true
 }
 
-// Whether no two notes are of one transaction.
-fn notes_apart(t: &[u8], c: usize, s: usize) -> bool
-    requires { ⌜ Notes c s (now t) ⌝ }
-    ensures { λ r. ⌜ r ≡ notesDistinct (notesAt c s (now (t .entry))) ⌝ }
-{
-    let n = notes::count(t);
-    let spots = Spots {
-        first: 4,
-        first_count: n,
-        second: 0,
-        second_count: 0,
-        third: 0,
-        third_count: 0,
-        stride: 6 + 9 * s,
-    };
-    repeats::first_repeat(t, spots) == n
-}
-
 // Whether in status 1 a leader's early entries have their notes. The notes are lent as a slice of their own.
-fn early_good(shape: Shape, state: &[u8], t: &[u8]) -> bool
-    requires { ⌜ Known shape (now state) × Notes (shape .c) (shape .s) (now t) × (now t ≡ part (now state) (startOf shape 6) (4 + noteLength (shape .s) * shape .c)) ⌝ }
-    ensures { λ r. ⌜ r ≡ when (eqb (stateOf shape (now (state .entry)) .status) 1 && rule.leads shape (stateOf shape (now (state .entry)))) (every (earlyGood shape (stateOf shape (now (state .entry)))) (stateOf shape (now (state .entry)) .early)) ⌝ }
+fn early_good(shape: Shape, state: &[u8], t: &[u8], rows: &[u16], filled: bool) -> bool
+    requires { ⌜ Known shape (now state) × Lent shape (now state) (now t) × (filled ≡ true → NoteRows (shape .c) (shape .s) (now t) (now rows)) ⌝ }
+    ensures { λ r. ⌜ r ≡ earlyRight shape (stateOf shape (now (state .entry))) ⌝ }
 {
     if places::get_status(state) != 1 {
         return true;
@@ -321,37 +323,97 @@ fn early_good(shape: Shape, state: &[u8], t: &[u8]) -> bool
         return true;
     }
     let at = places::places_of(shape).early;
-    let group = places::get_group(state) as usize;
-    all_noted(state, at, t, shape.c as usize, shape.s as usize, group)
-}
-
-// Whether all holds that is left of a good state once its head is in range.
-fn rest_good(shape: Shape, state: &[u8]) -> bool
-    requires { ⌜ Formed shape (now state) ⌝ }
-    ensures { λ r. ⌜ r ≡ restGood shape (stateOf shape (now (state .entry))) ⌝ }
-{
-    let layout = places::places_of(shape);
     let c = shape.c as usize;
     let s = shape.s as usize;
+    let group = places::get_group(state) as usize;
+    all_noted(state, at, t, c, s, group, rows, filled)
+}
+
+// Whether no two notes are of one transaction.
+fn notes_apart(t: &[u8], c: usize, s: usize) -> bool
+    requires { ⌜ Notes c s (now t) ⌝ }
+    ensures { λ r. ⌜ r ≡ notesDistinct (notesAt c s (now (t .entry))) ⌝ }
+{
+    let n = notes::count(t);
+    repeats::first_repeat(t, lookups::note_spots(s, n)) == n
+}
+
+// Whether no two notes are of one transaction, and a leader's early entries have their notes. A table that gets the row of every note
+// shows the one and finds the other.
+fn notes_right(shape: Shape, state: &[u8], t: &[u8], rows: &mut [u16]) -> bool
+    requires { ⌜ Known shape (now state) × Lent shape (now state) (now t) ⌝ }
+    ensures { λ r. ⌜ r ≡ notesRight shape (stateOf shape (now (state .entry))) ⌝ }
+{
+    let c = shape.c as usize;
+    let s = shape.s as usize;
+    if lookups::fill_notes(t, c, s, rows) {
+        return early_good(shape, state, t, rows, true);
+    }
+    if !notes_apart(t, c, s) {
+        return false;
+    }
+    early_good(shape, state, t, rows, false)
+}
+
+// The same with a table for at most 256 notes.
+fn few_right(shape: Shape, state: &[u8], t: &[u8]) -> bool
+    requires { ⌜ Known shape (now state) × Lent shape (now state) (now t) ⌝ }
+    ensures { λ r. ⌜ r ≡ notesRight shape (stateOf shape (now (state .entry))) ⌝ }
+{
+    let mut rows = [65535u16; 576];
+    notes_right(shape, state, t, &mut rows)
+}
+
+// The same with a table for at most 4,096 notes, the largest capacity.
+fn many_right(shape: Shape, state: &[u8], t: &[u8]) -> bool
+    requires { ⌜ Known shape (now state) × Lent shape (now state) (now t) ⌝ }
+    ensures { λ r. ⌜ r ≡ notesRight shape (stateOf shape (now (state .entry))) ⌝ }
+{
+    let mut rows = [65535u16; 10304];
+    notes_right(shape, state, t, &mut rows)
+}
+
+// The same with a table by how many notes there are.
+fn noting_good(shape: Shape, state: &[u8], t: &[u8]) -> bool
+    requires { ⌜ Known shape (now state) × Lent shape (now state) (now t) ⌝ }
+    ensures { λ r. ⌜ r ≡ notesRight shape (stateOf shape (now (state .entry))) ⌝ }
+{
+    if notes::count(t) <= 256 {
+        return few_right(shape, state, t);
+    }
+    many_right(shape, state, t)
+}
+
+// Whether the notes have their form and are in range.
+fn notes_fit(shape: Shape, state: &[u8]) -> bool
+    requires { ⌜ Sized shape (now state) ⌝ }
+    ensures { λ r. ⌜ r ≡ (sectionForm shape (now (state .entry)) 6 && every noteFits (stateOf shape (now (state .entry)) .notes)) ⌝ }
+{
+    let layout = places::places_of(shape);
+    let from = layout.notes;
+    let upto = layout.votes;
+    notes::notes_good(&state[from..upto], shape.c as usize, shape.s as usize)
+}
+
+// ---- all of it
+
+// Whether the points heard have their form, and all holds that is left of a good state once its head and its notes are in range.
+fn rest_good(shape: Shape, state: &[u8]) -> bool
+    requires { ⌜ Formed shape (now state) ⌝ }
+    ensures { λ r. ⌜ r ≡ (sectionForm shape (now (state .entry)) 2 && restGood shape (stateOf shape (now (state .entry)))) ⌝ }
+{
+    let layout = places::places_of(shape);
     let group = places::get_group(state);
     let from = layout.notes;
     let upto = layout.votes;
-    let t = &state[from..upto];
-    let log = log_good(state, layout.log, c, shape.s, group);
-    let draft = log_good(state, layout.draft, c, shape.s, group);
+    let heard = heard_good(shape, state);
+    let draft = log_good(state, layout.draft, shape.c as usize, shape.s, group);
     let points = points_good(shape, state);
     let view = view_good(shape, state);
-    let heard = heard_good(shape, state);
     let kept = kept_good(shape, state);
-    let buffers = buffers_good(shape, state);
-    let early = early_good(shape, state, t);
-    let early_fit = entries_fit(state, layout.early, c, shape.s);
-    let late_fit = entries_fit(state, layout.late, c, shape.s);
-    let noted = notes::notes_good(t, c, s);
-    let apart = notes_apart(t, c, s);
-    let tables = early_fit & late_fit;
-    let noting = noted & apart;
-    log & (draft & (points & (view & (heard & (kept & (buffers & (early & (tables & noting))))))))
+    let entries = entries_good(shape, state);
+    let noting = noting_good(shape, state, &state[from..upto]);
+    heard & (draft & (points & (view & (kept & (entries & noting)))))
 }
 
 // Whether the bytes are those of a good state: this is asked of whatever comes, and nothing is taken for granted.
@@ -364,10 +426,13 @@ pub fn good(shape: Shape, state: &[u8]) -> bool
     if state.len() != places::places_of(shape).end {
         return false;
     }
-    if !form::canonical(shape, state) {
+    if !form::tables_form(shape, state) {
         return false;
     }
     if !head_fits(shape, state) {
+        return false;
+    }
+    if !notes_fit(shape, state) {
         return false;
     }
     rest_good(shape, state)

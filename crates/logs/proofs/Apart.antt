@@ -1,33 +1,35 @@
 -- No transaction stands twice where no key repeats an earlier one: of a list, and of three tables in bytes. Assumes nothing.
 use Prim.Native.Nat.{ℕ, zero, suc, _+_, _-_, _*_, _≤_, _<_}
 use mathlib.Core.Path.{_≡_, refl, sym, ap, _∙_}
-use mathlib.Core.Bool.{Bool, true, false, not, true≢false}
+use mathlib.Core.Bool.{Bool, true, false, _&&_, _||_, not, true≢false}
 use mathlib.Core.List.{List, [], _∷_, _++_}
 use native.Mathlib.Decide.{decLt}
 use native.Mathlib.Omega.{arith}
 use lib.ListN.{length, getD, length-append, List·getD-append}
 use lib.Seq.{getD-append-add}
-use lib.Dec.{eqb}
+use lib.Dec.{eqb, leb}
 use borrow.Author.Tests.{eq-eqb, ne-eqb, eqb-true, eqb-false}
 use Rattle.octets.specs.Bytes.{num, items}
-use Rattle.octets.proofs.Laws.{Bytes, bytes-known}
+use Rattle.octets.proofs.Laws.{bytes-known}
 use Rattle.octets.proofs.Codecs.{length-items, getD-items}
-use Rattle.rules.specs.Entry.{noEntry, entryOf, sameTxn, among}
-use Rattle.rules.specs.Log.{distinct}
+use Rattle.rules.specs.Group.{holds}
+use Rattle.rules.specs.Entry.{noEntry, entryOf, sameTxn, among, entryFits, stampBefore}
+use Rattle.rules.specs.Log.{seenBefore, goodLog, allHold, distinct}
 use Rattle.rules.specs.Read.{entryAt}
 use Rattle.rules.specs.Image.{tableAt}
 use Rattle.rules.specs.declared.Entry.{Entry}
 use Rattle.rules.proofs.Tests.{and-l, and-r, and-both}
-use Rattle.repeats.specs.Repeat.{repeatPlace, Distinct}
+use Rattle.repeats.specs.Repeat.{firstTo, repeatPlace, Distinct}
 use Rattle.repeats.specs.Rows.{countOf, keyOf, spotOf}
 use Rattle.repeats.specs.declared.Spots.{Spots}
-use Rattle.repeats.proofs.Laws.{repeat-distinct, distinct-repeat}
+use Rattle.repeats.proofs.Laws.{first-agree, again, repeat-distinct, distinct-repeat}
 use Rattle.repeats.proofs.Places.{spot-first, spot-second, spot-third}
 use Rattle.entries.proofs.First.{any-here, any-nowhere}
-use Rattle.logs.specs.Place.{Within}
-use Rattle.entries.proofs.Keys.{Keyed, keyed-at, key-is}
-use Rattle.logs.proofs.Every.{when-not}
-use Rattle.logs.proofs.Tables.{table-run}
+use Rattle.entries.proofs.Keys.{Keyed, keyed-at, key-is, seen-is}
+use Rattle.logs.specs.Place.{rowAt, oneRun, fits, unfitAt, Within}
+use Rattle.logs.proofs.Every.{when-not, unless-not, every-first, first-or}
+use Rattle.logs.proofs.Place.{run-key, wrongAt, good-first, wrong-is}
+use Rattle.logs.proofs.Tables.{table-run, good-items}
 
 -- ---- of a list
 
@@ -73,6 +75,85 @@ distinct-is es key h = go (eqb (repeatPlace key (length es)) (length es)) (disti
     go false false e f = refl
     go false true e f = absurd (eqb-false (repeatPlace key (length es)) (length es) e (distinct-repeat key (length es) (distinct-keys es key h f)))
 
+-- ---- of entries in a row of bytes
+
+module _ (b : List ℕ) (at n : ℕ) (known : (i : ℕ) → getD b i 0 < 256) (h : at + 24 * n ≤ length b) where
+  abbrev rows : List Entry
+  rows = items (entryAt b) 24 at n
+
+  keyed : (i : ℕ) → i < n → Keyed (keyOf b (oneRun at n) i) (rowAt b at i)
+  keyed = run-key b at n n known h (omega arith)
+
+  rows-distinct : eqb (repeatPlace (keyOf b (oneRun at n)) n) n ≡ distinct rows
+  rows-distinct =
+      let l : length rows ≡ n = length-items (entryAt b) 24 at n in
+      let k : KeysOf (keyOf b (oneRun at n)) rows
+      = λ i m.
+      let g : i < n = omega arith in
+      rw (getD-items (entryAt b) 24 at n i noEntry g) (keyed i g) in
+      rw l at (distinct-is rows (keyOf b (oneRun at n)) k)
+
+  seen-distinct : eqb (firstTo (λ i. seenBefore (rowAt b at) (rowAt b at i) i) n) n ≡ distinct rows
+  unfolding repeatPlace
+  seen-distinct =
+      ap (λ (x : ℕ). eqb x n) (first-agree (λ i. seenBefore (rowAt b at) (rowAt b at i) i) (again (keyOf b (oneRun at n))) n
+      (λ i l. sym (seen-is (rowAt b at) (keyOf b (oneRun at n)) (keyOf b (oneRun at n) i) (rowAt b at i) (keyed i l) i (λ j m. keyed j (omega arith)))))
+      ∙ rows-distinct
+
+  module _ (s k : ℕ) where
+    -- each fits after the one before it
+    abbrev fitting : ℕ → Bool
+    fitting j = eqb (firstTo (unfitAt s k j (rowAt b at)) n) n
+
+    -- a good log: each fits, and no transaction stands twice
+    pub good-two : goodLog s k rows ≡ (fitting k && distinct rows)
+    good-two =
+        good-items s k b at n
+        ∙ ap (λ (x : ℕ). eqb x n) (good-first s k (rowAt b at) n ∙ first-agree (wrongAt s k (rowAt b at)) (λ i. unfitAt s k k (rowAt b at) i || seenBefore (rowAt b at) (rowAt b at i) i) n (λ i l. wrong-is s k (rowAt b at) i))
+        ∙ first-or (unfitAt s k k (rowAt b at)) (λ i. seenBefore (rowAt b at) (rowAt b at i) i) n
+        ∙ ap (λ (t : Bool). fitting k && t) seen-distinct
+
+    -- a mask that lacks j is the second way to be unfit
+    or-lacks : (fit follows own other : Bool) → not (fit && (follows && (own && other))) ≡ (not (fit && (follows && (own && own))) || not other)
+    or-lacks false m x y = refl
+    or-lacks true false x y = refl
+    or-lacks true true false y = refl
+    or-lacks true true true y = refl
+
+    with-masks : (j : ℕ) → fitting j ≡ (fitting k && allHold j rows)
+    unfolding fits
+    with-masks j =
+        let f : ℕ → Entry = rowAt b at in
+        let lacks : ℕ → Bool = λ i. not (holds (f i .mask) j) in
+        ap (λ (x : ℕ). eqb x n) (first-agree (unfitAt s k j f) (λ i. unfitAt s k k f i || lacks i) n (λ i l. or-lacks (entryFits s (f i)) (leb (stampBefore f i) (f i .stamp)) (holds (f i .mask) k) (holds (f i .mask) j)))
+        ∙ first-or (unfitAt s k k f) lacks n
+        ∙ ap (λ (t : Bool). fitting k && t) (every-first (λ (e : Entry). holds (e .mask) j) (entryAt b) 24 at n (firstTo lacks n) refl)
+
+    swap : (a b c : Bool) → ((a && b) && c) ≡ ((a && c) && b)
+    swap false b c = refl
+    swap true true true = refl
+    swap true true false = refl
+    swap true false true = refl
+    swap true false false = refl
+
+    -- a good log whose masks hold j too
+    good-with : (j : ℕ) → (fitting j && distinct rows) ≡ (goodLog s k rows && allHold j rows)
+    good-with j =
+        ap (λ (t : Bool). t && distinct rows) (with-masks j)
+        ∙ swap (fitting k) (allHold j rows) (distinct rows)
+        ∙ ap (λ (t : Bool). t && allHold j rows) (sym good-two)
+
+    pub unfit-for : (j : ℕ) (r : Bool) → r ≡ fitting j → not r ≡ true → false ≡ (goodLog s k rows && allHold j rows)
+    unfit-for j r e q = ap (λ (t : Bool). t && distinct rows) (sym (sym e ∙ when-not r q)) ∙ good-with j
+
+    pub fit-for : (j m : ℕ) (sp : Spots) (r : Bool) → r ≡ fitting j → not r ≡ false → sp ≡ oneRun at n → m ≡ repeatPlace (keyOf b sp) (countOf sp) → eqb m n ≡ (goodLog s k rows && allHold j rows)
+    fit-for j m sp r e q p g =
+        let c : countOf (oneRun at n) ≡ n = omega arith in
+        ap (λ (x : ℕ). eqb x n) (g ∙ ap (λ (x : Spots). repeatPlace (keyOf b x) (countOf x)) p ∙ ap (repeatPlace (keyOf b (oneRun at n))) c)
+        ∙ rows-distinct
+        ∙ ap (λ (t : Bool). t && distinct rows) (sym (sym e ∙ unless-not r q))
+        ∙ good-with j
+
 -- ---- of three tables
 
 -- the keys of the entries of three tables
@@ -90,8 +171,8 @@ module _ (b : List ℕ) (c : ℕ) (known : (i : ℕ) → getD b i 0 < 256) where
   abbrev runOf : ℕ → ℕ → List Entry
   runOf at n = items (entryAt b) 24 (at + 4) n
 
-  run-key : (at n i spot : ℕ) (e : Entry) → Within c b at → n ≤ c → i < n → at + 20 + 24 * i ≡ spot → e ≡ getD (runOf at n) i noEntry → Keyed (num b spot 6) e
-  run-key at n i spot e w r l p q =
+  table-key : (at n i spot : ℕ) (e : Entry) → Within c b at → n ≤ c → i < n → at + 20 + 24 * i ≡ spot → e ≡ getD (runOf at n) i noEntry → Keyed (num b spot 6) e
+  table-key at n i spot e w r l p q =
       let g : e ≡ entryAt b (at + 4 + 24 * i) = q ∙ getD-items (entryAt b) 24 (at + 4) n i noEntry l in
       rw g (keyed-at b (at + 4 + 24 * i) spot (num b spot 6) (bytes-known b known) (omega (arith, w .ends)) (omega arith) refl)
 
@@ -108,19 +189,19 @@ module _ (b : List ℕ) (c : ℕ) (known : (i : ℕ) → getD b i 0 < 256) where
     key-later : (i : ℕ) → i < l + m + n → l ≤ i → Dec (i - l < m) → Keyed (keyOf b sp i) (entryOf three i)
     unfolding keyOf
     key-later i h f (yes g) =
-        run-key y m (i - l) (spotOf sp i) (entryOf three i) wy (omega (arith, wy .room)) g (spot-second sp i f g)
+        table-key y m (i - l) (spotOf sp i) (entryOf three i) wy (omega (arith, wy .room)) g (spot-second sp i f g)
         (past-end (runOf x l) (runOf y m ++ runOf z n) noEntry l i (length-items (entryAt b) 24 (x + 4) l) f
         ∙ List·getD-append (runOf y m) (runOf z n) noEntry (i - l) (rw (length-items (entryAt b) 24 (y + 4) m) g))
     key-later i h f (no g) =
         let k : m ≤ i - l = omega (arith, g) in
-        run-key z n (i - l - m) (spotOf sp i) (entryOf three i) wz (omega (arith, wz .room)) (omega arith) (spot-third sp i f k)
+        table-key z n (i - l - m) (spotOf sp i) (entryOf three i) wz (omega (arith, wz .room)) (omega arith) (spot-third sp i f k)
         (past-end (runOf x l) (runOf y m ++ runOf z n) noEntry l i (length-items (entryAt b) 24 (x + 4) l) f
         ∙ past-end (runOf y m) (runOf z n) noEntry m (i - l) (length-items (entryAt b) 24 (y + 4) m) k)
 
     key-any : (i : ℕ) → i < l + m + n → Dec (i < l) → Keyed (keyOf b sp i) (entryOf three i)
     unfolding keyOf
     key-any i h (yes f) =
-        run-key x l i (spotOf sp i) (entryOf three i) wx (omega (arith, wx .room)) f (spot-first sp i f)
+        table-key x l i (spotOf sp i) (entryOf three i) wx (omega (arith, wx .room)) f (spot-first sp i f)
         (List·getD-append (runOf x l) (runOf y m ++ runOf z n) noEntry i (rw (length-items (entryAt b) 24 (x + 4) l) f))
     key-any i h (no f) = key-later i h (omega (arith, f)) (decLt (i - l) m)
 

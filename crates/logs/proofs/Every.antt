@@ -1,25 +1,20 @@
 -- What holds of every one of things in a row, by a search for the first of which it does not. Assumes nothing.
-use Prim.Native.Nat.{ℕ, _+_, _*_, _≤_, _<_}
-use mathlib.Core.Path.{_≡_, refl, sym, ap, _∙_}
-use mathlib.Core.Bool.{Bool, true, false, not, true≢false}
-use mathlib.Core.List.{List, [], _∷_}
+use Prim.Native.Nat.{ℕ, zero, suc, _+_, _*_, _≤_, _<_}
+use mathlib.Core.Path.{_≡_, refl, sym, ap, ap₂, _∙_}
+use mathlib.Core.Bool.{Bool, true, false, _&&_, _||_, not, true≢false}
+use mathlib.Core.List.{[], _∷_}
 use native.Mathlib.Decide.{decLt}
 use native.Mathlib.Numerals.{add-one}
 use native.Mathlib.Omega.{arith}
 use lib.ListN.{length, getD}
-use lib.Dec.{eqb, leb}
-use borrow.Author.Tests.{eq-eqb, ne-eqb, le-leb, lt-leb}
-use Rattle.octets.specs.Bytes.{num, items}
+use lib.Dec.{eqb}
+use borrow.Author.Tests.{eq-eqb, ne-eqb}
+use Rattle.octets.specs.Bytes.{items}
 use Rattle.octets.proofs.Codecs.{length-items, getD-items}
-use Rattle.rules.specs.Choice.{every}
-use Rattle.rules.specs.Group.{holds}
-use Rattle.rules.specs.Entry.{entryOf, stampBefore, mayFollow, lastStamp, followsLast}
-use Rattle.rules.specs.Read.{entryAt}
-use Rattle.rules.specs.declared.Entry.{Entry}
+use Rattle.rules.specs.Choice.{pick, every}
 use Rattle.rules.proofs.Tests.{and-both, each, each-of, each-append, all-at, all-items}
 use Rattle.repeats.specs.Repeat.{firstTo}
 use Rattle.repeats.proofs.Laws.{First, first-to}
-use Rattle.logs.specs.Place.{notBelow}
 
 pub when-not : (b : Bool) → not b ≡ true → b ≡ false
 when-not true e = sym e
@@ -65,23 +60,31 @@ module _ {A : Type 0} (p : A → Bool) (f : ℕ → A) (k o : ℕ) where
           let e : r ≡ n = omega (arith, w .low) in
           eq-eqb r n e ∙ sym (each-of p (items f k o n) (all-items (λ x. p x ≡ true) f k o n (λ i m. unless-not (p (f (o + k * i))) (w .before i (omega arith)))))
 
--- ---- the tests of one entry in bytes
+-- ---- by two tests
 
-module _ (b : List ℕ) (a : ℕ) where
-  -- its mask holds a group or lacks it
-  pub lacks-by : (j v : ℕ) (r t : Bool) → v ≡ num b (a + 22) 2 → r ≡ holds v j → not r ≡ t → not (holds (entryAt b a .mask) j) ≡ t
-  unfolding entryAt
-  lacks-by j v r t q h e = ap (λ (x : ℕ). not (holds x j)) (sym q) ∙ ap not (sym h) ∙ e
+module _ (p : ℕ → Bool) where
+  -- none of the first suc n passes where none of the first n does, nor the next
+  none-next : (n : ℕ) → eqb (firstTo p (suc n)) (suc n) ≡ (eqb (firstTo p n) n && not (p n))
+  unfolding firstTo pick
+  none-next n = go (eqb (firstTo p n) n && not (p n)) refl
+    where
+      go : (t : Bool) → (eqb (firstTo p n) n && not (p n)) ≡ t → eqb (pick t (suc n) (firstTo p n)) (suc n) ≡ t
+      go true e = eq-eqb (suc n) (suc n) refl
+      go false e = ne-eqb (firstTo p n) (suc n) (λ q. let l : firstTo p n ≤ n = first-to p n .low in omega arith)
 
-  pub below-by : (last v : ℕ) → v ≡ num b a 8 → v < last → notBelow last (entryAt b a) ≡ false
-  unfolding entryAt
-  below-by last v q l = ap (leb last) (sym q) ∙ lt-leb last v l
-
-  pub above-by : (last v : ℕ) → v ≡ num b a 8 → last ≤ v → notBelow last (entryAt b a) ≡ true
-  unfolding entryAt
-  above-by last v q l = ap (leb last) (sym q) ∙ le-leb last v l
-
--- not below a log's last is what may follow it
-pub follows-is : (es xs : List Entry) (last : ℕ) → last ≡ lastStamp es → every (notBelow last) xs ≡ every (followsLast es) xs
-unfolding mayFollow
-follows-is es xs last q = ap (λ (x : ℕ). every (λ (e : Entry). leb x (e .stamp)) xs) q
+-- none passes either of two tests where none passes the one and none the other
+pub first-or : (p q : ℕ → Bool) (n : ℕ) → eqb (firstTo (λ i. p i || q i) n) n ≡ (eqb (firstTo p n) n && eqb (firstTo q n) n)
+unfolding firstTo
+first-or p q zero = refl
+first-or p q (suc n) =
+    none-next (λ i. p i || q i) n
+    ∙ ap (λ (t : Bool). t && not (p n || q n)) (first-or p q n)
+    ∙ turn (eqb (firstTo p n) n) (eqb (firstTo q n) n) (p n) (q n)
+    ∙ sym (ap₂ _&&_ (none-next p n) (none-next q n))
+  where
+    turn : (a b x y : Bool) → ((a && b) && not (x || y)) ≡ ((a && not x) && (b && not y))
+    turn true true true y = refl
+    turn true true false y = refl
+    turn true false true y = refl
+    turn true false false y = refl
+    turn false b x y = refl

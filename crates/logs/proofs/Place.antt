@@ -7,23 +7,21 @@ use native.Mathlib.Decide.{decLt}
 use native.Mathlib.Numerals.{add-one}
 use native.Mathlib.Omega.{arith}
 use lib.ListN.{length, getD}
-use lib.Dec.{eqb, ltb, leb}
-use borrow.Author.Tests.{eq-eqb}
+use lib.Dec.{ltb, leb}
 use Rattle.octets.specs.Bytes.{num}
-use Rattle.octets.proofs.Laws.{Bytes, bytes-known}
-use Rattle.rules.specs.Choice.{pick, allOf}
+use Rattle.octets.proofs.Laws.{bytes-known}
+use Rattle.rules.specs.Choice.{allOf}
 use Rattle.rules.specs.Group.{holds, someOf}
 use Rattle.rules.specs.Entry.{entryFits, stampFits, requestFits, coordinatorFits, stampBefore, mayFollow}
 use Rattle.rules.specs.Log.{seenBefore, stands, goodTo}
-use Rattle.rules.specs.Read.{entryAt}
 use Rattle.rules.specs.declared.Entry.{Entry}
 use Rattle.rules.proofs.Tests.{split, and-r}
 use Rattle.repeats.specs.Repeat.{firstTo, repeatPlace}
-use Rattle.repeats.specs.Rows.{keyOf, spotOf}
+use Rattle.repeats.specs.Rows.{countOf, keyOf, spotOf, Inside}
 use Rattle.repeats.specs.declared.Spots.{Spots}
 use Rattle.repeats.proofs.Laws.{First, first-to, first-is, first-agree, again, repeat-first}
 use Rattle.repeats.proofs.Places.{spot-first}
-use Rattle.logs.specs.Place.{rowAt, unfit, unfitAt}
+use Rattle.logs.specs.Place.{rowAt, oneRun, fits, unfitAt}
 use Rattle.entries.proofs.Keys.{Keyed, keyed-at, seen-is, seen-like}
 
 -- ---- the tests of one entry
@@ -37,15 +35,15 @@ unfolding entryFits allOf
 fits-by s e v q =
     ap (λ (x : Bool). stampFits (e .stamp) && (requestFits (e .request) && (coordinatorFits (e .coordinator) && x))) (q ∙ sym (and-true (someOf (e .mask) s)))
 
-pub unfit-by : (s k last : ℕ) (e : Entry) (u v : Bool) → u ≡ entryFits s e → v ≡ holds (e .mask) k → not (u && (leb last (e .stamp) && v)) ≡ unfit s k last e
-unfolding unfit
-unfit-by s k last e u v p q = rw (p, q)
+pub all-by : (s k j last : ℕ) (e : Entry) (u v w : Bool) → u ≡ entryFits s e → v ≡ holds (e .mask) k → w ≡ holds (e .mask) j → (u && (leb last (e .stamp) && (v && w))) ≡ fits s k j last e
+unfolding fits
+all-by s k j last e u v w p q r = rw (p, q, r)
 
 -- ---- a turn of the pass over the entries
 
-module _ (s k : ℕ) (f : ℕ → Entry) where
+module _ (s k j : ℕ) (f : ℕ → Entry) where
   -- what was found of the entry read after the last timestamp, said of entry i
-  pub unfit-row : (i last : ℕ) (e : Entry) (r t : Bool) → e ≡ f i → last ≡ stampBefore f i → r ≡ unfit s k last e → r ≡ t → unfitAt s k f i ≡ t
+  pub unfit-row : (i last : ℕ) (e : Entry) (r t : Bool) → e ≡ f i → last ≡ stampBefore f i → r ≡ fits s k j last e → not r ≡ t → unfitAt s k j f i ≡ t
   unfit-row i last e r t q l u v = cc
 
 pub stamp-start : (f : ℕ → Entry) → 0 ≡ stampBefore f 0
@@ -82,7 +80,7 @@ module _ (s k : ℕ) where
   unfolding entryFits
   mask-in e h = and-r (ltb 0 (e .mask)) (ltb (e .mask) (2 ^ s)) (split _ h 3)
 
-  wrong-by : (fits follows seen holds low : Bool) → (fits ≡ true → low ≡ true) → not (fits && allOf (follows ∷ not seen ∷ holds ∷ low ∷ [])) ≡ (not (fits && (follows && holds)) || seen)
+  wrong-by : (fit follows seen held low : Bool) → (fit ≡ true → low ≡ true) → not (fit && allOf (follows ∷ not seen ∷ held ∷ low ∷ [])) ≡ (not (fit && (follows && (held && held))) || seen)
   unfolding allOf
   wrong-by false m y g l h = refl
   wrong-by true false y g l h = refl
@@ -91,8 +89,8 @@ module _ (s k : ℕ) where
   wrong-by true true false false l h = refl
   wrong-by true true false true l h = rw (h refl)
 
-  pub wrong-is : (f : ℕ → Entry) (i : ℕ) → wrongAt f i ≡ (unfitAt s k f i || seenBefore f (f i) i)
-  unfolding stands mayFollow unfit
+  pub wrong-is : (f : ℕ → Entry) (i : ℕ) → wrongAt f i ≡ (unfitAt s k k f i || seenBefore f (f i) i)
+  unfolding stands mayFollow fits
   wrong-is f i = wrong-by (entryFits s (f i)) (leb (stampBefore f i) (f i .stamp)) (seenBefore f (f i) i) (holds (f i .mask) k) (ltb (f i .mask) (2 ^ s)) (mask-in (f i))
 
   -- it asks for the first n entries alone
@@ -104,24 +102,24 @@ module _ (s k : ℕ) where
           let e : f i ≡ g i = h i l in
           let p : stampBefore f i ≡ stampBefore g i = stamp-like f g i (λ j m. h j (omega arith)) in
           let q : seenBefore f (g i) i ≡ seenBefore g (g i) i = seen-like f g (g i) i (λ j m. h j (omega arith)) in
-          let r : unfitAt s k f i ≡ unfitAt s k g i = cc in
+          let r : unfitAt s k k f i ≡ unfitAt s k k g i = cc in
           let v : seenBefore f (f i) i ≡ seenBefore g (g i) i = cc in
-          wrong-is f i ∙ ap (λ (x : Bool). x || seenBefore f (f i) i) r ∙ ap (λ (x : Bool). unfitAt s k g i || x) v ∙ sym (wrong-is g i)
+          wrong-is f i ∙ ap (λ (x : Bool). x || seenBefore f (f i) i) r ∙ ap (λ (x : Bool). unfitAt s k k g i || x) v ∙ sym (wrong-is g i)
 
   or-true : (b : Bool) → (b || true) ≡ true
   or-true true = refl
   or-true false = refl
 
   -- the first repeat among the entries before the first that is unfit
-  pub good-is : (f : ℕ → Entry) (key : ℕ → ℕ) (n u : ℕ) → u ≡ firstTo (unfitAt s k f) n → ((i : ℕ) → i < u → Keyed (key i) (f i)) → repeatPlace key u ≡ goodTo s k f n
+  pub good-is : (f : ℕ → Entry) (key : ℕ → ℕ) (n u : ℕ) → u ≡ firstTo (unfitAt s k k f) n → ((i : ℕ) → i < u → Keyed (key i) (f i)) → repeatPlace key u ≡ goodTo s k f n
   good-is f key n u e h =
       sym (good-first f n ∙ first-is (wrongAt f) n r (record { low = omega (arith, v .low, w .low); before = clear; at = λ l. stops l (decLt r u) }))
     where
       r : ℕ
       r = repeatPlace key u
 
-      w : First (unfitAt s k f) n u
-      w = rw e (first-to (unfitAt s k f) n)
+      w : First (unfitAt s k k f) n u
+      w = rw e (first-to (unfitAt s k k f) n)
 
       v : First (again key) u r
       v = repeat-first key u
@@ -135,28 +133,33 @@ module _ (s k : ℕ) where
           wrong-is f i ∙ rw (w .before i m, seen i m) (v .before i l)
 
       stops : r < n → Dec (r < u) → wrongAt f r ≡ true
-      stops l (yes m) = wrong-is f r ∙ rw (seen r m, v .at m) (or-true (unfitAt s k f r))
+      stops l (yes m) = wrong-is f r ∙ rw (seen r m, v .at m) (or-true (unfitAt s k k f r))
       stops l (no m) =
           let z : r ≡ u = omega (arith, v .low) in
           wrong-is f r ∙ rw (z) (rw (w .at (omega arith)))
 
 -- ---- entries in a row of bytes
 
--- the keys of n entries from `at` on
-abbrev pub oneRun : ℕ → ℕ → Spots
-oneRun at n = record { first = at + 16; «first_count» = n; second = 0; «second_count» = 0; third = 0; «third_count» = 0; stride = 24 }
-
-module _ (s k : ℕ) (b : List ℕ) (at n u : ℕ) (known : (i : ℕ) → getD b i 0 < 256) (h : at + 24 * n ≤ length b) (e : u ≡ firstTo (unfitAt s k (rowAt b at)) n) where
-  run-key : u ≤ n → (i : ℕ) → i < u → Keyed (keyOf b (oneRun at u) i) (rowAt b at i)
+module _ (b : List ℕ) (at n u : ℕ) (known : (i : ℕ) → getD b i 0 < 256) (h : at + 24 * n ≤ length b) (w : u ≤ n) where
+  pub run-key : (i : ℕ) → i < u → Keyed (keyOf b (oneRun at u) i) (rowAt b at i)
   unfolding keyOf
-  run-key w i l =
+  run-key i l =
       let p : at + 16 + 24 * i ≡ spotOf (oneRun at u) i = spot-first (oneRun at u) i l in
       keyed-at b (at + 24 * i) (spotOf (oneRun at u) i) (num b (spotOf (oneRun at u) i) 6) (bytes-known b known) (omega arith) (omega arith) refl
 
-  -- no more are fit than there are
-  pub fit-low : u ≤ n
-  fit-low = rw e (first-to (unfitAt s k (rowAt b at)) n .low)
+-- the keys of the first u of n entries lie inside
+pub run-inside : (b : List ℕ) (at n u : ℕ) (sp : Spots) → length b < 18446744073709551616 → at + 24 * n ≤ length b → u ≤ n → sp ≡ oneRun at u → Inside b sp
+run-inside b at n u sp m h w e = rw e (record { one = omega arith; two = omega arith; three = omega arith; few = omega arith })
 
-  -- the first repeat among the fit ones
-  pub good-run : (m r : ℕ) → m ≡ u → r ≡ repeatPlace (keyOf b (oneRun at u)) m → r ≡ goodTo s k (rowAt b at) n
-  good-run m r p q = q ∙ ap (repeatPlace (keyOf b (oneRun at u))) p ∙ good-is s k (rowAt b at) (keyOf b (oneRun at u)) n u e (run-key fit-low)
+-- no more are fit than there are
+pub fit-low : (s k j : ℕ) (f : ℕ → Entry) (n u : ℕ) → u ≡ firstTo (unfitAt s k j f) n → u ≤ n
+fit-low s k j f n u e = rw e (first-to (unfitAt s k j f) n .low)
+
+-- the first repeat among the fit ones
+pub good-run : (s k : ℕ) (b : List ℕ) (at n u r : ℕ) (sp : Spots) → ((i : ℕ) → getD b i 0 < 256) → at + 24 * n ≤ length b → u ≡ firstTo (unfitAt s k k (rowAt b at)) n → sp ≡ oneRun at u → r ≡ repeatPlace (keyOf b sp) (countOf sp) → r ≡ goodTo s k (rowAt b at) n
+good-run s k b at n u r sp known h e p q =
+    let m : countOf (oneRun at u) ≡ u = omega arith in
+    q
+    ∙ ap (λ (x : Spots). repeatPlace (keyOf b x) (countOf x)) p
+    ∙ ap (repeatPlace (keyOf b (oneRun at u))) m
+    ∙ good-is s k (rowAt b at) (keyOf b (oneRun at u)) n u e (run-key b at n u known h (fit-low s k k (rowAt b at) n u e))

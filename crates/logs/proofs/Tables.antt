@@ -1,7 +1,6 @@
 -- A table's entries as those that stand in a row of its bytes: its good log, and its last timestamp. Assumes nothing.
-use Prim.Native.Nat.{ℕ, zero, suc, _+_, _-_, _*_, _≤_, _<_, min}
-use mathlib.Core.Path.{_≡_, refl, sym, ap, _∙_}
-use mathlib.Core.Bool.{Bool}
+use Prim.Native.Nat.{ℕ, suc, _+_, _-_, _*_, _≤_, min}
+use mathlib.Core.Path.{_≡_, ap, _∙_}
 use mathlib.Core.List.{List}
 use native.Mathlib.Omega.{arith}
 use lib.ListN.{length}
@@ -13,7 +12,7 @@ use Rattle.rules.specs.Log.{goodTo, goodLog}
 use Rattle.rules.specs.Read.{entryAt}
 use Rattle.rules.specs.Image.{tableAt}
 use Rattle.rules.specs.declared.Entry.{Entry}
-use Rattle.entries.specs.Table.{Holds, Table}
+use Rattle.entries.specs.Table.{Holds}
 use Rattle.entries.proofs.Table.{entry-in}
 use Rattle.logs.specs.Place.{rowAt}
 use Rattle.logs.proofs.Place.{good-like}
@@ -23,19 +22,12 @@ pub table-run : (c : ℕ) (b : List ℕ) (at n : ℕ) → num b at 4 ≤ c → n
 unfolding tableAt
 table-run c b at n h q = let m : min (num b at 4) c ≡ n = omega arith in ap (items (entryAt b) 24 (at + 4)) m
 
-pub table-items : (c : ℕ) (t : List ℕ) (n : ℕ) → Table c t → n ≡ num t 0 4 → tableAt c t 0 ≡ items (entryAt t) 24 4 n
-table-items c t n w q = table-run c t 0 n (omega (arith, w .count, w .room)) q
-
 -- a log that stands in a row of bytes is good where the place is its end
 pub good-items : (s k : ℕ) (b : List ℕ) (at n : ℕ) → goodLog s k (items (entryAt b) 24 at n) ≡ eqb (goodTo s k (rowAt b at) n) n
 unfolding goodLog
 good-items s k b at n =
     rw (length-items (entryAt b) 24 at n)
     (ap (λ (x : ℕ). eqb x n) (good-like s k (entryOf (items (entryAt b) 24 at n)) (rowAt b at) n (λ i l. getD-items (entryAt b) 24 at n i noEntry l)))
-
-pub log-is : (s k c : ℕ) (t : List ℕ) (n r : ℕ) → Table c t → n ≡ num t 0 4 → r ≡ goodTo s k (rowAt t 4) n → eqb r n ≡ goodLog s k (tableAt c t 0)
-log-is s k c t n r w p q =
-    ap (λ (x : ℕ). eqb x n) q ∙ sym (good-items s k t 4 n) ∙ ap (goodLog s k) (sym (table-items c t n w p))
 
 -- the last timestamp of a table
 module _ (c : ℕ) (es : List Entry) (t : List ℕ) (n : ℕ) (w : Holds c es t) (q : n ≡ num t 0 4) where

@@ -1,4 +1,4 @@
--- Entries in a row of bytes, and an entry that cannot stand where it does in a log, its transaction aside.
+-- Entries in a row of bytes, and an entry that can stand where it does in a log, its transaction aside.
 use Prim.Native.Nat.{ℕ, _+_, _*_, _≤_}
 use mathlib.Core.Bool.{Bool, _&&_, not}
 use mathlib.Core.List.{List}
@@ -9,22 +9,23 @@ use Rattle.rules.specs.Group.{holds}
 use Rattle.rules.specs.Entry.{entryFits, stampBefore}
 use Rattle.rules.specs.Read.{entryAt}
 use Rattle.rules.specs.declared.Entry.{Entry}
+use Rattle.repeats.specs.declared.Spots.{Spots}
 
 -- entry i of those that stand in b from `at` on
 abbrev pub rowAt : List ℕ → ℕ → ℕ → Entry
 rowAt b at i = entryAt b (at + 24 * i)
 
--- after timestamp `last`, in a log of group k: the entry is out of range, or below `last`, or its mask lacks k
-unfoldable pub unfit : ℕ → ℕ → ℕ → Entry → Bool
-unfit s k last e = not (entryFits s e && (leb last (e .stamp) && holds (e .mask) k))
+-- where the keys of n entries from `at` on stand
+abbrev pub oneRun : ℕ → ℕ → Spots
+oneRun at n = record { first = at + 16; «first_count» = n; second = 0; «second_count» = 0; third = 0; «third_count» = 0; stride = 24 }
 
--- entry i of entries in a row is unfit after the one before it
-abbrev pub unfitAt : ℕ → ℕ → (ℕ → Entry) → ℕ → Bool
-unfitAt s k f i = unfit s k (stampBefore f i) (f i)
+-- after timestamp `last`, in a log of group k: the entry is in range and not below `last`, and its mask holds k, and j too
+unfoldable pub fits : ℕ → ℕ → ℕ → ℕ → Entry → Bool
+fits s k j last e = entryFits s e && (leb last (e .stamp) && (holds (e .mask) k && holds (e .mask) j))
 
--- the entry is not below a timestamp
-abbrev pub notBelow : ℕ → Entry → Bool
-notBelow last e = leb last (e .stamp)
+-- entry i of entries in a row does not fit after the one before it
+abbrev pub unfitAt : ℕ → ℕ → ℕ → (ℕ → Entry) → ℕ → Bool
+unfitAt s k j f i = not (fits s k j (stampBefore f i) (f i))
 
 -- a table with room for c entries lies inside b at `at`, and has no more of them
 pub record Within (c : ℕ) (b : List ℕ) (at : ℕ) : Type 0 where

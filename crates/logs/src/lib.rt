@@ -2,20 +2,20 @@
 use repeats::Spots;
 use rules::Entry;
 ghost use mathlib.Core.Path.{_≡_};
-ghost use mathlib.Core.Bool.{not};
+ghost use mathlib.Core.Bool.{_&&_};
 ghost use mathlib.Core.List.{_++_};
-ghost use Prim.Native.Nat.{ℕ, _+_, _*_, _≤_};
+ghost use Prim.Native.Nat.{_+_, _*_, _≤_, _<_};
+ghost use lib.Dec.{eqb};
 ghost use lib.ListN.{length};
 ghost use Rattle.octets.specs.Bytes.{items};
 ghost use Rattle.rules.specs.Choice.{every};
-ghost use Rattle.rules.specs.Group as masks;
 ghost use Rattle.rules.specs.Entry.{entryFits, lastStamp};
 ghost use Rattle.rules.specs.Log.{goodTo, goodLog, allHold, distinct};
 ghost use Rattle.rules.specs.Read.{entryAt};
 ghost use Rattle.rules.specs.Image.{tableAt};
 ghost use Rattle.repeats.specs.Repeat.{firstTo};
 ghost use Rattle.entries.specs.Table.{Table};
-ghost use Rattle.logs.specs.Place.{rowAt, unfit, unfitAt, notBelow, Within};
+ghost use Rattle.logs.specs.Place.{rowAt, oneRun, fits, unfitAt, Within};
 
 // Whether every field of an entry is in range, where there are s groups.
 pub fn entry_fits(e: Entry, s: u64) -> bool
@@ -25,23 +25,25 @@ pub fn entry_fits(e: Entry, s: u64) -> bool
     stamp & ((1 <= e.request) & ((e.coordinator <= 65534) & group::some_of(e.mask, s)))
 }
 
-// Whether an entry cannot come after timestamp `last` in a log of group k, its transaction aside.
-fn is_unfit(e: Entry, last: u64, s: u64, k: u64) -> bool
-    ensures { λ r. ⌜ r ≡ unfit s k last e ⌝ }
+// Whether an entry can come after timestamp `last` in a log of group k, its transaction aside, and its mask holds group j too.
+fn fits_after(e: Entry, last: u64, s: u64, k: u64, j: u64) -> bool
+    ensures { λ r. ⌜ r ≡ fits s k j last e ⌝ }
 {
-    !(entry_fits(e, s) & ((last <= e.stamp) & group::holds(e.mask, k)))
+    let masked = group::holds(e.mask, k) & group::holds(e.mask, j);
+    entry_fits(e, s) & ((last <= e.stamp) & masked)
 }
 
-// The first of `count` entries from `at` on that is unfit, or `count`. Whether its transaction repeats an earlier one is not asked.
-fn first_unfit(b: &[u8], at: usize, count: usize, s: u64, k: u64) -> usize
+// The first of `count` entries from `at` on that does not fit after the one before it, or `count`. Whether its transaction repeats an
+// earlier one is not asked.
+fn first_unfit(b: &[u8], at: usize, count: usize, s: u64, k: u64, j: u64) -> usize
     requires { ⌜ at + 24 * count ≤ length (now b) ⌝ }
-    ensures { λ r. ⌜ r ≡ firstTo (unfitAt s k (rowAt (now (b .entry)) at)) count ⌝ }
+    ensures { λ r. ⌜ r ≡ firstTo (unfitAt s k j (rowAt (now (b .entry)) at)) count ⌝ }
 {
     let mut last: u64 = 0;
     let mut i = 0;
     while i < count {
         let e = entries::entry_at(b, at + 24 * i);
-        if is_unfit(e, last, s, k) {
+        if !fits_after(e, last, s, k, j) {
             return i;
         }
         last = e.stamp;
@@ -50,85 +52,64 @@ fn first_unfit(b: &[u8], at: usize, count: usize, s: u64, k: u64) -> usize
     count
 }
 
+// Whether each of `count` entries from `at` on fits after the one before it.
+pub fn rows_fit(b: &[u8], at: usize, count: usize, s: u64, k: u64, j: u64) -> bool
+    requires { ⌜ at + 24 * count ≤ length (now b) ⌝ }
+    ensures { λ r. ⌜ r ≡ eqb (firstTo (unfitAt s k j (rowAt (now (b .entry)) at)) count) count ⌝ }
+{
+    first_unfit(b, at, count, s, k, j) == count
+}
+
+// Whether each of `count` entries from `at` on fits after timestamp `last`.
+pub fn all_fit(b: &[u8], at: usize, count: usize, last: u64, s: u64, k: u64) -> bool
+    requires { ⌜ at + 24 * count ≤ length (now b) ⌝ }
+    ensures { λ r. ⌜ r ≡ every (fits s k k last) (items (entryAt (now (b .entry))) 24 at count) ⌝ }
+{
+    let mut i = 0;
+    while i < count {
+        if !fits_after(entries::entry_at(b, at + 24 * i), last, s, k, k) {
+            return false;
+        }
+        i += 1;
+    }
+    true
+}
+
+// Where the keys of `count` entries from `at` on stand.
+fn run_of(at: usize, count: usize) -> Spots
+    requires { ⌜ at + 16 < 18446744073709551616 ⌝ }
+    ensures { λ r. ⌜ r ≡ oneRun at count ⌝ }
+{
+    Spots {
+        first: at + 16,
+        first_count: count,
+        second: 0,
+        second_count: 0,
+        third: 0,
+        third_count: 0,
+        stride: 24,
+    }
+}
+
 // The first of `count` entries from `at` on at which they stop being a good log of group k, or `count`. One pass finds where the
 // fit ones end, and a repeat among those comes first.
 pub fn good_place(b: &[u8], at: usize, count: usize, s: u64, k: u64) -> usize
     requires { ⌜ at + 24 * count ≤ length (now b) ⌝ }
     ensures { λ r. ⌜ r ≡ goodTo s k (rowAt (now (b .entry)) at) count ⌝ }
 {
-    let fit = first_unfit(b, at, count, s, k);
-    let spots = Spots {
-        first: at + 16,
-        first_count: fit,
-        second: 0,
-        second_count: 0,
-        third: 0,
-        third_count: 0,
-        stride: 24,
-    };
-    repeats::first_repeat(b, spots)
+    let fit = first_unfit(b, at, count, s, k, k);
+    repeats::first_repeat(b, run_of(at, fit))
 }
 
-// Whether the entries of a table are a good log of group k.
-pub fn good_log(t: &[u8], c: usize, s: u64, k: u64) -> bool
-    requires { ⌜ Table c (now t) ⌝ }
-    ensures { λ r. ⌜ r ≡ goodLog s k (tableAt c (now (t .entry)) 0) ⌝ }
-{
-    let n = entries::count(t);
-    good_place(t, 4, n, s, k) == n
-}
-
-// The first of `count` entries from `at` on whose mask lacks group j, or `count`.
-pub fn first_lacking(b: &[u8], at: usize, count: usize, j: u64) -> usize
+// Whether `count` entries from `at` on are a good log of group k whose every mask holds group j too.
+pub fn good_for(b: &[u8], at: usize, count: usize, s: u64, k: u64, j: u64) -> bool
     requires { ⌜ at + 24 * count ≤ length (now b) ⌝ }
-    ensures { λ r. ⌜ r ≡ firstTo (λ i. not (masks.holds (entryAt (now (b .entry)) (at + 24 * i) .mask) j)) count ⌝ }
+    ensures { λ r. ⌜ r ≡ (goodLog s k (items (entryAt (now (b .entry))) 24 at count) && allHold j (items (entryAt (now (b .entry))) 24 at count)) ⌝ }
 {
-    let mut i = 0;
-    while i < count {
-        if !group::holds(octets::get16(b, at + 24 * i + 22), j) {
-            return i;
-        }
-        i += 1;
+    if !rows_fit(b, at, count, s, k, j) {
+        return false;
     }
-    count
-}
-
-// Whether every mask of `count` entries from `at` on holds group j.
-pub fn all_hold(b: &[u8], at: usize, count: usize, j: u64) -> bool
-    requires { ⌜ at + 24 * count ≤ length (now b) ⌝ }
-    ensures { λ r. ⌜ r ≡ allHold j (items (entryAt (now (b .entry))) 24 at count) ⌝ }
-{
-    first_lacking(b, at, count, j) == count
-}
-
-// Whether every field of `count` entries from `at` on is in range.
-pub fn all_fit(b: &[u8], at: usize, count: usize, s: u64) -> bool
-    requires { ⌜ at + 24 * count ≤ length (now b) ⌝ }
-    ensures { λ r. ⌜ r ≡ every (entryFits s) (items (entryAt (now (b .entry))) 24 at count) ⌝ }
-{
-    let mut i = 0;
-    while i < count {
-        if !entry_fits(entries::entry_at(b, at + 24 * i), s) {
-            return false;
-        }
-        i += 1;
-    }
-    true
-}
-
-// Whether none of `count` entries from `at` on is below timestamp `last`.
-pub fn none_below(b: &[u8], at: usize, count: usize, last: u64) -> bool
-    requires { ⌜ at + 24 * count ≤ length (now b) ⌝ }
-    ensures { λ r. ⌜ r ≡ every (notBelow last) (items (entryAt (now (b .entry))) 24 at count) ⌝ }
-{
-    let mut i = 0;
-    while i < count {
-        if octets::get64(b, at + 24 * i) < last {
-            return false;
-        }
-        i += 1;
-    }
-    true
+    repeats::first_repeat(b, run_of(at, count)) == count
 }
 
 // The timestamp of a table's last entry, 0 where it has none.

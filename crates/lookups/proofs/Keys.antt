@@ -1,7 +1,7 @@
 -- The transactions of notes as keys in their bytes: the row of a transaction is the row of its key. Assumes nothing.
 use Prim.Native.Nat.{ℕ, zero, suc, _+_, _*_, _≤_, _<_}
 use mathlib.Core.Path.{_≡_, refl, sym, ap, ap₂, _∙_}
-use mathlib.Core.Bool.{Bool, true, false, _&&_}
+use mathlib.Core.Bool.{Bool, true, false}
 use mathlib.Core.List.{List, [], _∷_}
 use native.Mathlib.Omega.{arith}
 use native.Mathlib.Nat.{mul-le-mul-left}
@@ -15,11 +15,11 @@ use Rattle.rules.specs.Image.{noteLength, noteAt}
 use Rattle.rules.specs.declared.Entry.{Entry}
 use Rattle.rules.proofs.Tests.{all-at}
 use Rattle.rules.proofs.Tables.{NoteFits}
-use Rattle.repeats.specs.Repeat.{firstTo, rowOf}
+use Rattle.repeats.specs.Repeat.{rowOf}
 use Rattle.repeats.specs.Rows.{countOf, keyOf, spotOf, Inside}
 use Rattle.repeats.specs.Table.{Filled}
 use Rattle.repeats.specs.declared.Spots.{Spots}
-use Rattle.repeats.proofs.Laws.{First, first-is, first-to, first-agree}
+use Rattle.repeats.proofs.Laws.{First, first-is, first-agree}
 use Rattle.repeats.proofs.Places.{spot-first}
 use Rattle.entries.proofs.Keys.{Keyed, key-is}
 use Rattle.notes.specs.Notes.{noNote, noteIn, isOf, row, notesAt, Notes}

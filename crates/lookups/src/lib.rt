@@ -7,7 +7,7 @@ ghost use Rattle.notes.specs.Notes.{notesAt, row, Notes};
 ghost use Rattle.lookups.specs.Rows.{noteSpots, NoteRows};
 
 // Where the keys of n notes of s groups stand: a key is a note's request and coordinator.
-fn note_spots(s: usize, n: usize) -> Spots
+pub fn note_spots(s: usize, n: usize) -> Spots
     requires { ⌜ s ≤ 8 ⌝ }
     ensures { λ r. ⌜ r ≡ noteSpots s n ⌝ }
 {

@@ -15,10 +15,10 @@ use Rattle.good.proofs.all_noted.Statement.{statement}
 use Rattle.good.proofs.all_noted.Tie as tie
 
 abbrev Inv-loop : tie.InvT-loop
-Inv-loop b at t c s k n i₀ i = (i ≤ n) × (n ≡ min (num b at 4) c) × (every (notedRight s (notesAt c s t) k) (items (entryAt b) 24 (at + 4) i) ≡ true)
+Inv-loop b at t c s k rows filled n i₀ i = (i ≤ n) × (n ≡ min (num b at 4) c) × (every (notedRight s (notesAt c s t) k) (items (entryAt b) 24 (at + 4) i) ≡ true)
 
 abbrev μ-loop : tie.MeasureT-loop
-μ-loop b at t c s k n i₀ i = n - i
+μ-loop b at t c s k rows filled n i₀ i = n - i
 
 count-at-requires : tie.Need-count-at-requires Inv-loop μ-loop
 count-at-requires c κs = search needs
@@ -38,11 +38,14 @@ add-entry-at-2 c = search needs
 entry-at-requires : tie.Need-entry-at-requires Inv-loop μ-loop
 entry-at-requires c κs = search needs
 
+note-row-requires : tie.Need-note-row-requires Inv-loop μ-loop
+note-row-requires c κs = search needs
+
 noted-right-requires : tie.Need-noted-right-requires Inv-loop μ-loop
 noted-right-requires c κs = search needs
 
 returns : tie.Need-returns Inv-loop μ-loop
-returns c = each-is _ _ _ _ (c .before .before .before .before .loop .inv .1) _ _ (every-stop _ _ _ _ (c .before .before .before .before .loop .i) _ (c .before .before .before .loop-test .taken) (sym ((c .before .noted-right .ensures) ∙ ap (notedRight _ _ _) (c .before .before .entry-at .ensures)) ∙ when-not _ (c .if1 .taken)))
+returns c = each-is _ _ _ _ (c .before .before .before .before .before .loop .inv .1) _ _ (every-stop _ _ _ _ (c .before .before .before .before .before .loop .i) _ (c .before .before .before .before .loop-test .taken) (sym ((c .before .noted-right .ensures) ∙ ap (notedRight _ _ _) (c .before .before .before .entry-at .ensures)) ∙ when-not _ (c .if1 .taken)))
 
 add-i : tie.Need-add-i Inv-loop μ-loop
 add-i c = search needs
@@ -51,7 +54,7 @@ loop-less : tie.Need-loop-less Inv-loop μ-loop
 loop-less c = search needs
 
 loop-again : tie.Need-loop-again Inv-loop μ-loop
-loop-again c = (omega arith, (c .before .before .before .before .loop .inv .1), every-next _ _ _ _ (c .before .before .before .before .loop .i) (c .before .before .before .before .loop .inv .2) (sym ((c .before .noted-right .ensures) ∙ ap (notedRight _ _ _) (c .before .before .entry-at .ensures)) ∙ unless-not _ (c .if1 .left)))
+loop-again c = (omega arith, (c .before .before .before .before .before .loop .inv .1), every-next _ _ _ _ (c .before .before .before .before .before .loop .i) (c .before .before .before .before .before .loop .inv .2) (sym ((c .before .noted-right .ensures) ∙ ap (notedRight _ _ _) (c .before .before .before .entry-at .ensures)) ∙ unless-not _ (c .if1 .left)))
 
 returns-2 : tie.Need-returns-2 Inv-loop μ-loop
 returns-2 c = each-is _ _ _ _ (c .before .loop .inv .1) _ _ (every-end _ _ _ _ (c .before .loop .i) _ (c .before .loop .inv .2) (c .before .loop .inv .0) (c .loop-test .left))
@@ -68,6 +71,7 @@ all-noted-spec =
     mul-entry-at
     add-entry-at-2
     entry-at-requires
+    note-row-requires
     noted-right-requires
     returns
     add-i

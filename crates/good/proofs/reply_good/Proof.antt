@@ -19,14 +19,17 @@ add-at c = search needs
 get-group-requires : tie.Need-get-group-requires
 get-group-requires c κs = search needs
 
-log-good-requires : tie.Need-log-good-requires
-log-good-requires c κs = search needs
+count-at-requires : tie.Need-count-at-requires
+count-at-requires c κs = search needs
 
-masks-hold-requires : tie.Need-masks-hold-requires
-masks-hold-requires c κs = search needs
+add-good-for : tie.Need-add-good-for
+add-good-for c = search needs
+
+good-for-requires : tie.Need-good-for-requires
+good-for-requires c κs = search needs
 
 returns-2 : tie.Need-returns-2
-returns-2 c = reply-is _ _ (c .before .before .before .before .before .before .before .pre .0 .size) _ _ (c .before .before .before .before .before .reply-flag .ensures) (c .before .before .before .before .if1 .left) _ _ _ _ (c .before .before .before .reply-place .ensures) (c .before .before .get-group .ensures) (c .before .log-good .ensures) (c .masks-hold .ensures)
+returns-2 c = reply-is _ _ (c .before .before .before .before .before .before .before .pre .0 .size) _ _ (c .before .before .before .before .before .reply-flag .ensures) (c .before .before .before .before .if1 .left) _ _ _ _ (c .before .before .before .reply-place .ensures) (c .before .before .get-group .ensures) (c .before .count-at .ensures) (c .good-for .ensures)
 
 pub reply-good-spec : {M : Type 1} → statement M
 reply-good-spec =
@@ -37,6 +40,7 @@ reply-good-spec =
     reply-place-requires
     add-at
     get-group-requires
-    log-good-requires
-    masks-hold-requires
+    count-at-requires
+    add-good-for
+    good-for-requires
     returns-2)

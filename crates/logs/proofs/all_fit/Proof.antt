@@ -1,4 +1,4 @@
--- `logs::all_fit` meets its contract. The invariant: every entry passed is in range. Assumes nothing.
+-- `logs::all_fit` meets its contract. The invariant: every entry passed fits. Assumes nothing.
 use borrow.Author.Needs.{needs}
 use Prim.Native.Nat.{_-_, _≤_}
 use mathlib.Core.Path.{_≡_, sym, ap, _∙_}
@@ -6,17 +6,17 @@ use mathlib.Core.Bool.{true}
 use native.Mathlib.Omega.{arith}
 use Rattle.octets.specs.Bytes.{items}
 use Rattle.rules.specs.Choice.{every}
-use Rattle.rules.specs.Entry.{entryFits}
 use Rattle.rules.specs.Read.{entryAt}
+use Rattle.logs.specs.Place.{fits}
 use Rattle.logs.proofs.Every.{when-not, unless-not, every-start, every-next, every-stop, every-end}
 use Rattle.logs.proofs.all_fit.Statement.{statement}
 use Rattle.logs.proofs.all_fit.Tie as tie
 
 abbrev Inv-loop : tie.InvT-loop
-Inv-loop b at count s i₀ i = (i ≤ count) × (every (entryFits s) (items (entryAt b) 24 at i) ≡ true)
+Inv-loop b at count last s k i₀ i = (i ≤ count) × (every (fits s k k last) (items (entryAt b) 24 at i) ≡ true)
 
 abbrev μ-loop : tie.MeasureT-loop
-μ-loop b at count s i₀ i = count - i
+μ-loop b at count last s k i₀ i = count - i
 
 loop-holds : tie.Need-loop-holds Inv-loop μ-loop
 loop-holds c = (omega arith, every-start _ _ _ _)
@@ -30,11 +30,11 @@ add-entry-at c = search needs
 entry-at-requires : tie.Need-entry-at-requires Inv-loop μ-loop
 entry-at-requires c κs = search needs
 
-entry-fits-requires : tie.Need-entry-fits-requires Inv-loop μ-loop
-entry-fits-requires c κs = search needs
+fits-after-requires : tie.Need-fits-after-requires Inv-loop μ-loop
+fits-after-requires c κs = search needs
 
 returns : tie.Need-returns Inv-loop μ-loop
-returns c = every-stop _ _ _ _ (c .before .before .before .before .loop .i) _ (c .before .before .before .loop-test .taken) (sym ((c .before .entry-fits .ensures) ∙ ap (entryFits _) (c .before .before .entry-at .ensures)) ∙ when-not _ (c .if1 .taken))
+returns c = every-stop _ _ _ _ (c .before .before .before .before .loop .i) _ (c .before .before .before .loop-test .taken) (sym ((c .before .fits-after .ensures) ∙ ap (fits _ _ _ _) (c .before .before .entry-at .ensures)) ∙ when-not _ (c .if1 .taken))
 
 add-i : tie.Need-add-i Inv-loop μ-loop
 add-i c = search needs
@@ -43,7 +43,7 @@ loop-less : tie.Need-loop-less Inv-loop μ-loop
 loop-less c = search needs
 
 loop-again : tie.Need-loop-again Inv-loop μ-loop
-loop-again c = (omega arith, every-next _ _ _ _ (c .before .before .before .before .loop .i) (c .before .before .before .before .loop .inv .1) (sym ((c .before .entry-fits .ensures) ∙ ap (entryFits _) (c .before .before .entry-at .ensures)) ∙ unless-not _ (c .if1 .left)))
+loop-again c = (omega arith, every-next _ _ _ _ (c .before .before .before .before .loop .i) (c .before .before .before .before .loop .inv .1) (sym ((c .before .fits-after .ensures) ∙ ap (fits _ _ _ _) (c .before .before .entry-at .ensures)) ∙ unless-not _ (c .if1 .left)))
 
 returns-2 : tie.Need-returns-2 Inv-loop μ-loop
 returns-2 c = every-end _ _ _ _ (c .before .loop .i) _ (c .before .loop .inv .1) (c .before .loop .inv .0) (c .loop-test .left)
@@ -58,7 +58,7 @@ all-fit-spec =
     mul-entry-at
     add-entry-at
     entry-at-requires
-    entry-fits-requires
+    fits-after-requires
     returns
     add-i
     loop-less

@@ -1,4 +1,4 @@
--- `logs::first_unfit` meets its contract. The invariant: no entry passed is unfit, and `last` is the timestamp of the last of them. Assumes nothing.
+-- `logs::first_unfit` meets its contract. The invariant: every entry passed fits, and `last` is the timestamp of the last of them. Assumes nothing.
 use borrow.Author.Needs.{needs}
 use Prim.Native.Nat.{_≤_, _-_}
 use mathlib.Core.Path.{_≡_}
@@ -12,10 +12,10 @@ use Rattle.logs.proofs.first_unfit.Statement.{statement}
 use Rattle.logs.proofs.first_unfit.Tie as tie
 
 abbrev Inv-loop : tie.InvT-loop
-Inv-loop b at count s k last₀ i₀ last i = (i ≤ count) × (last ≡ stampBefore (rowAt b at) i) × (firstTo (unfitAt s k (rowAt b at)) i ≡ i)
+Inv-loop b at count s k j last₀ i₀ last i = (i ≤ count) × (last ≡ stampBefore (rowAt b at) i) × (firstTo (unfitAt s k j (rowAt b at)) i ≡ i)
 
 abbrev μ-loop : tie.MeasureT-loop
-μ-loop b at count s k last₀ i₀ last i = count - i
+μ-loop b at count s k j last₀ i₀ last i = count - i
 
 loop-holds : tie.Need-loop-holds Inv-loop μ-loop
 loop-holds c = (omega arith, stamp-start _, first-start _)
@@ -29,11 +29,11 @@ add-entry-at c = search needs
 entry-at-requires : tie.Need-entry-at-requires Inv-loop μ-loop
 entry-at-requires c κs = search needs
 
-is-unfit-requires : tie.Need-is-unfit-requires Inv-loop μ-loop
-is-unfit-requires c κs = search needs
+fits-after-requires : tie.Need-fits-after-requires Inv-loop μ-loop
+fits-after-requires c κs = search needs
 
 returns : tie.Need-returns Inv-loop μ-loop
-returns c = first-stop _ (c .before .before .before .before .loop .i) _ (c .before .before .before .before .loop .inv .2) (unfit-row _ _ _ (c .before .before .before .before .loop .i) _ _ _ _ (c .before .before .entry-at .ensures) (c .before .before .before .before .loop .inv .1) (c .before .is-unfit .ensures) (c .if1 .taken)) (c .before .before .before .loop-test .taken)
+returns c = first-stop _ (c .before .before .before .before .loop .i) _ (c .before .before .before .before .loop .inv .2) (unfit-row _ _ _ _ (c .before .before .before .before .loop .i) _ _ _ _ (c .before .before .entry-at .ensures) (c .before .before .before .before .loop .inv .1) (c .before .fits-after .ensures) (c .if1 .taken)) (c .before .before .before .loop-test .taken)
 
 add-i : tie.Need-add-i Inv-loop μ-loop
 add-i c = search needs
@@ -42,7 +42,7 @@ loop-less : tie.Need-loop-less Inv-loop μ-loop
 loop-less c = search needs
 
 loop-again : tie.Need-loop-again Inv-loop μ-loop
-loop-again c = (omega arith, stamp-next _ (c .before .before .before .before .loop .i) _ (c .before .before .entry-at .ensures), first-pass _ (c .before .before .before .before .loop .i) (c .before .before .before .before .loop .inv .2) (unfit-row _ _ _ (c .before .before .before .before .loop .i) _ _ _ _ (c .before .before .entry-at .ensures) (c .before .before .before .before .loop .inv .1) (c .before .is-unfit .ensures) (c .if1 .left)))
+loop-again c = (omega arith, stamp-next _ (c .before .before .before .before .loop .i) _ (c .before .before .entry-at .ensures), first-pass _ (c .before .before .before .before .loop .i) (c .before .before .before .before .loop .inv .2) (unfit-row _ _ _ _ (c .before .before .before .before .loop .i) _ _ _ _ (c .before .before .entry-at .ensures) (c .before .before .before .before .loop .inv .1) (c .before .fits-after .ensures) (c .if1 .left)))
 
 returns-2 : tie.Need-returns-2 Inv-loop μ-loop
 returns-2 c = first-end _ (c .before .loop .i) _ (c .before .loop .inv .2) (c .before .loop .inv .0) (c .loop-test .left)
@@ -57,7 +57,7 @@ first-unfit-spec =
     mul-entry-at
     add-entry-at
     entry-at-requires
-    is-unfit-requires
+    fits-after-requires
     returns
     add-i
     loop-less

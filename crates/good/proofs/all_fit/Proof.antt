@@ -1,8 +1,8 @@
--- `good::entries_fit` meets its contract: the entries that are looked at are the table's. Assumes nothing.
+-- `good::all_fit` meets its contract: the entries that are looked at are the table's. Assumes nothing.
 use borrow.Author.Needs.{needs}
 use Rattle.good.proofs.Tables.{each-is}
-use Rattle.good.proofs.entries_fit.Statement.{statement}
-use Rattle.good.proofs.entries_fit.Tie as tie
+use Rattle.good.proofs.all_fit.Statement.{statement}
+use Rattle.good.proofs.all_fit.Tie as tie
 
 count-at-requires : tie.Need-count-at-requires
 count-at-requires c κs = search needs
@@ -16,5 +16,5 @@ all-fit-requires c κs = search needs
 returns : tie.Need-returns
 returns c = each-is _ _ _ _ (c .before .count-at .ensures) _ _ (c .all-fit .ensures)
 
-pub entries-fit-spec : {M : Type 1} → statement M
-entries-fit-spec = tie.close (tie.spec count-at-requires add-all-fit all-fit-requires returns)
+pub all-fit-spec : {M : Type 1} → statement M
+all-fit-spec = tie.close (tie.spec count-at-requires add-all-fit all-fit-requires returns)

@@ -1,0 +1,42 @@
+-- `good::entries_good` meets its contract: the three tables are the state's. Assumes nothing.
+use borrow.Author.Needs.{needs}
+use Rattle.good.proofs.Apart.{within-at, entries-are}
+use Rattle.good.proofs.entries_good.Statement.{statement}
+use Rattle.good.proofs.entries_good.Tie as tie
+
+places-of-requires : tie.Need-places-of-requires
+places-of-requires c κs = search needs
+
+get-group-requires : tie.Need-get-group-requires
+get-group-requires c κs = search needs
+
+last-stamp-requires : tie.Need-last-stamp-requires
+last-stamp-requires c κs = search needs
+
+rows-fit-requires : tie.Need-rows-fit-requires
+rows-fit-requires c κs = search needs
+
+all-fit-requires : tie.Need-all-fit-requires
+all-fit-requires c κs = search needs
+
+all-fit-requires-2 : tie.Need-all-fit-requires-2
+all-fit-requires-2 c κs = search needs
+
+distinct3-requires : tie.Need-distinct3-requires
+distinct3-requires c κs = (within-at _ _ _ _ (c .before .before .before .before .before .places-of .ensures .log) (c .before .before .before .before .before .before .before .pre .log), within-at _ _ _ _ (c .before .before .before .before .before .places-of .ensures .early) (c .before .before .before .before .before .before .before .pre .early), within-at _ _ _ _ (c .before .before .before .before .before .places-of .ensures .late) (c .before .before .before .before .before .before .before .pre .late))
+
+returns : tie.Need-returns
+returns c = entries-are _ _ (c .before .before .before .before .before .before .before .before .pre .known .sized .size) _ _ _ _ _ (c .before .before .before .rows-fit .result) _ _ _ (c .before .before .before .before .before .before .places-of .ensures .log) (c .before .before .before .before .before .before .places-of .ensures .early) (c .before .before .before .before .before .before .places-of .ensures .late) (c .before .before .before .before .before .get-group .ensures) (c .before .before .before .before .last-stamp .ensures) (c .before .before .before .rows-fit .ensures) (c .before .before .all-fit .ensures) (c .before .all-fit2 .ensures) (c .distinct3 .ensures)
+
+pub entries-good-spec : {M : Type 1} → statement M
+entries-good-spec =
+    tie.close
+    (tie.spec
+    places-of-requires
+    get-group-requires
+    last-stamp-requires
+    rows-fit-requires
+    all-fit-requires
+    all-fit-requires-2
+    distinct3-requires
+    returns)
