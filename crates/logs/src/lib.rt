@@ -141,5 +141,5 @@ pub fn distinct3(b: &[u8], one: usize, two: usize, three: usize, c: usize) -> bo
         third_count: n,
         stride: 24,
     };
-    repeats::first_repeat(b, spots) == l + m + n
+    repeats::none_repeats(b, spots)
 }

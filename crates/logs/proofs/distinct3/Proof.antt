@@ -1,4 +1,5 @@
 -- `logs::distinct3` meets its contract: the three runs of keys are those of the three tables. Assumes nothing.
+use mathlib.Core.Path.{_∙_, refl}
 use borrow.Author.Needs.{needs}
 use Rattle.logs.proofs.Apart.{three-distinct}
 use Rattle.logs.proofs.distinct3.Statement.{statement}
@@ -31,17 +32,11 @@ add-result-2 c = search needs
 add-result-3 : tie.Need-add-result-3
 add-result-3 c = search needs
 
-first-repeat-requires : tie.Need-first-repeat-requires
-first-repeat-requires c κs = search needs
-
-add-result-4 : tie.Need-add-result-4
-add-result-4 c = search needs
-
-add-result-5 : tie.Need-add-result-5
-add-result-5 c = search needs
+none-repeats-requires : tie.Need-none-repeats-requires
+none-repeats-requires c κs = search needs
 
 returns : tie.Need-returns
-returns c = three-distinct (c .before .before .before .before .before .args .b .now) (c .before .before .before .before .before .args .c) (λ i. (c .before .before .before .before .shared-slice-known .given) i .fits) _ _ _ _ _ _ (c .before .before .before .before .before .pre .0) (c .before .before .before .before .before .pre .1) (c .before .before .before .before .before .pre .2) (c .before .before .before .get32 .ensures) (c .before .before .get322 .ensures) (c .before .get323 .ensures) _ (c .first-repeat .ensures)
+returns c = (c .none-repeats .ensures) ∙ three-distinct (c .before .before .before .before .before .args .b .now) (c .before .before .before .before .before .args .c) (λ i. (c .before .before .before .before .shared-slice-known .given) i .fits) _ _ _ _ _ _ (c .before .before .before .before .before .pre .0) (c .before .before .before .before .before .pre .1) (c .before .before .before .before .before .pre .2) (c .before .before .before .get32 .ensures) (c .before .before .get322 .ensures) (c .before .get323 .ensures) _ refl
 
 pub distinct3-spec : {M : Type 1} → statement M
 distinct3-spec =
@@ -56,7 +51,5 @@ distinct3-spec =
     add-result
     add-result-2
     add-result-3
-    first-repeat-requires
-    add-result-4
-    add-result-5
+    none-repeats-requires
     returns)
