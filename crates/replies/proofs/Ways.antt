@@ -5,8 +5,7 @@ use mathlib.Core.Bool.{Bool, true, false, not, true≢false}
 use mathlib.Core.Option.{Option, none, some}
 use mathlib.Core.List.{List, [], _++_}
 use native.Mathlib.Omega.{arith}
-use lib.ListN.{length, take, drop, getD, set, replicate, length-replicate}
-use lib.Seq.{length-take-le}
+use lib.ListN.{length, getD, set}
 use lib.Dec.{eqb, ltb, leb}
 use borrow.Author.Tests.{eqb-true, lt-ltb, le-ltb, le-leb, lt-leb, not-true, not-false}
 use Rattle.octets.specs.Bytes.{num, splice, items}
@@ -46,12 +45,6 @@ use Rattle.replies.specs.Replies.{startsWith}
 use Rattle.replies.proofs.Kept.{held-more, held-counted}
 
 -- ---- the start with a merged draft
-
--- the table of its own is as long as one of c entries
-pub own-long : (c n : ℕ) → c ≤ 4096 → n ≡ 98308 → length (take (4 + 24 * c - 0) (drop 0 (replicate {A = ℕ} n 0))) ≡ 4 + 24 * c
-own-long c n h e =
-    let z : 4 + 24 * c - 0 ≡ 4 + 24 * c = omega arith in
-    rw z (length-take-le (4 + 24 * c) (replicate n 0) (omega (arith, length-replicate {A = ℕ} n 0)))
 
 module _ (sh : Shape) (b out gVec : List ℕ) (es : List Entry) (r : Bool) (x : List ℕ) (k : Taken (sh .c) es r x) where
   -- it is too long

@@ -37,8 +37,35 @@ fn start_merged(
     changes::start_leading(shape, state, view, message, table, out)
 }
 
-// The same, with a table of its own.
-fn merge_and_start(
+// The same, with a table of its own for at most 256 entries.
+fn merge_few(
+    shape: Shape,
+    state: &mut [u8],
+    from: u64,
+    message: &[u8],
+    at: usize,
+    number: usize,
+    out: &mut [u8],
+) -> Answer
+    requires { ⌜ Stands shape (stateOf shape (now state)) (now state) × (16 + 4 * shape .s ≤ length (now message)) × (at + 24 * number ≤ length (now message)) × (shape .c ≤ 256) ⌝ }
+    ensures { λ r. ⌜ left r (now (state .exit)) (now (out .exit)) ≡ closes shape (now (state .entry)) (now (out .entry)) (startsWith shape (now (state .entry)) (viewsOf shape (now (message .entry))) (mergedWith shape (now (state .entry)) from (now (message .entry)) at number)) ⌝ }
+{
+    let mut scratch = [0u8; 6148];
+    let end = 4 + 24 * shape.c as usize;
+    start_merged(
+        shape,
+        state,
+        from,
+        message,
+        at,
+        number,
+        &mut scratch[0..end],
+        out,
+    )
+}
+
+// The same, with a table for the largest capacity.
+fn merge_many(
     shape: Shape,
     state: &mut [u8],
     from: u64,
@@ -62,6 +89,25 @@ fn merge_and_start(
         &mut scratch[0..end],
         out,
     )
+}
+
+// The same, with a table of its own by the capacity.
+fn merge_and_start(
+    shape: Shape,
+    state: &mut [u8],
+    from: u64,
+    message: &[u8],
+    at: usize,
+    number: usize,
+    out: &mut [u8],
+) -> Answer
+    requires { ⌜ Stands shape (stateOf shape (now state)) (now state) × (16 + 4 * shape .s ≤ length (now message)) × (at + 24 * number ≤ length (now message)) ⌝ }
+    ensures { λ r. ⌜ left r (now (state .exit)) (now (out .exit)) ≡ closes shape (now (state .entry)) (now (out .entry)) (startsWith shape (now (state .entry)) (viewsOf shape (now (message .entry))) (mergedWith shape (now (state .entry)) from (now (message .entry)) at number)) ⌝ }
+{
+    if shape.c <= 256 {
+        return merge_few(shape, state, from, message, at, number, out);
+    }
+    merge_many(shape, state, from, message, at, number, out)
 }
 
 // Kind 19: a group's second reply is refused. With fewer than all other groups' replies this one is kept; the last of them starts the view.

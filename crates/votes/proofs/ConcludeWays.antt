@@ -4,8 +4,7 @@ use mathlib.Core.Path.{_≡_, sym, ap, subst, _∙_}
 use mathlib.Core.Option.{Option}
 use mathlib.Core.List.{List, [], _∷_}
 use native.Mathlib.Omega.{arith}
-use lib.ListN.{length, take, drop, replicate, length-replicate}
-use lib.Seq.{length-take-le}
+use lib.ListN.{length}
 use lib.Dec.{eqb, leb}
 use borrow.Author.Tests.{le-leb, lt-leb, eq-eqb, ne-eqb}
 use Rattle.octets.proofs.Laws.{Bytes}
@@ -90,10 +89,3 @@ module _ (sh : Shape) (b msg : List ℕ) (view : ℕ) (k : Cast) (g : Brought sh
         q ∙ ap (λ (es : List Entry). closes sh b out (asksAll sh here votes es boundary)) log-is
         ∙ ap (λ (x : ℕ). closes sh b out (asksAll sh here votes (rebuilt (sh .n) votes) x)) (given .1)
         ∙ ap (closes sh b out) (sym (more sh here votes (given .0 .room) s))
-
--- ---- the table aside
-
-pub aside-long : (c n : ℕ) → c ≤ 4096 → n ≡ 98308 → length (take (4 + 24 * c - 0) (drop 0 (replicate {A = ℕ} n 0))) ≡ 4 + 24 * c
-aside-long c n h e =
-    let l : 4 + 24 * c - 0 ≤ length (replicate {A = ℕ} n 0) = rw (length-replicate {A = ℕ} n 0) (omega arith) in
-    length-take-le (4 + 24 * c - 0) (replicate {A = ℕ} n 0) l ∙ omega arith

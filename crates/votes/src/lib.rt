@@ -155,8 +155,25 @@ fn conclude(
     ask_all(shape, state, view, message, cast, table, boundary, out)
 }
 
-// The same, with a table of its own: nothing of the state changes before the log is known to fit.
-fn conclude_aside(
+// The same, with a table of its own for at most 256 entries.
+fn conclude_few(
+    shape: Shape,
+    state: &mut [u8],
+    view: u32,
+    message: &[u8],
+    cast: Cast,
+    out: &mut [u8],
+) -> Answer
+    requires { ⌜ Brought shape (now state) (now message) view cast × (shape .c ≤ 256) ⌝ }
+    ensures { λ r. ⌜ left r (now (state .exit)) (now (out .exit)) ≡ closes shape (now (state .entry)) (now (out .entry)) (concludes shape (cameTo shape (now (state .entry)) (now (message .entry)) view (cast .entering)) (votesIn shape (now (state .entry)) (now (message .entry)) cast)) ⌝ }
+{
+    let mut scratch = [0u8; 6148];
+    let end = 4 + 24 * shape.c as usize;
+    conclude(shape, state, view, message, cast, &mut scratch[0..end], out)
+}
+
+// The same, with a table for the largest capacity.
+fn conclude_many(
     shape: Shape,
     state: &mut [u8],
     view: u32,
@@ -170,6 +187,24 @@ fn conclude_aside(
     let mut scratch = [0u8; 98308];
     let end = 4 + 24 * shape.c as usize;
     conclude(shape, state, view, message, cast, &mut scratch[0..end], out)
+}
+
+// The same, with a table of its own by the capacity: nothing of the state changes before the log is known to fit.
+fn conclude_aside(
+    shape: Shape,
+    state: &mut [u8],
+    view: u32,
+    message: &[u8],
+    cast: Cast,
+    out: &mut [u8],
+) -> Answer
+    requires { ⌜ Brought shape (now state) (now message) view cast ⌝ }
+    ensures { λ r. ⌜ left r (now (state .exit)) (now (out .exit)) ≡ closes shape (now (state .entry)) (now (out .entry)) (concludes shape (cameTo shape (now (state .entry)) (now (message .entry)) view (cast .entering)) (votesIn shape (now (state .entry)) (now (message .entry)) cast)) ⌝ }
+{
+    if shape.c <= 256 {
+        return conclude_few(shape, state, view, message, cast, out);
+    }
+    conclude_many(shape, state, view, message, cast, out)
 }
 
 // ---- kind 8

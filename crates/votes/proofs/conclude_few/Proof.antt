@@ -1,9 +1,9 @@
--- `votes::conclude_aside` meets its contract. Assumes nothing.
+-- `votes::conclude_few` meets its contract. Assumes nothing.
 use mathlib.Core.Path.{refl}
 use borrow.Author.Needs.{needs}
-use Rattle.votes.proofs.ConcludeWays.{aside-long}
-use Rattle.votes.proofs.conclude_aside.Statement.{statement}
-use Rattle.votes.proofs.conclude_aside.Tie as tie
+use Rattle.views.proofs.Aside.{aside-long}
+use Rattle.votes.proofs.conclude_few.Statement.{statement}
+use Rattle.votes.proofs.conclude_few.Tie as tie
 
 mul-end : tie.Need-mul-end
 mul-end c = search needs
@@ -21,7 +21,7 @@ part-scratch-end : tie.Need-part-scratch-end
 part-scratch-end c = search needs
 
 conclude-requires : tie.Need-conclude-requires
-conclude-requires c κs = ((c .before .before .before .before .before .before .pre), aside-long ((c .before .before .before .before .before .before .args .shape) .c) 98308 ((c .before .before .before .before .before .before .pre) .given .sent .stands .fits .small) refl)
+conclude-requires c κs = ((c .before .before .before .before .before .before .pre .0), aside-long ((c .before .before .before .before .before .before .args .shape) .c) 256 6148 (c .before .before .before .before .before .before .pre .1) refl)
 
 same-length : tie.Need-same-length
 same-length c = search needs
@@ -32,8 +32,8 @@ same-length-2 c = search needs
 returns : tie.Need-returns
 returns c = search needs
 
-pub conclude-aside-spec : {M : Type 1} → statement M
-conclude-aside-spec =
+pub conclude-few-spec : {M : Type 1} → statement M
+conclude-few-spec =
     tie.close
     (tie.spec
     mul-end

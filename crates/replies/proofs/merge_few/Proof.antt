@@ -1,9 +1,9 @@
--- `replies::merge_and_start` meets its contract. Assumes nothing.
+-- `replies::merge_few` meets its contract. Assumes nothing.
 use borrow.Author.Needs.{needs}
-use Rattle.replies.proofs.merge_and_start.Statement.{statement}
-use Rattle.replies.proofs.merge_and_start.Tie as tie
+use Rattle.replies.proofs.merge_few.Statement.{statement}
+use Rattle.replies.proofs.merge_few.Tie as tie
 use mathlib.Core.Path.{refl}
-use Rattle.replies.proofs.Ways.{own-long}
+use Rattle.views.proofs.Aside.{aside-long}
 
 mul-end : tie.Need-mul-end
 mul-end c = search needs
@@ -21,7 +21,7 @@ part-scratch-end : tie.Need-part-scratch-end
 part-scratch-end c = search needs
 
 start-merged-requires : tie.Need-start-merged-requires
-start-merged-requires c κs = ((c .before .before .before .before .before .before .pre .0), (c .before .before .before .before .before .before .pre .1), (c .before .before .before .before .before .before .pre .2), own-long (c .before .before .before .before .before .before .args .shape .c) 98308 (c .before .before .before .before .before .before .pre .0 .fits .small) refl)
+start-merged-requires c κs = ((c .before .before .before .before .before .before .pre .0), (c .before .before .before .before .before .before .pre .1), (c .before .before .before .before .before .before .pre .2), aside-long (c .before .before .before .before .before .before .args .shape .c) 256 6148 (c .before .before .before .before .before .before .pre .3) refl)
 
 same-length : tie.Need-same-length
 same-length c = search needs
@@ -32,8 +32,8 @@ same-length-2 c = search needs
 returns : tie.Need-returns
 returns c = search needs
 
-pub merge-and-start-spec : {M : Type 1} → statement M
-merge-and-start-spec =
+pub merge-few-spec : {M : Type 1} → statement M
+merge-few-spec =
     tie.close
     (tie.spec
     mul-end
