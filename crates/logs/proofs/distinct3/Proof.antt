@@ -23,14 +23,14 @@ get32-requires-3 c κs = search needs
 cast-n : tie.Need-cast-n
 cast-n c = search needs
 
-add-result : tie.Need-add-result
-add-result c = search needs
+add-t11 : tie.Need-add-t11
+add-t11 c = search needs
 
-add-result-2 : tie.Need-add-result-2
-add-result-2 c = search needs
+add-t12 : tie.Need-add-t12
+add-t12 c = search needs
 
-add-result-3 : tie.Need-add-result-3
-add-result-3 c = search needs
+add-t13 : tie.Need-add-t13
+add-t13 c = search needs
 
 none-repeats-requires : tie.Need-none-repeats-requires
 none-repeats-requires c κs = search needs
@@ -48,8 +48,8 @@ distinct3-spec =
     cast-m
     get32-requires-3
     cast-n
-    add-result
-    add-result-2
-    add-result-3
+    add-t11
+    add-t12
+    add-t13
     none-repeats-requires
     returns)
