@@ -1,7 +1,9 @@
 -- The rule of each kind, and what its handler leaves. Assumes nothing.
 use Prim.Native.Nat.{ℕ}
 use mathlib.Core.Path.{_≡_, refl, sym, ap, _∙_}
+use mathlib.Core.Bool.{false}
 use mathlib.Core.List.{List}
+use lib.Dec.{eqb}
 use Rattle.rules.specs.Choice.{pick}
 use Rattle.rules.specs.Wire.{Wire, tagOf}
 use Rattle.rules.specs.Read.{wireIn}
@@ -11,6 +13,7 @@ use Rattle.rules.specs.Step.{Outcome, refused, handle, onTransaction, onNote, o
 use Rattle.rules.specs.Bytes.{Left, leaves, closes}
 use Rattle.rules.specs.declared.Shape.{Shape}
 use Rattle.rules.specs.declared.Message.{Message}
+use Rattle.rules.proofs.Choice.{pick-true, pick-false}
 use Rattle.handler.specs.Handler.{handled}
 use Rattle.handler.proofs.Closes.{closes-refused, handled-own}
 
@@ -72,6 +75,22 @@ by-kind k on h sh m b msg out x t e =
     ∙ handled-own k on sh m b msg out t
     ∙ ap (closes sh b out) (sym (h sh (stateOf sh b) (wireIn (sh .s) msg)))
     ∙ ap (λ (j : ℕ). closes sh b out (handle j sh (stateOf sh b) (wireIn (sh .s) msg))) (sym t)
+
+-- what the handler of kind 8 or 19 leaves, which are taken together
+abbrev Concluded : Shape → Message → List ℕ → List ℕ → List ℕ → Left
+Concluded sh m b msg out = pick (eqb (tagOf m) 19) (handled 19 onVerifyReply sh m b msg out) (handled 8 onVote sh m b msg out)
+
+pub by-vote : (sh : Shape) (m : Message) (b msg out : List ℕ) (x : Left) → tagOf m ≡ 8 → x ≡ Concluded sh m b msg out → x ≡ closes sh b out (handle (tagOf m) sh (stateOf sh b) (wireIn (sh .s) msg))
+by-vote sh m b msg out x t e = by-kind 8 onVote votes sh m b msg out x t (e ∙ pick-false (eqb (tagOf m) 19) _ _ (ap (λ (j : ℕ). eqb j 19) t))
+
+pub by-reply : (sh : Shape) (m : Message) (b msg out : List ℕ) (x : Left) → tagOf m ≡ 19 → x ≡ Concluded sh m b msg out → x ≡ closes sh b out (handle (tagOf m) sh (stateOf sh b) (wireIn (sh .s) msg))
+by-reply sh m b msg out x t e = by-kind 19 onVerifyReply replies sh m b msg out x t (e ∙ pick-true (eqb (tagOf m) 19) _ _ (ap (λ (j : ℕ). eqb j 19) t))
+
+pub other-vote : (sh : Shape) (m : Message) (b msg out : List ℕ) (x : Left) → eqb (tagOf m) 19 ≡ false → x ≡ handled 8 onVote sh m b msg out → x ≡ Concluded sh m b msg out
+other-vote sh m b msg out x f e = e ∙ sym (pick-false (eqb (tagOf m) 19) _ _ f)
+
+pub own-reply : (sh : Shape) (m : Message) (b msg out : List ℕ) (x : Left) → tagOf m ≡ 19 → x ≡ handled 19 onVerifyReply sh m b msg out → x ≡ Concluded sh m b msg out
+own-reply sh m b msg out x t e = e ∙ sym (pick-true (eqb (tagOf m) 19) _ _ (ap (λ (j : ℕ). eqb j 19) t))
 
 -- a case that no handler takes
 abbrev pub Unhandled : ℕ → Type 0

@@ -3,12 +3,27 @@ use rules::Answer;
 use rules::Message;
 use rules::Shape;
 ghost use mathlib.Core.Path.{_≡_};
+ghost use lib.Dec.{eqb};
+ghost use Rattle.rules.specs.Choice.{pick};
 ghost use Rattle.rules.specs.Wire.{tagOf};
 ghost use Rattle.rules.specs.Read.{wireIn};
 ghost use Rattle.rules.specs.Image.{stateOf};
 ghost use Rattle.rules.specs.Bytes.{left, closes};
 ghost use Rattle.rules.specs.Step as steps;
-ghost use Rattle.handler.specs.Handler.{Ready};
+ghost use Rattle.handler.specs.Handler.{Ready, handled};
+
+// Kinds 8 and 19 apart from the others, which so are not charged for the room of the table that these two conclude with.
+fn concluding(shape: Shape, state: &mut [u8], m: Message, message: &[u8], out: &mut [u8]) -> Answer
+    requires { ⌜ Ready shape (now state) m (now message) ⌝ }
+    ensures { λ r. ⌜
+        left r (now (state .exit)) (now (out .exit))
+        ≡ pick (eqb (tagOf m) 19) (handled 19 steps.onVerifyReply shape m (now (state .entry)) (now (message .entry)) (now (out .entry))) (handled 8 steps.onVote shape m (now (state .entry)) (now (message .entry)) (now (out .entry))) ⌝ }
+{
+    let Message::VerifyReply(_) = m else {
+        return votes::on_vote(shape, state, m, message, out);
+    };
+    replies::on_verify_reply(shape, state, m, message, out)
+}
 
 // The handler of the message's kind.
 pub fn handle(shape: Shape, state: &mut [u8], m: Message, message: &[u8], out: &mut [u8]) -> Answer
@@ -24,12 +39,12 @@ pub fn handle(shape: Shape, state: &mut [u8], m: Message, message: &[u8], out: &
         Message::Note(_) => arrivals::on_note(shape, state, m, message, out),
         Message::ReplicaSync(_) => syncs::on_replica_sync(shape, state, m, message, out),
         Message::ChangeView(_) => changes::on_change_view(shape, state, m, message, out),
-        Message::Vote(_, _, _) => votes::on_vote(shape, state, m, message, out),
+        Message::Vote(_, _, _) => concluding(shape, state, m, message, out),
         Message::StartView(_) => changes::on_start_view(shape, state, m, message, out),
         Message::SyncStatus(_, _) => commits::on_sync_status(shape, state, m, message, out),
         Message::Commit(_, _) => commits::on_commit(shape, state, m, message, out),
         Message::VerifyRequest(_, _) => verify::on_verify_request(shape, state, m, message, out),
-        Message::VerifyReply(_) => replies::on_verify_reply(shape, state, m, message, out),
+        Message::VerifyReply(_) => concluding(shape, state, m, message, out),
         Message::Tick(_, _) => ticks::on_tick(shape, state, m, message, out),
     }
 }

@@ -1,8 +1,8 @@
 -- `dispatch::handle` meets its contract: the handler of each kind. Assumes nothing.
 use mathlib.Core.Path.{ap}
 use Rattle.rules.specs.Wire.{tagOf}
-use Rattle.rules.specs.Step.{onTransaction, onNote, onReplicaSync, onChangeView, onVote, onStartView, onSyncStatus, onCommit, onVerifyRequest, onVerifyReply, onTick}
-use Rattle.dispatch.proofs.Handled.{transactions, notes, syncs, changes, votes, starts, statuses, commits, requests, replies, ticks, by-kind, no-message, fast-reply, slow-reply, by-none}
+use Rattle.rules.specs.Step.{onTransaction, onNote, onReplicaSync, onChangeView, onStartView, onSyncStatus, onCommit, onVerifyRequest, onTick}
+use Rattle.dispatch.proofs.Handled.{transactions, notes, syncs, changes, starts, statuses, commits, requests, ticks, by-kind, by-vote, by-reply, no-message, fast-reply, slow-reply, by-none}
 use borrow.Author.Needs.{needs}
 use Rattle.dispatch.proofs.handle.Statement.{statement}
 use Rattle.dispatch.proofs.handle.Tie as tie
@@ -46,8 +46,8 @@ on-change-view-requires c κs = search needs
 enum-told-9 : tie.Need-enum-told-9
 enum-told-9 c = search needs
 
-on-vote-requires : tie.Need-on-vote-requires
-on-vote-requires c κs = search needs
+concluding-requires : tie.Need-concluding-requires
+concluding-requires c κs = search needs
 
 enum-told-10 : tie.Need-enum-told-10
 enum-told-10 c = search needs
@@ -76,8 +76,8 @@ on-verify-request-requires c κs = search needs
 enum-told-14 : tie.Need-enum-told-14
 enum-told-14 c = search needs
 
-on-verify-reply-requires : tie.Need-on-verify-reply-requires
-on-verify-reply-requires c κs = search needs
+concluding-requires-2 : tie.Need-concluding-requires-2
+concluding-requires-2 c κs = search needs
 
 enum-told-15 : tie.Need-enum-told-15
 enum-told-15 c = search needs
@@ -140,7 +140,7 @@ same-length-10 : tie.Need-same-length-10
 same-length-10 c = search needs
 
 returns-9 : tie.Need-returns-9
-returns-9 c = by-kind 8 onVote votes _ _ _ _ _ _ (ap tagOf (c .before .before .before .before .before .before .before .enum-told9 .given .1)) (c .before .before .before .before .on-vote .ensures)
+returns-9 c = by-vote _ (c .before .before .before .before .before .before .before .before .before .before .before .before .args .m) _ (c .before .before .before .before .before .before .before .before .before .before .before .before .args .message .now) _ _ (ap tagOf (c .before .before .before .before .before .before .before .enum-told9 .given .1)) (c .before .before .before .before .concluding .ensures)
 
 same-length-11 : tie.Need-same-length-11
 same-length-11 c = search needs
@@ -185,7 +185,7 @@ same-length-20 : tie.Need-same-length-20
 same-length-20 c = search needs
 
 returns-14 : tie.Need-returns-14
-returns-14 c = by-kind 19 onVerifyReply replies _ _ _ _ _ _ (ap tagOf (c .before .before .before .before .before .before .before .enum-told14 .given .1)) (c .before .before .before .before .on-verify-reply .ensures)
+returns-14 c = by-reply _ (c .before .before .before .before .before .before .before .before .before .before .before .before .args .m) _ (c .before .before .before .before .before .before .before .before .before .before .before .before .args .message .now) _ _ (ap tagOf (c .before .before .before .before .before .before .before .enum-told14 .given .1)) (c .before .before .before .before .concluding2 .ensures)
 
 same-length-21 : tie.Need-same-length-21
 same-length-21 c = search needs
@@ -213,7 +213,7 @@ handle-spec =
     enum-told-8
     on-change-view-requires
     enum-told-9
-    on-vote-requires
+    concluding-requires
     enum-told-10
     on-start-view-requires
     enum-told-11
@@ -223,7 +223,7 @@ handle-spec =
     enum-told-13
     on-verify-request-requires
     enum-told-14
-    on-verify-reply-requires
+    concluding-requires-2
     enum-told-15
     on-tick-requires
     returns
