@@ -20,7 +20,7 @@ use Rattle.entries.specs.Table.{Holds, Table}
 use Rattle.entries.proofs.Table.{decoded}
 use Rattle.entries.proofs.Sorting.{length-placed}
 use Rattle.entries.proofs.Sifting.{keep-last}
-use Rattle.rebuild.specs.Ballots.{voteOf, countsAt}
+use Rattle.ballots.specs.Ballots.{voteOf, countsAt}
 use Rattle.rebuild.specs.Rebuild.{isNew, newFrom, Adds}
 
 pub placed-append : (ds xs ys : List Entry) → placeAll ds (xs ++ ys) ≡ placeAll (placeAll ds xs) ys

@@ -23,9 +23,9 @@ use Rattle.rules.proofs.Order.{txn-as, key-txn, key-stamp, key-made}
 use Rattle.rules.proofs.Logs.{good-parts, one-place}
 use Rattle.entries.specs.First.{findRow}
 use Rattle.entries.proofs.First.{among-row, found-row}
-use Rattle.rebuild.specs.Ballots.{voteOf, countsAt, Lists}
+use Rattle.ballots.specs.Ballots.{voteOf, countsAt, Lists}
 use Rattle.rebuild.specs.Rebuild.{lower, holdsAt}
-use Rattle.rebuild.proofs.Counting.{lower-next}
+use Rattle.ballots.proofs.Counting.{lower-next}
 
 module _ (c : ℕ) (es : List Entry) (t : List ℕ) (k : Lists c es t) where
   pub listed-at : (i : ℕ) → i < length es → entryAt t (4 + 24 * i) ≡ entryOf es i

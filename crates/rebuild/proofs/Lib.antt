@@ -1,8 +1,4 @@
--- Laws of the votes, and of the rebuild from them.
-pub mod Votes
-pub mod Counting
-pub mod Listed
-pub mod Sound
+-- Laws of the rebuild from votes.
 pub mod Holders
 pub mod Tables
 pub mod New

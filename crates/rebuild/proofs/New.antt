@@ -24,13 +24,13 @@ use Rattle.repeats.specs.Repeat.{firstTo}
 use Rattle.repeats.proofs.Laws.{First, first-to, first-is}
 use Rattle.entries.specs.First.{findRow}
 use Rattle.entries.proofs.First.{read-among}
-use Rattle.rebuild.specs.Ballots.{votesIn, voteOf, Given, Lists}
+use Rattle.ballots.specs.Ballots.{votesIn, voteOf, Given, Lists}
 use Rattle.rebuild.specs.Rebuild.{Based, lower, isNew}
 use Rattle.rebuild.specs.declared.Basis.{Basis}
-use Rattle.rebuild.specs.declared.Cast.{Cast}
-use Rattle.rebuild.proofs.Votes.{votes-long}
-use Rattle.rebuild.proofs.Counting.{lower-all}
-use Rattle.rebuild.proofs.Sound.{vote-synced}
+use Rattle.ballots.specs.declared.Cast.{Cast}
+use Rattle.ballots.proofs.Votes.{votes-long}
+use Rattle.ballots.proofs.Counting.{lower-all}
+use Rattle.ballots.proofs.Sound.{vote-synced}
 use Rattle.rebuild.proofs.Holders.{listed-take}
 
 -- ---- the prefix

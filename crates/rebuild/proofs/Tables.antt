@@ -27,7 +27,7 @@ use Rattle.repeats.proofs.Places.{spot-first}
 use Rattle.repeats.proofs.Table.{ends-free}
 use Rattle.entries.specs.First.{isOf, findRow}
 use Rattle.entries.proofs.Keys.{Keyed, keyed-at, key-is}
-use Rattle.rebuild.specs.Ballots.{voteOf, Lists}
+use Rattle.ballots.specs.Ballots.{voteOf, Lists}
 use Rattle.rebuild.specs.Tables.{keyFor, spotsOf, slotsOf, Indexed, Looks}
 use Rattle.rebuild.specs.declared.Index.{Index}
 use Rattle.rebuild.proofs.Holders.{listed-at}

@@ -27,14 +27,14 @@ use Rattle.rules.proofs.Rebuilt.{counting-rising, prefix-good}
 use Rattle.entries.specs.Table.{Holds}
 use Rattle.entries.proofs.Table.{decoded, empty}
 use Rattle.entries.proofs.Sorting.{length-placed}
-use Rattle.rebuild.specs.Ballots.{votesIn, voteOf, countsAt, Given, Lists}
-use Rattle.rebuild.specs.Rebuild.{BestTo, Based, Climbs, lower, isNew, newFrom, Adds, Gives}
-use Rattle.rebuild.specs.declared.Best.{Best}
+use Rattle.ballots.specs.Ballots.{votesIn, voteOf, countsAt, Given, Lists, BestTo}
+use Rattle.rebuild.specs.Rebuild.{Based, Climbs, lower, isNew, newFrom, Adds, Gives}
+use Rattle.ballots.specs.declared.Best.{Best}
 use Rattle.rebuild.specs.declared.Basis.{Basis}
-use Rattle.rebuild.specs.declared.Cast.{Cast}
+use Rattle.ballots.specs.declared.Cast.{Cast}
 use Rattle.rebuild.specs.declared.Rebuilt.the-variants.{TooLong, Log}
-use Rattle.rebuild.proofs.Counting.{lower-next, lower-all}
-use Rattle.rebuild.proofs.Sound.{vote-synced}
+use Rattle.ballots.proofs.Counting.{lower-next, lower-all}
+use Rattle.ballots.proofs.Sound.{vote-synced}
 use Rattle.rebuild.proofs.Holders.{listed-take}
 use Rattle.rebuild.proofs.New.{prefix-by, none-past, none-taken}
 use Rattle.rebuild.proofs.Added.{placed-append}

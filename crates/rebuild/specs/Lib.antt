@@ -1,4 +1,3 @@
--- The votes that a step of kind 8 counts, and what the rebuild from them is given and gives.
-pub mod Ballots
+-- What the rebuild from votes is given and gives.
 pub mod Tables
 pub mod Rebuild

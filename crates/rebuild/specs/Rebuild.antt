@@ -1,8 +1,8 @@
--- What the parts of the rebuild give: the best vote, the prefix, what is added.
+-- What the parts of the rebuild give: the prefix, what is added.
 use Prim.Native.Nat.{ℕ, _+_, _≤_, _<_}
 use mathlib.Core.Path.{_≡_}
 use mathlib.Core.Bool.{Bool, true, false, _&&_}
-use mathlib.Core.Option.{Option, none, some}
+use mathlib.Core.Option.{Option, none}
 use mathlib.Core.List.{List, []}
 use lib.ListN.{length, take, getD}
 use lib.Dec.{eqb}
@@ -13,19 +13,10 @@ use Rattle.rules.specs.Rebuild.{topFrom, withNormal, best, boundaryIn, holders,
 use Rattle.rules.specs.declared.Entry.{Entry}
 use Rattle.rules.proofs.Choice.{Pairs}
 use Rattle.entries.specs.Table.{Holds}
-use Rattle.rebuild.specs.Ballots.{voteOf, countsAt}
-use Rattle.rebuild.specs.declared.Best.{Best}
+use Rattle.ballots.specs.Ballots.{voteOf, countsAt}
 use Rattle.rebuild.specs.declared.Basis.{Basis}
 use Rattle.rebuild.specs.declared.Rebuilt.{Rebuilt}
 use Rattle.rebuild.specs.declared.Rebuilt.the-variants.{TooLong, Log}
-
--- of the first r replicas, the best counted vote: its replica, n where no sync point is above 0
-pub record BestTo (n : ℕ) (vs : List (Option Vote)) (top r : ℕ) (b : Best) : Type 0 where
-  pub is : best (withNormal top (take r vs)) ≡ voteOf (getD vs (b .replica) none)
-  pub sync : b .sync ≡ voteOf (getD vs (b .replica) none) .sync
-  pub within : b .replica ≤ n
-  pub held : b .replica < n → isSome (getD vs (b .replica) none) ≡ true
-  pub some : b .replica < n → 0 < b .sync
 
 -- what the rebuild starts from is right
 pub record Based (n : ℕ) (vs : List (Option Vote)) (b : Basis) : Type 0 where

@@ -12,7 +12,7 @@ use Rattle.rules.specs.declared.Entry.{Entry}
 use Rattle.repeats.specs.Rows.{countOf, keyOf}
 use Rattle.repeats.specs.Table.{Filled}
 use Rattle.repeats.specs.declared.Spots.{Spots}
-use Rattle.rebuild.specs.Ballots.{voteOf}
+use Rattle.ballots.specs.Ballots.{voteOf}
 use Rattle.rebuild.specs.declared.Index.{Index}
 
 -- the transaction of an entry, as one number

@@ -1,47 +1,26 @@
 // The rebuild of a log from the votes of a view change, into a table that the caller lends: no byte of the state changes.
+use ballots::Cast;
 use repeats::Spots;
 use rules::Entry;
 use rules::GroupSize;
 use rules::Shape;
 ghost use mathlib.Core.Path.{_≡_};
-ghost use mathlib.Core.Bool.{true, _&&_, not};
+ghost use mathlib.Core.Bool.{true, not};
 ghost use mathlib.Core.Option.{none};
-ghost use mathlib.Core.List.{List, [], _∷_};
-ghost use Prim.Native.Nat.{ℕ, _+_, _*_, _≤_, _<_};
-ghost use lib.Dec.{eqb, ltb};
+ghost use mathlib.Core.List.{[], _∷_};
+ghost use Prim.Native.Nat.{_+_, _*_, _≤_, _<_};
+ghost use lib.Dec.{eqb};
 ghost use lib.ListN.{length, getD};
 ghost use Rattle.rules.specs.Choice.{pick, any, isSome};
 ghost use Rattle.rules.specs.Entry.{sameKey, among};
 ghost use Rattle.rules.specs.Read.{entryAt};
 ghost use Rattle.rules.specs.Image.{tableAt};
-ghost use Rattle.rules.specs.Rebuild.{topFrom, withNormal, prefix, holders};
+ghost use Rattle.rules.specs.Rebuild.{withNormal, prefix, holders};
 ghost use Rattle.entries.specs.First.{findRow};
 ghost use Rattle.entries.specs.Table.{Holds, Table};
-ghost use Rattle.rebuild.specs.Ballots.{votesIn, voteOf, countsAt, Sent, Given, Tells, Lists};
+ghost use Rattle.ballots.specs.Ballots.{votesIn, voteOf, Given};
 ghost use Rattle.rebuild.specs.Tables.{spotsOf, Looks, Indexed};
-ghost use Rattle.rebuild.specs.Rebuild.{BestTo, Based, Climbs, Adds, Gives, lower, holdsAt, isNew, newFrom};
-
-// The vote that a message brings: its sender, last normal gView and sync point, where the count of its entries stands, and whether it enters a greater view.
-pub struct Cast {
-    pub sender: u64,
-    pub normal: u64,
-    pub sync: u64,
-    pub at: usize,
-    pub entering: bool,
-}
-
-// Of a replica's vote: whether there is one, and its last normal gView and sync point.
-struct Ballot {
-    held: bool,
-    normal: u64,
-    sync: u64,
-}
-
-// A replica whose vote has the largest sync point so far.
-struct Best {
-    replica: u64,
-    sync: u64,
-}
+ghost use Rattle.rebuild.specs.Rebuild.{Based, Climbs, Adds, Gives, lower, holdsAt, isNew, newFrom};
 
 // What the rebuild starts from: the greatest last normal gView, the replica whose vote gives the prefix, the prefix's length, the boundary.
 struct Basis {
@@ -61,122 +40,6 @@ struct Index {
 pub enum Rebuilt {
     TooLong,
     Log(u64),
-}
-
-// ---- one vote
-
-// What the vote of replica r says: the sender's stands in the message, and where the step enters a greater view only the own one is kept beside it.
-fn ballot_of(shape: Shape, state: &[u8], cast: Cast, r: u64) -> Ballot
-    requires { ⌜ Sent shape (now state) cast × (r < shape .n) ⌝ }
-    ensures { λ t. ⌜ ((msg : List ℕ) → Tells (getD (votesIn shape (now (state .entry)) msg cast) r none) t) ⌝ }
-{
-    if r == cast.sender {
-        return Ballot {
-            held: true,
-            normal: cast.normal,
-            sync: cast.sync,
-        };
-    }
-    if cast.entering {
-        return Ballot {
-            held: r == places::get_replica(state),
-            normal: places::get_normal(state) as u64,
-            sync: places::get_sync(state),
-        };
-    }
-    Ballot {
-        held: places::vote_flag(shape, state, r),
-        normal: places::vote_normal(shape, state, r) as u64,
-        sync: places::vote_sync(shape, state, r),
-    }
-}
-
-// Whether the vote of replica r counts: there is one, with the greatest last normal gView.
-fn counted(shape: Shape, state: &[u8], cast: Cast, top: u64, r: u64) -> bool
-    requires { ⌜ Sent shape (now state) cast × (r < shape .n) ⌝ }
-    ensures { λ t. ⌜ ((msg : List ℕ) → t ≡ countsAt top (getD (votesIn shape (now (state .entry)) msg cast) r none)) ⌝ }
-{
-    let ballot = ballot_of(shape, state, cast, r);
-    ballot.held & (ballot.normal == top)
-}
-
-// ---- the votes that count
-
-// The greater of a last normal gView and that of one vote more.
-fn raised(top: u64, ballot: Ballot) -> u64
-    ensures { λ t. ⌜ t ≡ pick (ballot .held && ltb top (ballot .normal)) (ballot .normal) top ⌝ }
-{
-    if ballot.held & (top < ballot.normal) {
-        return ballot.normal;
-    }
-    top
-}
-
-// The greatest last normal gView.
-fn top_normal(shape: Shape, state: &[u8], cast: Cast) -> u64
-    requires { ⌜ Sent shape (now state) cast ⌝ }
-    ensures { λ t. ⌜ ((msg : List ℕ) → t ≡ topFrom 0 (votesIn shape (now (state .entry)) msg cast)) ⌝ }
-{
-    let mut top = 0;
-    let mut r = 0;
-    while r < shape.n {
-        top = raised(top, ballot_of(shape, state, cast, r));
-        r += 1;
-    }
-    top
-}
-
-// The better of the best vote so far and that of replica r, which has to count and to have a larger sync point: so the lowest replica wins a tie.
-fn better(top: u64, best: Best, r: u64, ballot: Ballot) -> Best
-    ensures { λ b. ⌜ b ≡ pick (ballot .held && (eqb (ballot .normal) top && ltb (best .sync) (ballot .sync))) (record { replica = r; sync = ballot .sync }) best ⌝ }
-{
-    if ballot.held & ((ballot.normal == top) & (best.sync < ballot.sync)) {
-        return Best {
-            replica: r,
-            sync: ballot.sync,
-        };
-    }
-    best
-}
-
-// The vote that gives the prefix; n where no sync point is above 0.
-fn best_vote(shape: Shape, state: &[u8], cast: Cast, top: u64) -> Best
-    requires { ⌜ Sent shape (now state) cast ⌝ }
-    ensures { λ b. ⌜ ((msg : List ℕ) → BestTo (shape .n) (votesIn shape (now (state .entry)) msg cast) top (shape .n) b) ⌝ }
-{
-    let mut best = Best {
-        replica: shape.n,
-        sync: 0,
-    };
-    let mut r = 0;
-    while r < shape.n {
-        best = better(top, best, r, ballot_of(shape, state, cast, r));
-        r += 1;
-    }
-    best
-}
-
-// ---- the logs of the votes
-
-// The log of replica r's vote, where it stands: a count, and entries behind it.
-fn log_of<'a>(shape: Shape, state: &'a [u8], message: &'a [u8], cast: Cast, r: u64) -> &'a [u8]
-    requires { ⌜ Given shape (now state) (now message) cast × (r < shape .n) × (isSome (getD (votesIn shape (now state) (now message) cast) r none) ≡ true) ⌝ }
-    ensures { λ t. ⌜ Lists (shape .c) (voteOf (getD (votesIn shape (now (state .entry)) (now (message .entry)) cast) r none) .log) (now t) ⌝ }
-{
-    if r == cast.sender {
-        let at = cast.at;
-        let end = message.len();
-        return &message[at..end];
-    }
-    let places = places::places_of(shape);
-    if cast.entering {
-        let at = places.log;
-        let end = at + places.table;
-        return &state[at..end];
-    }
-    let at = places::vote_place(shape, r) + 13;
-    let end = at + places.table;
-    &state[at..end]
 }
 
 // ---- the rows of the logs by transaction
@@ -218,10 +81,10 @@ fn index_vote<'a>(
     requires { ⌜ Given shape (now state) (now message) cast × (r < shape .n) × Indexed (votesIn shape (now state) (now message) cast) index (now rows) ⌝ }
     ensures { λ x. ⌜ Indexed (votesIn shape (now (state .entry)) (now (message .entry)) cast) x (now (rows .exit)) ⌝ }
 {
-    if !counted(shape, state, cast, top, r) {
+    if !ballots::counted(shape, state, cast, top, r) {
         return index;
     }
-    let log = log_of(shape, state, message, cast, r);
+    let log = ballots::log_of(shape, state, message, cast, r);
     let spots = spots_of(entries::count(log));
     let at = start_of(index.size, r);
     let end = at + index.size;
@@ -287,7 +150,7 @@ fn log_holds<'a>(
     requires { ⌜ Given shape (now state) (now message) cast × (r < shape .n) × (isSome (getD (votesIn shape (now state) (now message) cast) r none) ≡ true) × Indexed (votesIn shape (now state) (now message) cast) index (now rows) ⌝ }
     ensures { λ t. ⌜ t ≡ any (sameKey e) (voteOf (getD (votesIn shape (now (state .entry)) (now (message .entry)) cast) r none) .log) ⌝ }
 {
-    let log = log_of(shape, state, message, cast, r);
+    let log = ballots::log_of(shape, state, message, cast, r);
     let count = entries::count(log);
     let i = find_row(log, count, index, rows, r, e);
     if count <= i {
@@ -312,7 +175,7 @@ fn holds_at<'a>(
     requires { ⌜ Given shape (now state) (now message) cast × (r < shape .n) × Indexed (votesIn shape (now state) (now message) cast) index (now rows) ⌝ }
     ensures { λ t. ⌜ t ≡ holdsAt top e (getD (votesIn shape (now (state .entry)) (now (message .entry)) cast) r none) ⌝ }
 {
-    if !counted(shape, state, cast, top, r) {
+    if !ballots::counted(shape, state, cast, top, r) {
         return false;
     }
     log_holds(shape, state, message, cast, index, rows, r, e)
@@ -388,7 +251,7 @@ fn in_prefix<'a>(
     if shape.n <= basis.replica {
         return false;
     }
-    let log = log_of(shape, state, message, cast, basis.replica);
+    let log = ballots::log_of(shape, state, message, cast, basis.replica);
     let count = entries::count(log);
     find_row(log, count, index, rows, basis.replica, e) < basis.length
 }
@@ -463,10 +326,10 @@ fn add_from<'a>(
     requires { ⌜ Given shape (now state) (now message) cast × Based (shape .n) (votesIn shape (now state) (now message) cast) basis × Indexed (votesIn shape (now state) (now message) cast) index (now rows) × (r < shape .n) × Table (shape .c) (now table) × Climbs (basis .boundary) (tableAt (shape .c) (now table) 0) ⌝ }
     ensures { λ t. ⌜ Adds (shape .c) (tableAt (shape .c) (now (table .entry)) 0) (newFrom (shape .n) (basis .top) (votesIn shape (now (state .entry)) (now (message .entry)) cast) r) (now (table .exit)) t ⌝ }
 {
-    if !counted(shape, state, cast, basis.top, r) {
+    if !ballots::counted(shape, state, cast, basis.top, r) {
         return true;
     }
-    let log = log_of(shape, state, message, cast, r);
+    let log = ballots::log_of(shape, state, message, cast, r);
     let count = entries::count(log);
     let mut i = 0;
     while i < count {
@@ -492,8 +355,8 @@ fn take_prefix<'a>(
     requires { ⌜ Given shape (now state) (now message) cast × (length (now table) ≡ 4 + 24 * shape .c) ⌝ }
     ensures { λ b. ⌜ Based (shape .n) (votesIn shape (now (state .entry)) (now (message .entry)) cast) b × Holds (shape .c) (prefix (withNormal (b .top) (votesIn shape (now (state .entry)) (now (message .entry)) cast))) (now (table .exit)) ⌝ }
 {
-    let top = top_normal(shape, state, cast);
-    let best = best_vote(shape, state, cast, top);
+    let top = ballots::top_normal(shape, state, cast);
+    let best = ballots::best_vote(shape, state, cast, top);
     let c = shape.c as usize;
     if shape.n <= best.replica {
         entries::clear(table, c);
@@ -504,7 +367,7 @@ fn take_prefix<'a>(
             boundary: 0,
         };
     }
-    let log = log_of(shape, state, message, cast, best.replica);
+    let log = ballots::log_of(shape, state, message, cast, best.replica);
     let length = best.sync as usize;
     entries::take_over(table, c, log, 4, length);
     let last = entries::entry_at(log, 4 + 24 * (length - 1));

@@ -28,8 +28,8 @@ use Rattle.handler.proofs.Closes.{closes-sent, closes-tight}
 use Rattle.handler.proofs.Rows.{sends-length}
 use Rattle.handler.proofs.Sends.{Sender, sender, sent-length}
 use Rattle.handler.proofs.Leaders.{all-others, others-are, verifies-sent}
-use Rattle.rebuild.specs.Ballots.{votesIn}
-use Rattle.rebuild.specs.declared.Cast.{Cast}
+use Rattle.ballots.specs.Ballots.{votesIn}
+use Rattle.ballots.specs.declared.Cast.{Cast}
 use Rattle.votes.specs.Votes.{Brought, cameTo, keptIn, draftedIn, asksAll}
 use Rattle.votes.proofs.Came.{Comes, comes, drafted}
 

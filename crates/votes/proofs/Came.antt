@@ -33,9 +33,9 @@ use Rattle.views.proofs.Taken.{laid-as}
 use Rattle.changes.specs.Changes.{enteredBy}
 use Rattle.changes.proofs.Entered.{entered-laid, entered-sender}
 use Rattle.changes.proofs.Started.{table-row}
-use Rattle.rebuild.specs.Ballots.{sentLog, votesIn}
-use Rattle.rebuild.specs.declared.Cast.{Cast}
-use Rattle.rebuild.proofs.Votes.{ballots-kept, ballots-entering}
+use Rattle.ballots.specs.Ballots.{sentLog, votesIn}
+use Rattle.ballots.specs.declared.Cast.{Cast}
+use Rattle.ballots.proofs.Votes.{ballots-kept, ballots-entering}
 use Rattle.votes.specs.Votes.{Brought, cameTo, keptIn, draftedIn}
 
 -- the vote that the message brings

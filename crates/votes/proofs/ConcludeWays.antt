@@ -21,9 +21,9 @@ use Rattle.entries.proofs.Table.{decoded, is-table}
 use Rattle.handler.proofs.Closes.{closes-refused}
 use Rattle.views.specs.Views.{viewsOf}
 use Rattle.changes.specs.Changes.{ledBy}
-use Rattle.rebuild.specs.Ballots.{votesIn}
+use Rattle.ballots.specs.Ballots.{votesIn}
 use Rattle.rebuild.specs.Rebuild.{Gives}
-use Rattle.rebuild.specs.declared.Cast.{Cast}
+use Rattle.ballots.specs.declared.Cast.{Cast}
 use Rattle.rebuild.specs.declared.Rebuilt.{Rebuilt}
 use Rattle.rebuild.specs.declared.Rebuilt.the-variants.{TooLong, Log}
 use Rattle.votes.specs.Votes.{Brought, cameTo, asksAll, concludes}

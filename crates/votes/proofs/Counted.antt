@@ -17,8 +17,8 @@ use Rattle.rules.proofs.Choice.{by-test, by-cases, pick-true, pick-false}
 use Rattle.rules.proofs.KeptLaws.{count-same, count-none}
 use Rattle.places.specs.Layout.{startOf}
 use Rattle.places.proofs.Kept.{vote-at, votes-held}
-use Rattle.rebuild.specs.Ballots.{Sent}
-use Rattle.rebuild.specs.declared.Cast.{Cast}
+use Rattle.ballots.specs.Ballots.{Sent}
+use Rattle.ballots.specs.declared.Cast.{Cast}
 use Rattle.votes.specs.Votes.{isSecond, countWith}
 
 -- no more pass than are tested

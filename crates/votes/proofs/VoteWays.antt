@@ -39,8 +39,8 @@ use Rattle.views.specs.Views.{viewsOf}
 use Rattle.changes.specs.Changes.{leadsWith}
 use Rattle.changes.proofs.Entered.{entered-is}
 use Rattle.changes.proofs.Said.{view-said, views-said, views-stand}
-use Rattle.rebuild.specs.Ballots.{sentLog, votesIn, Sent}
-use Rattle.rebuild.specs.declared.Cast.{Cast}
+use Rattle.ballots.specs.Ballots.{sentLog, votesIn, Sent}
+use Rattle.ballots.specs.declared.Cast.{Cast}
 use Rattle.votes.specs.Votes.{Brought, isSecond, countWith, cameTo, keptIn, concludes}
 use Rattle.votes.proofs.Counted.{held-more, held-none}
 use Rattle.votes.proofs.Came.{said, Comes, comes}

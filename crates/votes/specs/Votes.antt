@@ -18,8 +18,8 @@ use Rattle.places.specs.Layout.{startOf}
 use Rattle.places.specs.With.{withVotes}
 use Rattle.views.specs.Views.{viewsOf}
 use Rattle.changes.specs.Changes.{enteredBy}
-use Rattle.rebuild.specs.Ballots.{votesIn, Given}
-use Rattle.rebuild.specs.declared.Cast.{Cast}
+use Rattle.ballots.specs.Ballots.{votesIn, Given}
+use Rattle.ballots.specs.declared.Cast.{Cast}
 
 -- a vote that may be kept; where its view is not a greater one, it is the own one
 pub record Brought (sh : Shape) (b msg : List ℕ) (view : ℕ) (k : Cast) : Type 0 where

@@ -1,5 +1,5 @@
 // The handler of votes (kind 8): each is kept, and with F+1 of them the log is rebuilt.
-use rebuild::Cast;
+use ballots::Cast;
 use rebuild::Rebuilt;
 use rules::Answer;
 use rules::GroupSize;
@@ -18,7 +18,7 @@ ghost use Rattle.entries.specs.Table.{Table};
 ghost use Rattle.places.specs.Layout.{Sized, Laid, Stands};
 ghost use Rattle.handler.specs.Handler.{Ready, handled};
 ghost use Rattle.handler.specs.Sending.{othersIn, leaderBytes};
-ghost use Rattle.rebuild.specs.Ballots.{votesIn, Sent};
+ghost use Rattle.ballots.specs.Ballots.{votesIn, Sent};
 ghost use Rattle.votes.specs.Votes.{Brought, isSecond, countWith, cameTo, keptIn, draftedIn, asksAll, concludes};
 
 // ---- the tests

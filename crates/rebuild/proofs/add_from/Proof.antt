@@ -12,7 +12,7 @@ use Rattle.rules.specs.Entry.{placeAll}
 use Rattle.rules.specs.Image.{tableAt}
 use Rattle.entries.specs.Table.{Holds}
 use Rattle.entries.proofs.Table.{is-table}
-use Rattle.rebuild.specs.Ballots.{votesIn, voteOf}
+use Rattle.ballots.specs.Ballots.{votesIn, voteOf}
 use Rattle.rebuild.specs.Rebuild.{isNew}
 use Rattle.rebuild.proofs.Holders.{counts-some, listed-at}
 use Rattle.rebuild.proofs.Climbing.{climbs-on}

@@ -5,9 +5,9 @@ use Prim.Native.Nat.{ℕ, _<_, _≤_, _-_}
 use mathlib.Core.Path.{_≡_, refl}
 use native.Mathlib.Omega.{arith}
 use Rattle.rules.specs.Rebuild.{holders}
-use Rattle.rebuild.specs.Ballots.{votesIn}
+use Rattle.ballots.specs.Ballots.{votesIn}
 use Rattle.rebuild.specs.Rebuild.{lower}
-use Rattle.rebuild.proofs.Votes.{votes-long}
+use Rattle.ballots.proofs.Votes.{votes-long}
 use Rattle.rebuild.proofs.Holders.{holders-start, holders-same, held-here, held-nowhere}
 
 lt-le : (a b c : ℕ) → a < b → b ≤ c → a < c

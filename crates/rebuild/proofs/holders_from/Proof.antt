@@ -6,9 +6,9 @@ use mathlib.Core.Path.{_≡_}
 use mathlib.Core.Logic.{⊎-elim}
 use native.Mathlib.Omega.{arith}
 use Rattle.rules.specs.Rebuild.{holders}
-use Rattle.rebuild.specs.Ballots.{votesIn}
+use Rattle.ballots.specs.Ballots.{votesIn}
 use Rattle.rebuild.specs.Rebuild.{lower}
-use Rattle.rebuild.proofs.Votes.{votes-long}
+use Rattle.ballots.proofs.Votes.{votes-long}
 use Rattle.rebuild.proofs.Holders.{holders-more, holders-same, holders-end}
 
 abbrev Inv-loop : tie.InvT-loop

@@ -4,7 +4,7 @@ use Rattle.rebuild.proofs.holds_at.Statement.{statement}
 use Rattle.rebuild.proofs.holds_at.Tie as tie
 use mathlib.Core.Option.{none}
 use lib.ListN.{getD}
-use Rattle.rebuild.specs.Ballots.{votesIn}
+use Rattle.ballots.specs.Ballots.{votesIn}
 use borrow.Author.Tests.{not-true, not-false}
 use Rattle.rebuild.proofs.Holders.{not-held, so-held, counts-some}
 

@@ -6,7 +6,7 @@ use native.Mathlib.Omega.{arith}
 use borrow.Author.Tests.{not-false}
 use mathlib.Core.Option.{none}
 use lib.ListN.{getD}
-use Rattle.rebuild.specs.Ballots.{votesIn}
+use Rattle.ballots.specs.Ballots.{votesIn}
 use Prim.Native.Nat.{ℕ, _<_, _≤_}
 use Rattle.rebuild.proofs.Holders.{counts-some}
 use Rattle.rebuild.proofs.Tables.{list-inside, index-filled}

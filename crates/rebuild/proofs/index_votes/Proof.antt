@@ -5,7 +5,7 @@ use native.Mathlib.Omega.{arith}
 use mathlib.Core.Path.{_≡_}
 use Prim.Native.Nat.{_≤_, _-_}
 use lib.ListN.{length}
-use Rattle.rebuild.specs.Ballots.{votesIn}
+use Rattle.ballots.specs.Ballots.{votesIn}
 use Rattle.rebuild.specs.Tables.{Indexed}
 use Rattle.rebuild.proofs.Tables.{index-start}
 

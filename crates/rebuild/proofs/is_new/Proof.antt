@@ -2,7 +2,7 @@
 use borrow.Author.Needs.{needs}
 use Rattle.rebuild.proofs.is_new.Statement.{statement}
 use Rattle.rebuild.proofs.is_new.Tie as tie
-use Rattle.rebuild.proofs.Votes.{votes-long}
+use Rattle.ballots.proofs.Votes.{votes-long}
 use Rattle.rebuild.proofs.New.{new-late, new-lower, new-few, new-held}
 
 returns : tie.Need-returns

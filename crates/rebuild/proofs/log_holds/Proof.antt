@@ -3,7 +3,7 @@ use borrow.Author.Needs.{needs}
 use Rattle.rebuild.proofs.log_holds.Statement.{statement}
 use Rattle.rebuild.proofs.log_holds.Tie as tie
 use native.Mathlib.Omega.{arith}
-use Rattle.rebuild.proofs.Sound.{vote-good}
+use Rattle.ballots.proofs.Sound.{vote-good}
 use Rattle.rebuild.proofs.Holders.{key-missing, key-found}
 use Rattle.rebuild.proofs.Tables.{looks-in}
 

@@ -7,9 +7,9 @@ use Rattle.rules.specs.Entry.{placeAll}
 use Rattle.rules.specs.Rebuild.{withNormal, prefix}
 use Rattle.entries.specs.Table.{Holds}
 use Rattle.entries.proofs.Table.{is-table}
-use Rattle.rebuild.specs.Ballots.{votesIn}
-use Rattle.rebuild.proofs.Votes.{votes-long}
-use Rattle.rebuild.proofs.Sound.{lower-good}
+use Rattle.ballots.specs.Ballots.{votesIn}
+use Rattle.ballots.proofs.Votes.{votes-long}
+use Rattle.ballots.proofs.Sound.{lower-good}
 use Rattle.rebuild.proofs.Climbing.{climbs-on}
 use Rattle.rebuild.proofs.Whole.{addedBelow, front-climbs, whole-start, whole-turn, whole-stop, whole-end}
 

@@ -4,7 +4,7 @@ use Rattle.rebuild.proofs.take_prefix.Statement.{statement}
 use Rattle.rebuild.proofs.take_prefix.Tie as tie
 use mathlib.Core.Path.{refl, _∙_}
 use native.Mathlib.Omega.{arith}
-use Rattle.rebuild.proofs.Votes.{votes-long}
+use Rattle.ballots.proofs.Votes.{votes-long}
 use Rattle.rebuild.proofs.Holders.{listed-at}
 use Rattle.rebuild.proofs.Whole.{takes-none, takes-some, based-none, based-some, cut}
 

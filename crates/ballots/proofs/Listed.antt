@@ -22,9 +22,9 @@ use Rattle.entries.proofs.Table.{decoded}
 use Rattle.places.specs.Layout.{startOf, PlaceAt}
 use Rattle.places.proofs.Sections.{stands-fits, stands-laid}
 use Rattle.places.proofs.Lent.{log-lent, vote-lent}
-use Rattle.rebuild.specs.Ballots.{sentLog, votesIn, voteOf, Given, Lists}
-use Rattle.rebuild.specs.declared.Cast.{Cast}
-use Rattle.rebuild.proofs.Votes.{is-some, at-sender, at-own, at-kept}
+use Rattle.ballots.specs.Ballots.{sentLog, votesIn, voteOf, Given, Lists}
+use Rattle.ballots.specs.declared.Cast.{Cast}
+use Rattle.ballots.proofs.Votes.{is-some, at-sender, at-own, at-kept}
 
 -- a table lists what it holds
 pub lists-table : {c : ℕ} {es : List Entry} {t : List ℕ} → Holds c es t → Lists c es t

@@ -15,10 +15,9 @@ use Rattle.rules.specs.State.{Vote}
 use Rattle.rules.specs.Rebuild.{topFrom, withNormal, bestFrom, best}
 use Rattle.rules.proofs.Choice.{by-test, by-cases, pick-true, pick-false}
 use Rattle.rules.proofs.Rebuilt.{counting-rising}
-use Rattle.rebuild.specs.Ballots.{voteOf, countsAt, Tells}
-use Rattle.rebuild.specs.Rebuild.{BestTo}
-use Rattle.rebuild.specs.declared.Ballot.{Ballot}
-use Rattle.rebuild.specs.declared.Best.{Best}
+use Rattle.ballots.specs.Ballots.{voteOf, countsAt, Tells, BestTo}
+use Rattle.ballots.specs.declared.Ballot.{Ballot}
+use Rattle.ballots.specs.declared.Best.{Best}
 
 -- ---- one vote more
 

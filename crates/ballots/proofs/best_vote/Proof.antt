@@ -1,14 +1,13 @@
--- `rebuild::best_vote` meets its contract. The invariant: `best` is the best of the votes passed that count. Assumes nothing.
-use Rattle.rebuild.proofs.best_vote.Statement.{statement}
-use Rattle.rebuild.proofs.best_vote.Tie as tie
+-- `ballots::best_vote` meets its contract. The invariant: `best` is the best of the votes passed that count. Assumes nothing.
+use Rattle.ballots.proofs.best_vote.Statement.{statement}
+use Rattle.ballots.proofs.best_vote.Tie as tie
 use borrow.Author.Needs.{needs}
 use Prim.Native.Nat.{ℕ, _≤_, _-_}
 use mathlib.Core.List.{List}
 use native.Mathlib.Omega.{arith}
-use Rattle.rebuild.specs.Ballots.{votesIn}
-use Rattle.rebuild.specs.Rebuild.{BestTo}
-use Rattle.rebuild.proofs.Votes.{votes-long}
-use Rattle.rebuild.proofs.Counting.{best-start, best-next, best-end}
+use Rattle.ballots.specs.Ballots.{votesIn, BestTo}
+use Rattle.ballots.proofs.Votes.{votes-long}
+use Rattle.ballots.proofs.Counting.{best-start, best-next, best-end}
 
 abbrev Inv-loop : tie.InvT-loop
 Inv-loop shape state cast top best₀ r₀ best r = (r ≤ shape .n) × ((msg : List ℕ) → BestTo (shape .n) (votesIn shape state msg cast) top r best)

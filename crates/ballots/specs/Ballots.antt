@@ -4,7 +4,7 @@ use mathlib.Core.Path.{_≡_}
 use mathlib.Core.Bool.{Bool, true, false}
 use mathlib.Core.Option.{Option, none, some}
 use mathlib.Core.List.{List, []}
-use lib.ListN.{length, set, replicate}
+use lib.ListN.{length, set, take, getD, replicate}
 use lib.Dec.{eqb}
 use Rattle.octets.specs.Bytes.{num, items}
 use Rattle.rules.specs.Choice.{pick, isSome}
@@ -13,11 +13,13 @@ use Rattle.rules.specs.Read.{entryAt}
 use Rattle.rules.specs.State.{Vote, State}
 use Rattle.rules.specs.Image.{stateOf}
 use Rattle.rules.specs.Step.{ownVote}
+use Rattle.rules.specs.Rebuild.{withNormal, best}
 use Rattle.rules.specs.declared.Entry.{Entry}
 use Rattle.rules.specs.declared.Shape.{Shape}
 use Rattle.places.specs.Layout.{Stands}
-use Rattle.rebuild.specs.declared.Cast.{Cast}
-use Rattle.rebuild.specs.declared.Ballot.{Ballot}
+use Rattle.ballots.specs.declared.Cast.{Cast}
+use Rattle.ballots.specs.declared.Ballot.{Ballot}
+use Rattle.ballots.specs.declared.Best.{Best}
 
 -- the votes kept, or only the own one where the step enters a greater view, and the sender's
 unfoldable pub ballots : Shape → State → Bool → ℕ → Vote → List (Option Vote)
@@ -68,3 +70,13 @@ pub record Lists (c : ℕ) (es : List Entry) (t : List ℕ) : Type 0 where
   pub room : length es ≤ c
   pub size : 4 + 24 * length es ≤ length t
   pub rows : items (entryAt t) 24 4 (length es) ≡ es
+
+-- ---- the best of them
+
+-- of the first r replicas, the best counted vote: its replica, n where no sync point is above 0
+pub record BestTo (n : ℕ) (vs : List (Option Vote)) (top r : ℕ) (b : Best) : Type 0 where
+  pub is : best (withNormal top (take r vs)) ≡ voteOf (getD vs (b .replica) none)
+  pub sync : b .sync ≡ voteOf (getD vs (b .replica) none) .sync
+  pub within : b .replica ≤ n
+  pub held : b .replica < n → isSome (getD vs (b .replica) none) ≡ true
+  pub some : b .replica < n → 0 < b .sync

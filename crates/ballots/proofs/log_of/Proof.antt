@@ -1,9 +1,9 @@
--- `rebuild::log_of` meets its contract: one law for each place where the log may stand. Assumes nothing.
+-- `ballots::log_of` meets its contract: one law for each place where the log may stand. Assumes nothing.
 use mathlib.Core.Path.{refl}
 use borrow.Author.Needs.{needs}
-use Rattle.rebuild.proofs.log_of.Statement.{statement}
-use Rattle.rebuild.proofs.log_of.Tie as tie
-use Rattle.rebuild.proofs.Listed.{log-sent, log-own, log-kept}
+use Rattle.ballots.proofs.log_of.Statement.{statement}
+use Rattle.ballots.proofs.log_of.Tie as tie
+use Rattle.ballots.proofs.Listed.{log-sent, log-own, log-kept}
 
 sub-result : tie.Need-sub-result
 sub-result c = search needs

@@ -20,8 +20,8 @@ use Rattle.places.specs.Layout.{startOf}
 use Rattle.places.proofs.Sections.{stands-fits}
 use Rattle.places.proofs.Head.{replica-of, normal-of, sync-of}
 use Rattle.places.proofs.Kept.{vote-at, vote-normal, vote-sync}
-use Rattle.rebuild.specs.Ballots.{ballots, sentLog, votesIn, voteOf, Sent, Tells}
-use Rattle.rebuild.specs.declared.Cast.{Cast}
+use Rattle.ballots.specs.Ballots.{ballots, sentLog, votesIn, voteOf, Sent, Tells}
+use Rattle.ballots.specs.declared.Cast.{Cast}
 
 -- ---- the votes that count, as the rules of the step say them
 

@@ -1,6 +1,6 @@
--- `rebuild::top_normal` meets its contract. The invariant: `top` is the greatest last normal gView of the replicas passed. Assumes nothing.
-use Rattle.rebuild.proofs.top_normal.Statement.{statement}
-use Rattle.rebuild.proofs.top_normal.Tie as tie
+-- `ballots::top_normal` meets its contract. The invariant: `top` is the greatest last normal gView of the replicas passed. Assumes nothing.
+use Rattle.ballots.proofs.top_normal.Statement.{statement}
+use Rattle.ballots.proofs.top_normal.Tie as tie
 use borrow.Author.Needs.{needs}
 use Prim.Native.Nat.{ℕ, _≤_, _-_}
 use mathlib.Core.Path.{_≡_}
@@ -8,9 +8,9 @@ use mathlib.Core.List.{List}
 use lib.ListN.{take}
 use native.Mathlib.Omega.{arith}
 use Rattle.rules.specs.Rebuild.{topFrom}
-use Rattle.rebuild.specs.Ballots.{votesIn}
-use Rattle.rebuild.proofs.Votes.{votes-long}
-use Rattle.rebuild.proofs.Counting.{top-start, top-next, top-end}
+use Rattle.ballots.specs.Ballots.{votesIn}
+use Rattle.ballots.proofs.Votes.{votes-long}
+use Rattle.ballots.proofs.Counting.{top-start, top-next, top-end}
 
 abbrev Inv-loop : tie.InvT-loop
 Inv-loop shape state cast top₀ r₀ top r = (r ≤ shape .n) × ((msg : List ℕ) → top ≡ topFrom 0 (take r (votesIn shape state msg cast)))

@@ -1,8 +1,8 @@
--- `rebuild::ballot_of` meets its contract: one law for each way through it. Assumes nothing.
+-- `ballots::ballot_of` meets its contract: one law for each way through it. Assumes nothing.
 use borrow.Author.Needs.{needs}
-use Rattle.rebuild.proofs.ballot_of.Statement.{statement}
-use Rattle.rebuild.proofs.ballot_of.Tie as tie
-use Rattle.rebuild.proofs.Votes.{tells-sender, tells-own, tells-kept}
+use Rattle.ballots.proofs.ballot_of.Statement.{statement}
+use Rattle.ballots.proofs.ballot_of.Tie as tie
+use Rattle.ballots.proofs.Votes.{tells-sender, tells-own, tells-kept}
 
 returns : tie.Need-returns
 returns c = λ msg. tells-sender _ _ msg _ ((c .before .before .before .pre .0)) _ ((c .if1 .taken))

@@ -1,8 +1,8 @@
--- `rebuild::counted` meets its contract: what is told of the vote decides. Assumes nothing.
+-- `ballots::counted` meets its contract: what is told of the vote decides. Assumes nothing.
 use borrow.Author.Needs.{needs}
-use Rattle.rebuild.proofs.counted.Statement.{statement}
-use Rattle.rebuild.proofs.counted.Tie as tie
-use Rattle.rebuild.proofs.Counting.{counts-told}
+use Rattle.ballots.proofs.counted.Statement.{statement}
+use Rattle.ballots.proofs.counted.Tie as tie
+use Rattle.ballots.proofs.Counting.{counts-told}
 
 ballot-of-requires : tie.Need-ballot-of-requires
 ballot-of-requires c κs = search needs

@@ -22,9 +22,9 @@ use Rattle.rules.proofs.Tests.{split, every-replicate}
 use Rattle.rules.proofs.Choice.{and-left, and-right, and-both, all-map, all-at, every-all, all-every}
 use Rattle.rules.proofs.KeptLaws.{every-set}
 use Rattle.rules.proofs.Rebuilt.{counting-all}
-use Rattle.rebuild.specs.Ballots.{ballots, sentLog, votesIn, voteOf, Given}
-use Rattle.rebuild.specs.declared.Cast.{Cast}
-use Rattle.rebuild.proofs.Votes.{votes-long}
+use Rattle.ballots.specs.Ballots.{ballots, sentLog, votesIn, voteOf, Given}
+use Rattle.ballots.specs.declared.Cast.{Cast}
+use Rattle.ballots.proofs.Votes.{votes-long}
 
 abbrev sound : ℕ → ℕ → Vote → Bool
 sound s k v = goodLog s k (v .log) && leb (v .sync) (length (v .log))

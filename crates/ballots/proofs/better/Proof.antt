@@ -1,6 +1,6 @@
--- `rebuild::better` meets its contract: the test is that of the choice. Assumes nothing.
-use Rattle.rebuild.proofs.better.Statement.{statement}
-use Rattle.rebuild.proofs.better.Tie as tie
+-- `ballots::better` meets its contract: the test is that of the choice. Assumes nothing.
+use Rattle.ballots.proofs.better.Statement.{statement}
+use Rattle.ballots.proofs.better.Tie as tie
 use mathlib.Core.Path.{sym}
 use Rattle.rules.proofs.Choice.{pick-true, pick-false}
 

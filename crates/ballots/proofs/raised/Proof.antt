@@ -1,6 +1,6 @@
--- `rebuild::raised` meets its contract: the test is that of the choice. Assumes nothing.
-use Rattle.rebuild.proofs.raised.Statement.{statement}
-use Rattle.rebuild.proofs.raised.Tie as tie
+-- `ballots::raised` meets its contract: the test is that of the choice. Assumes nothing.
+use Rattle.ballots.proofs.raised.Statement.{statement}
+use Rattle.ballots.proofs.raised.Tie as tie
 use mathlib.Core.Path.{sym}
 use Rattle.rules.proofs.Choice.{pick-true, pick-false}
 

@@ -1,0 +1,2 @@
+-- The votes that a step of kind 8 counts.
+pub mod Ballots
