@@ -5,7 +5,7 @@ ghost use mathlib.Core.Bool.{_&&_};
 ghost use mathlib.Core.Option.{none, some};
 ghost use mathlib.Core.List.{[], _∷_, _++_};
 ghost use Prim.Native.Nat.{_+_, _*_, _<_, _≤_, max};
-ghost use lib.ListN.{length, getD, take, drop, set, replicate};
+ghost use lib.ListN.{length, getD, set};
 ghost use lib.Dec.{eqb};
 ghost use Rattle.octets.specs.Bytes.{num, splice, part};
 ghost use Rattle.rules.specs.Choice.{pick, isSome, passes, every, same};
@@ -87,15 +87,6 @@ fn put_point(t: &mut [u8], at: usize, stamp: u64)
 {
     octets::put8(t, at, 1);
     octets::put64(t, at + 1, stamp);
-}
-
-// Takes the w bytes at `at` out: the n bytes after them move down, and zeros stand where they ended.
-fn shift_out(t: &mut [u8], at: usize, w: usize, n: usize)
-    requires { ⌜ at + w + n ≤ length (now t) ⌝ }
-    ensures { λ _. ⌜ now (t .exit) ≡ splice (now (t .entry)) at (part (now (t .entry)) (at + w) n ++ replicate w 0) ⌝ }
-{
-    octets::move_down(t, at, at + w, n);
-    octets::fill_zero(t, at + n, w);
 }
 
 // ---- what the notes say
@@ -253,19 +244,6 @@ pub fn keep(t: &mut [u8], c: usize, s: usize, e: Entry, j: usize, stamp: u64)
     }
     append(t, c, s, e.request, e.coordinator);
     hear(t, c, s, i, j, stamp);
-}
-
-// Takes note i out.
-pub fn remove_at(t: &mut [u8], c: usize, s: usize, i: usize)
-    requires { ⌜ Notes c s (now t) × (i < length (notesAt c s (now t))) ⌝ }
-    ensures { λ _. ⌜ NotesHold c s (take i (notesAt c s (now (t .entry))) ++ drop (i + 1) (notesAt c s (now (t .entry)))) (now (t .exit)) ⌝ }
-{
-    let n = count(t);
-    let at = place(s, i);
-    let next = place(s, i + 1);
-    let end = place(s, n);
-    shift_out(t, at, next - at, end - next);
-    octets::put32(t, 0, (n - 1) as u32);
 }
 
 // Makes the bytes those of no notes, whatever they were.
