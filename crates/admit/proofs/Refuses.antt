@@ -5,7 +5,8 @@ use mathlib.Core.Bool.{Bool, true, false, _||_, not, true≢false}
 use mathlib.Core.List.{List}
 use lib.Dec.{eqb}
 use Rattle.rules.specs.Choice.{pick}
-use Rattle.rules.specs.Wire.{known, toOutside, tagOf, headerIn}
+use Rattle.rules.specs.Kind.{known, toOutside}
+use Rattle.rules.specs.Wire.{tagOf, headerIn}
 use Rattle.rules.specs.Read.{wireIn, decoded}
 use Rattle.rules.specs.Image.{stateOf}
 use Rattle.rules.specs.Step.{here, viewRight, statusRight, roleRight}

@@ -8,7 +8,8 @@ use lib.Dec.{eqb}
 use borrow.Author.Tests.{eqb-true, eq-eqb, ne-eqb}
 use Rattle.rules.specs.Choice.{pick}
 use Rattle.rules.specs.Group.{sizesFit, shapeFits}
-use Rattle.rules.specs.Wire.{Wire, known, toOutside, tagOf, caseOf}
+use Rattle.rules.specs.Wire.{Wire, tagOf, caseOf}
+use Rattle.rules.specs.Kind.{known, toOutside}
 use Rattle.rules.specs.Read.{Read, malformed, message, read, wireIn, fieldsOf, caseRead, decoded}
 use Rattle.rules.specs.State.{State}
 use Rattle.rules.specs.Image.{stateOf, goodBytes}

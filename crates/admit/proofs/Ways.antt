@@ -12,7 +12,8 @@ use Rattle.octets.specs.Sections.{concat}
 use Rattle.octets.proofs.Codecs.{back-all, number, length-items, getD-items}
 use Rattle.rules.specs.Choice.{pick, same}
 use Rattle.rules.specs.Group.{holds, leader}
-use Rattle.rules.specs.Wire.{Wire, bare, viewsIn, fromOutside, toOutside}
+use Rattle.rules.specs.Wire.{Wire}
+use Rattle.rules.specs.Kind.{bare, viewsIn, fromOutside, toOutside}
 use Rattle.rules.specs.Read.{wireIn}
 use Rattle.rules.specs.State.{State}
 use Rattle.rules.specs.Image.{stateOf, sections}
@@ -44,11 +45,11 @@ pub views-none : (f g : ℕ → ℕ) (o p : ℕ) → true ≡ same (items f 4 o 
 unfolding items same
 views-none f g o p = refl
 
-pub views-in : {sh : Shape} {b : List ℕ} → Stands sh (stateOf sh b) b → items (λ a. num b a 4) 4 48 (sh .s) ≡ stateOf sh b .gVec
+pub views-in : {sh : Shape} {b : List ℕ} → Stands sh (stateOf sh b) b → items (λ a. num b a 4) 4 48 (sh .s) ≡ stateOf sh b .view .gVec
 views-in {sh} {b} s =
     let l = stands-laid s in
     let f = stands-fits s in
-    back-all (number 4) b 48 (sh .s) (stateOf sh b .gVec) _ (f .gVec) (sym (f .gVecPlaces)) (drop-all l 1 48 (lit< tt) refl)
+    back-all (number 4) b 48 (sh .s) (stateOf sh b .view .gVec) _ (f .gVec) (sym (f .gVecPlaces)) (drop-all l 1 48 (lit< tt) refl)
 
 module _ {sh : Shape} {b msg : List ℕ} {k : ℕ} {h : Header} (s : Stands sh (stateOf sh b) b) (q : Heads sh k h msg) where
   abbrev w : Wire
@@ -72,7 +73,7 @@ module _ {sh : Shape} {b msg : List ℕ} {k : ℕ} {h : Header} (s : Stands sh (
   unfolding wireIn pick
   views-of n = ap (λ (z : ℕ). items (λ a. num msg a 4) 4 16 (pick (bare z) 0 (sh .s))) (q .kind) ∙ ap (λ (z : Bool). items (λ a. num msg a 4) 4 16 (pick z 0 (sh .s))) n
 
-  pub equal-is : (v : ℕ) (x : Bool) → bare k ≡ false → v ≡ num b 8 4 → x ≡ same (items (λ a. num msg a 4) 4 16 (sh .s)) (st .gVec) → (eqb (h .view) v && x) ≡ equal st w
+  pub equal-is : (v : ℕ) (x : Bool) → bare k ≡ false → v ≡ num b 8 4 → x ≡ same (items (λ a. num msg a 4) 4 16 (sh .s)) (st .view .gVec) → (eqb (h .view) v && x) ≡ equal st w
   equal-is v x n e y =
       let a : h .view ≡ w .view = ap (λ (z : Header). z .view) (sym (q .header)) in
       rw (y, a, e ∙ view-of s, views-of n)
@@ -137,8 +138,8 @@ module _ {sh : Shape} {b msg : List ℕ} {k : ℕ} {h : Header} (s : Stands sh (
 
   pub leads-is : (g r : ℕ) (x : Bool) → bare k ≡ false → g ≡ num b 0 1 → r ≡ num b 1 1 → g < sh .s → x ≡ eqb r (num msg (16 + 4 * g) 4 % sh .n) → x ≡ leadsBy sh st w
   leads-is g r x n e f l y =
-      let a : st .group ≡ g = sym (e ∙ group-of s) in
-      let c : st .replica ≡ r = sym (f ∙ replica-of s) in
+      let a : st .site .group ≡ g = sym (e ∙ group-of s) in
+      let c : st .site .replica ≡ r = sym (f ∙ replica-of s) in
       y ∙ rw (a, c, view-in g n l)
 
   pub inside-is : (g : ℕ) → g ≡ num b 0 1 → eqb (h .«from_group») g ≡ fromOwn st w

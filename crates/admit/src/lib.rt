@@ -9,7 +9,8 @@ ghost use lib.Dec.{eqb, ltb};
 ghost use Rattle.octets.specs.Bytes.{num, items};
 ghost use Rattle.rules.specs.Choice.{same};
 ghost use Rattle.rules.specs.Group.{holds};
-ghost use Rattle.rules.specs.Wire.{tagOf, bare};
+ghost use Rattle.rules.specs.Wire.{tagOf};
+ghost use Rattle.rules.specs.Kind.{bare};
 ghost use Rattle.rules.specs.Read.{wireIn, decoded};
 ghost use Rattle.rules.specs.Image.{stateOf};
 ghost use Rattle.rules.specs.Step.{newer, equal, here, viewRight, statusRight, roleRight};
@@ -36,7 +37,7 @@ fn same_view(shape: Shape, state: &[u8], message: &[u8], j: u64) -> bool
 // Whether a message's gVec is the state's.
 fn same_views(shape: Shape, state: &[u8], message: &[u8]) -> bool
     requires { ⌜ Stands shape (stateOf shape (now state)) (now state) ⌝ }
-    ensures { λ r. ⌜ r ≡ same (items (λ a. num (now (message .entry)) a 4) 4 16 (shape .s)) (stateOf shape (now (state .entry)) .gVec) ⌝ }
+    ensures { λ r. ⌜ r ≡ same (items (λ a. num (now (message .entry)) a 4) 4 16 (shape .s)) (stateOf shape (now (state .entry)) .view .gVec) ⌝ }
 {
     let mut all = true;
     let mut j: u64 = 0;

@@ -8,8 +8,10 @@ use lib.ListN.{getD}
 use lib.Dec.{leb}
 use borrow.Author.Tests.{leb-true}
 use Rattle.rules.specs.Choice.{pick}
-use Rattle.rules.specs.Entry.{latest, stamped, among, leaderStamp}
-use Rattle.rules.specs.Wire.{Wire, firstEntry, known, tagOf, numbersOf}
+use Rattle.rules.specs.Entry.{latest, stamped, among}
+use Rattle.rules.specs.Log.{leaderStamp}
+use Rattle.rules.specs.Wire.{Wire, firstEntry, tagOf, numbersOf}
+use Rattle.rules.specs.Kind.{known}
 use Rattle.rules.specs.Wire as wires
 use Rattle.rules.specs.Read.{wireIn}
 use Rattle.rules.specs.State.{State, leads}
@@ -34,7 +36,7 @@ module _ (sh : Shape) (st : State) (w : Wire) (x : Entry) (q : x ≡ firstEntry 
   unfolding onTransaction pick
   again h = rw (sym q, h)
 
-  at-leader : knownTo st x ≡ false → leads sh st ≡ true → onTransaction sh st w ≡ leaderTakes sh st (stamped (leaderStamp (st .log) (due w)) x)
+  at-leader : knownTo st x ≡ false → leads sh st ≡ true → onTransaction sh st w ≡ leaderTakes sh st (stamped (leaderStamp (st .logged .log) (due w)) x)
   unfolding onTransaction pick
   at-leader h l = rw (sym q, h, l)
 
@@ -77,11 +79,11 @@ module _ (sh : Shape) (b msg out : List ℕ) (m : Message) (h : Header) (time bo
 
     module _ (z : t ≡ false) (l : Bool) (v : l ≡ leads sh st) where
       -- it is not among the early ones
-      pub not-early : (stamp : ℕ) (y : Entry) → y ≡ stamped stamp x → among (st .early) y ≡ false
-      not-early stamp y u = ap (among (st .early)) u ∙ or-left (among (st .early) x) (among (st .late) x) (or-right (among (st .log) x) _ (sym a ∙ z))
+      pub not-early : (stamp : ℕ) (y : Entry) → y ≡ stamped stamp x → among (st .waiting .early) y ≡ false
+      not-early stamp y u = ap (among (st .waiting .early)) u ∙ or-left (among (st .waiting .early) x) (among (st .waiting .late) x) (or-right (among (st .logged .log) x) _ (sym a ∙ z))
 
-      pub leader-way : l ≡ true → (stamp : ℕ) → stamp ≡ leaderStamp (st .log) (time + bound) → (y : Entry) → y ≡ stamped stamp x → closes sh b out (leaderTakes sh st y) ≡ handled 1 onTransaction sh m b msg out
-      leader-way k stamp g y u = sym (by-rule _ (at-leader sh st w x q (sym a ∙ z) (sym v ∙ k)) ∙ ap (λ (d : ℕ). closes sh b out (leaderTakes sh st (stamped (leaderStamp (st .log) d) x))) due-is ∙ rw (u, g))
+      pub leader-way : l ≡ true → (stamp : ℕ) → stamp ≡ leaderStamp (st .logged .log) (time + bound) → (y : Entry) → y ≡ stamped stamp x → closes sh b out (leaderTakes sh st y) ≡ handled 1 onTransaction sh m b msg out
+      leader-way k stamp g y u = sym (by-rule _ (at-leader sh st w x q (sym a ∙ z) (sym v ∙ k)) ∙ ap (λ (d : ℕ). closes sh b out (leaderTakes sh st (stamped (leaderStamp (st .logged .log) d) x))) due-is ∙ rw (u, g))
 
       pub follower-way : l ≡ false → (y : Entry) → y ≡ stamped (time + bound) x → closes sh b out (followerTakes sh st y) ≡ handled 1 onTransaction sh m b msg out
       follower-way k y u = sym (by-rule _ (at-follower sh st w x q (sym a ∙ z) (sym v ∙ k)) ∙ ap (λ (d : ℕ). closes sh b out (followerTakes sh st (stamped d x))) due-is ∙ rw u)

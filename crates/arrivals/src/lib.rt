@@ -14,7 +14,8 @@ ghost use Rattle.rules.specs.Entry.{among};
 ghost use Rattle.rules.specs.Log.{distinct};
 ghost use Rattle.rules.specs.Image.{tableAt, image, stateOf};
 ghost use Rattle.rules.specs.Wire.{wireBytes};
-ghost use Rattle.rules.specs.Step.{keepNote, lifted, knownTo, buffered, leaderTakes, followerTakes, onTransaction, onNote};
+ghost use Rattle.rules.specs.Early.{keepNote, lifted};
+ghost use Rattle.rules.specs.Step.{knownTo, buffered, leaderTakes, followerTakes, onTransaction, onNote};
 ghost use Rattle.rules.specs.Bytes.{left, closes};
 ghost use Rattle.entries.specs.Table.{Table};
 ghost use Rattle.notes.specs.Notes.{row};
@@ -39,8 +40,8 @@ fn is_among(t: &[u8], c: usize, e: Entry) -> bool
 
 // Keeps group j's timestamp of e's transaction.
 fn keep_note(shape: Shape, state: &mut [u8], e: Entry, j: u64, stamp: u64)
-    requires { ⌜ Midway shape (stateOf shape (now state)) (now state) × (row (e .request) (e .coordinator) (stateOf shape (now state) .notes) < shape .c) × (j < shape .s) ⌝ }
-    ensures { λ _. ⌜ Midway shape (withNotes (stateOf shape (now (state .entry))) (keepNote shape e j stamp (stateOf shape (now (state .entry)) .notes))) (now (state .exit)) ⌝ }
+    requires { ⌜ Midway shape (stateOf shape (now state)) (now state) × (row (e .request) (e .coordinator) (stateOf shape (now state) .waiting .notes) < shape .c) × (j < shape .s) ⌝ }
+    ensures { λ _. ⌜ Midway shape (withNotes (stateOf shape (now (state .entry))) (keepNote shape e j stamp (stateOf shape (now (state .entry)) .waiting .notes))) (now (state .exit)) ⌝ }
 {
     let layout = places::places_of(shape);
     let start = layout.notes;
@@ -52,8 +53,8 @@ fn keep_note(shape: Shape, state: &mut [u8], e: Entry, j: u64, stamp: u64)
 
 // Keeps a note, and lifts the early entry where it was the last that was missing.
 fn keep_and_lift(shape: Shape, state: &mut [u8], e: Entry, j: u64, stamp: u64)
-    requires { ⌜ Midway shape (stateOf shape (now state)) (now state) × (distinct (stateOf shape (now state) .early) ≡ true) × (row (e .request) (e .coordinator) (stateOf shape (now state) .notes) < shape .c) × (j < shape .s) ⌝ }
-    ensures { λ _. ⌜ now (state .exit) ≡ image shape (buffered (stateOf shape (now (state .entry))) (lifted shape (keepNote shape e j stamp (stateOf shape (now (state .entry)) .notes)) e (stateOf shape (now (state .entry)) .early)) (stateOf shape (now (state .entry)) .late) (keepNote shape e j stamp (stateOf shape (now (state .entry)) .notes))) ⌝ }
+    requires { ⌜ Midway shape (stateOf shape (now state)) (now state) × (distinct (stateOf shape (now state) .waiting .early) ≡ true) × (row (e .request) (e .coordinator) (stateOf shape (now state) .waiting .notes) < shape .c) × (j < shape .s) ⌝ }
+    ensures { λ _. ⌜ now (state .exit) ≡ image shape (buffered (stateOf shape (now (state .entry))) (lifted shape (keepNote shape e j stamp (stateOf shape (now (state .entry)) .waiting .notes)) e (stateOf shape (now (state .entry)) .waiting .early)) (stateOf shape (now (state .entry)) .waiting .late) (keepNote shape e j stamp (stateOf shape (now (state .entry)) .waiting .notes))) ⌝ }
 {
     keep_note(shape, state, e, j, stamp);
     stamps::lift(shape, state, e);
@@ -64,7 +65,7 @@ fn keep_and_lift(shape: Shape, state: &mut [u8], e: Entry, j: u64, stamp: u64)
 // Whether the transaction of e stands in the log.
 fn in_log(shape: Shape, state: &[u8], e: Entry) -> bool
     requires { ⌜ Midway shape (stateOf shape (now state)) (now state) ⌝ }
-    ensures { λ r. ⌜ r ≡ among (stateOf shape (now (state .entry)) .log) e ⌝ }
+    ensures { λ r. ⌜ r ≡ among (stateOf shape (now (state .entry)) .logged .log) e ⌝ }
 {
     let layout = places::places_of(shape);
     let start = layout.log;
@@ -75,7 +76,7 @@ fn in_log(shape: Shape, state: &[u8], e: Entry) -> bool
 // Whether it stands in the early buffer.
 fn in_early(shape: Shape, state: &[u8], e: Entry) -> bool
     requires { ⌜ Midway shape (stateOf shape (now state)) (now state) ⌝ }
-    ensures { λ r. ⌜ r ≡ among (stateOf shape (now (state .entry)) .early) e ⌝ }
+    ensures { λ r. ⌜ r ≡ among (stateOf shape (now (state .entry)) .waiting .early) e ⌝ }
 {
     let layout = places::places_of(shape);
     let start = layout.early;
@@ -86,7 +87,7 @@ fn in_early(shape: Shape, state: &[u8], e: Entry) -> bool
 // Whether it stands in the late buffer.
 fn in_late(shape: Shape, state: &[u8], e: Entry) -> bool
     requires { ⌜ Midway shape (stateOf shape (now state)) (now state) ⌝ }
-    ensures { λ r. ⌜ r ≡ among (stateOf shape (now (state .entry)) .late) e ⌝ }
+    ensures { λ r. ⌜ r ≡ among (stateOf shape (now (state .entry)) .waiting .late) e ⌝ }
 {
     let layout = places::places_of(shape);
     let start = layout.late;
@@ -105,7 +106,7 @@ fn known(shape: Shape, state: &[u8], e: Entry) -> bool
 // Whether there is room for a note of e's transaction: it has one, or there are fewer than fit.
 fn room_for_note(shape: Shape, state: &[u8], e: Entry) -> bool
     requires { ⌜ Midway shape (stateOf shape (now state)) (now state) ⌝ }
-    ensures { λ r. ⌜ r ≡ ltb (row (e .request) (e .coordinator) (stateOf shape (now (state .entry)) .notes)) (shape .c) ⌝ }
+    ensures { λ r. ⌜ r ≡ ltb (row (e .request) (e .coordinator) (stateOf shape (now (state .entry)) .waiting .notes)) (shape .c) ⌝ }
 {
     let layout = places::places_of(shape);
     let start = layout.notes;
@@ -120,7 +121,7 @@ fn room_for_note(shape: Shape, state: &[u8], e: Entry) -> bool
 // How many entries are early.
 fn early_count(shape: Shape, state: &[u8]) -> u64
     requires { ⌜ Midway shape (stateOf shape (now state)) (now state) ⌝ }
-    ensures { λ r. ⌜ r ≡ length (stateOf shape (now (state .entry)) .early) ⌝ }
+    ensures { λ r. ⌜ r ≡ length (stateOf shape (now (state .entry)) .waiting .early) ⌝ }
 {
     let layout = places::places_of(shape);
     let start = layout.early;
@@ -131,7 +132,7 @@ fn early_count(shape: Shape, state: &[u8]) -> u64
 // How many entries are late.
 fn late_count(shape: Shape, state: &[u8]) -> u64
     requires { ⌜ Midway shape (stateOf shape (now state)) (now state) ⌝ }
-    ensures { λ r. ⌜ r ≡ length (stateOf shape (now (state .entry)) .late) ⌝ }
+    ensures { λ r. ⌜ r ≡ length (stateOf shape (now (state .entry)) .waiting .late) ⌝ }
 {
     let layout = places::places_of(shape);
     let start = layout.late;
@@ -141,8 +142,8 @@ fn late_count(shape: Shape, state: &[u8]) -> u64
 
 // Puts e after the last early entry.
 fn add_early(shape: Shape, state: &mut [u8], e: Entry)
-    requires { ⌜ Midway shape (stateOf shape (now state)) (now state) × (length (stateOf shape (now state) .early) < shape .c) ⌝ }
-    ensures { λ _. ⌜ Midway shape (withEarly (stateOf shape (now (state .entry))) (stateOf shape (now (state .entry)) .early ++ (e ∷ []))) (now (state .exit)) ⌝ }
+    requires { ⌜ Midway shape (stateOf shape (now state)) (now state) × (length (stateOf shape (now state) .waiting .early) < shape .c) ⌝ }
+    ensures { λ _. ⌜ Midway shape (withEarly (stateOf shape (now (state .entry))) (stateOf shape (now (state .entry)) .waiting .early ++ (e ∷ []))) (now (state .exit)) ⌝ }
 {
     let layout = places::places_of(shape);
     let start = layout.early;
@@ -152,8 +153,8 @@ fn add_early(shape: Shape, state: &mut [u8], e: Entry)
 
 // Puts e after the last late entry.
 fn add_late(shape: Shape, state: &mut [u8], e: Entry)
-    requires { ⌜ Midway shape (stateOf shape (now state)) (now state) × (length (stateOf shape (now state) .late) < shape .c) ⌝ }
-    ensures { λ _. ⌜ Midway shape (withLate (stateOf shape (now (state .entry))) (stateOf shape (now (state .entry)) .late ++ (e ∷ []))) (now (state .exit)) ⌝ }
+    requires { ⌜ Midway shape (stateOf shape (now state)) (now state) × (length (stateOf shape (now state) .waiting .late) < shape .c) ⌝ }
+    ensures { λ _. ⌜ Midway shape (withLate (stateOf shape (now (state .entry))) (stateOf shape (now (state .entry)) .waiting .late ++ (e ∷ []))) (now (state .exit)) ⌝ }
 {
     let layout = places::places_of(shape);
     let start = layout.late;
@@ -201,7 +202,7 @@ fn tell_notes(shape: Shape, state: &[u8], e: Entry, out: &mut [u8]) -> usize
 
 // Puts e in early with the own group's note of it.
 fn take_early(shape: Shape, state: &mut [u8], e: Entry)
-    requires { ⌜ Stands shape (stateOf shape (now state)) (now state) × (among (stateOf shape (now state) .early) e ≡ false) × (length (stateOf shape (now state) .early) < shape .c) × (row (e .request) (e .coordinator) (stateOf shape (now state) .notes) < shape .c) ⌝ }
+    requires { ⌜ Stands shape (stateOf shape (now state)) (now state) × (among (stateOf shape (now state) .waiting .early) e ≡ false) × (length (stateOf shape (now state) .waiting .early) < shape .c) × (row (e .request) (e .coordinator) (stateOf shape (now state) .waiting .notes) < shape .c) ⌝ }
     ensures { λ _. ⌜ now (state .exit) ≡ image shape (takenEarly shape (stateOf shape (now (state .entry))) e) ⌝ }
 {
     let own = places::get_group(state);
@@ -211,7 +212,7 @@ fn take_early(shape: Shape, state: &mut [u8], e: Entry)
 
 // A leader puts e in early, keeps its own note, and tells the other masked groups' leaders.
 fn leader_takes(shape: Shape, state: &mut [u8], e: Entry, out: &mut [u8]) -> Answer
-    requires { ⌜ Stands shape (stateOf shape (now state)) (now state) × (among (stateOf shape (now state) .early) e ≡ false) ⌝ }
+    requires { ⌜ Stands shape (stateOf shape (now state)) (now state) × (among (stateOf shape (now state) .waiting .early) e ≡ false) ⌝ }
     ensures { λ r. ⌜ left r (now (state .exit)) (now (out .exit)) ≡ closes shape (now (state .entry)) (now (out .entry)) (leaderTakes shape (stateOf shape (now (state .entry))) e) ⌝ }
 {
     if shape.c <= early_count(shape, state) {

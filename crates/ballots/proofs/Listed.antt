@@ -80,7 +80,7 @@ module _ (sh : Shape) (b msg : List ℕ) (k : Cast) (g : Given sh b msg k) (r : 
     unfolding pick voteOf
     log-own y p q =
         let st = g .sent .stands in
-        let v : getD (votesIn sh b msg k) r none ≡ some (ownVote (stateOf sh b)) = at-own sh b msg k (g .sent) r h d y ∙ go (eqb r (stateOf sh b .replica)) (rw (at-own sh b msg k (g .sent) r h d y) at s) in
+        let v : getD (votesIn sh b msg k) r none ≡ some (ownVote (stateOf sh b)) = at-own sh b msg k (g .sent) r h d y ∙ go (eqb r (stateOf sh b .site .replica)) (rw (at-own sh b msg k (g .sent) r h d y) at s) in
         rw v (lists-table (log-lent (stands-laid st) a (e - a) (st .fits) (stands-fits st .log) p (omega arith)))
       where
         go : (t : Bool) → isSome (pick t (some (ownVote (stateOf sh b))) none) ≡ true → pick t (some (ownVote (stateOf sh b))) none ≡ some (ownVote (stateOf sh b))
@@ -90,6 +90,6 @@ module _ (sh : Shape) (b msg : List ℕ) (k : Cast) (g : Given sh b msg k) (r : 
     pub log-kept : k .entering ≡ false → (p : ℕ) → PlaceAt sh 7 (voteLength (sh .c)) r p → a ≡ p + 13 → e ≡ a + tableLength (sh .c) → Lists (sh .c) (voteOf (getD (votesIn sh b msg k) r none) .log) (take (e - a) (drop a b))
     unfolding voteOf
     log-kept y p f i q =
-        let o : getD (votesIn sh b msg k) r none ≡ getD (stateOf sh b .votes) r none = at-kept sh b msg k (g .sent) r d y in
-        let v = is-some (getD (stateOf sh b .votes) r none) (rw o at s) in
+        let o : getD (votesIn sh b msg k) r none ≡ getD (stateOf sh b .change .votes) r none = at-kept sh b msg k (g .sent) r d y in
+        let v = is-some (getD (stateOf sh b .change .votes) r none) (rw o at s) in
         rw (o ∙ v .1) (lists-table (vote-lent (g .sent .stands) r (v .0) a (e - a) h (v .1) (omega (arith, f .at)) (omega arith)))

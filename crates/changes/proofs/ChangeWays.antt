@@ -7,7 +7,8 @@ use native.Mathlib.Omega.{arith}
 use lib.ListN.{length}
 use Rattle.octets.specs.Bytes.{num, splice}
 use Rattle.octets.proofs.Laws.{Bytes}
-use Rattle.rules.specs.Wire.{Wire, bare, known, wireBytes, tagOf, headerIn}
+use Rattle.rules.specs.Wire.{Wire, wireBytes, tagOf, headerIn}
+use Rattle.rules.specs.Kind.{bare, known}
 use Rattle.rules.specs.Read.{wireIn, lengthFor}
 use Rattle.rules.specs.State.{State}
 use Rattle.rules.specs.Image.{image, stateOf}
@@ -39,7 +40,7 @@ module _ (sh : Shape) (st : State) (w : Wire) where
   unfolding onChangeView
   leads q = pick-true (leadsBy sh st w) _ _ q
 
-  follows : leadsBy sh st w ≡ false → onChangeView sh st w ≡ done (entered sh st w) (sendLeader sh (entered sh st w) 8 (st .group) (st .normal ∷ st .sync ∷ []) (st .log) ∷ [])
+  follows : leadsBy sh st w ≡ false → onChangeView sh st w ≡ done (entered sh st w) (sendLeader sh (entered sh st w) 8 (st .site .group) (st .view .normal ∷ st .logged .sync ∷ []) (st .logged .log) ∷ [])
   unfolding onChangeView
   follows q = pick-false (leadsBy sh st w) _ _ q
 
@@ -68,7 +69,7 @@ module _ (sh : Shape) (b msg out : List ℕ) (m : Message) (h : Header) (r : Rea
   next l = enteredBy sh st (h .view) (viewsOf sh msg) l
 
   abbrev sent-vote : Wire
-  sent-vote = sendLeader sh (next false) 8 (st .group) (st .normal ∷ st .sync ∷ []) (st .log)
+  sent-vote = sendLeader sh (next false) 8 (st .site .group) (st .view .normal ∷ st .logged .sync ∷ []) (st .logged .log)
 
   by-rule : (o : Outcome) → onChangeView sh st w ≡ o → handled 7 onChangeView sh m b msg out ≡ closes sh b out o
   by-rule o q = handled-own 7 onChangeView sh m b msg out (ap tagOf e) ∙ ap (closes sh b out) q
@@ -86,12 +87,12 @@ module _ (sh : Shape) (b msg out : List ℕ) (m : Message) (h : Header) (r : Rea
 
     module _ (z : l ≡ false) (count : ℕ) (c : count ≡ num b (startOf sh 3) 4) where
       after : handled 7 onChangeView sh m b msg out ≡ closes sh b out (done (next false) (sent-vote ∷ []))
-      after = by-rule (done (next false) (sent-vote ∷ [])) (follows sh st w (role-is false z) ∙ ap (λ (x : State). done x (sendLeader sh x 8 (st .group) (st .normal ∷ st .sync ∷ []) (st .log) ∷ [])) (next-is false z))
+      after = by-rule (done (next false) (sent-vote ∷ [])) (follows sh st w (role-is false z) ∙ ap (λ (x : State). done x (sendLeader sh x 8 (st .site .group) (st .view .normal ∷ st .logged .sync ∷ []) (st .logged .log) ∷ [])) (next-is false z))
 
-      table : TableFits (sh .c) (st .log)
+      table : TableFits (sh .c) (st .logged .log)
       table = stands-fits (r .stands) .log
 
-      count-is : count ≡ length (st .log)
+      count-is : count ≡ length (st .logged .log)
       count-is = c ∙ log-counted (stands-laid (r .stands)) table
 
       pub count-small : count < 2 ^ 32
@@ -116,8 +117,8 @@ module _ (sh : Shape) (b msg out : List ℕ) (m : Message) (h : Header) (r : Rea
           -- the vote may be told
           pub change-tells : (num b′ 0 1 < sh .s) × (num b′ (startOf sh 3) 4 ≤ sh .c) × (40 + 4 * sh .s + 24 * num b′ (startOf sh 3) 4 ≤ length out)
           change-tells =
-              let x : num b′ (startOf sh 3) 4 ≡ length (st .log) = log-counted (next-laid b′ i) table in
-              let g : num b′ 0 1 ≡ st .group = own-group (next-laid b′ i) next-sender in
+              let x : num b′ (startOf sh 3) 4 ≡ length (st .logged .log) = log-counted (next-laid b′ i) table in
+              let g : num b′ 0 1 ≡ st .site .group = own-group (next-laid b′ i) next-sender in
               let y : need ≡ 40 + 4 * sh .s + 24 * count = n ∙ vote-room (sh .s) count in
               (omega (arith, group-below (r .stands)), omega (arith, table .room), omega (arith, count-is))
 

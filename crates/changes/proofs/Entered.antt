@@ -31,8 +31,8 @@ use Rattle.changes.specs.Changes.{leadsWith, enteredBy}
 -- by the views of a message the own replica leads or not
 pub leads-with : {sh : Shape} {st : State} {b : List ℕ} (s : Stands sh st b) (msg : List ℕ) (own view replica : ℕ) (r : Bool) → own ≡ num b 0 1 → view ≡ num msg (16 + 4 * own) 4 → replica ≡ num b 1 1 → r ≡ eqb replica (view % sh .n) → r ≡ leadsWith sh st (viewsOf sh msg)
 leads-with {sh} {st} s msg own view replica r e v q h =
-    let g : own ≡ st .group = e ∙ group-of s in
-    let x : getD (viewsOf sh msg) (st .group) 0 ≡ num msg (16 + 4 * st .group) 4 = getD-items (λ a. num msg a 4) 4 16 (sh .s) (st .group) 0 (group-below s) in
+    let g : own ≡ st .site .group = e ∙ group-of s in
+    let x : getD (viewsOf sh msg) (st .site .group) 0 ≡ num msg (16 + 4 * st .site .group) 4 = getD-items (λ a. num msg a 4) 4 16 (sh .s) (st .site .group) 0 (group-below s) in
     h ∙ rw (q ∙ replica-of s, v, g, x)
 
 even-none : (c n : ℕ) → Even (voteBytes c) (voteLength c) (replicate n none)
@@ -54,7 +54,7 @@ module _ {sh : Shape} {st : State} {b : List ℕ} (s : Stands sh st b) (view : �
   pub entered-own : num b₄ 1 1 < sh .n
   entered-own =
       let f = stands-fits s in
-      let e : num b₄ 1 1 ≡ st .replica = get-head entered-follows 1 1 1 (st .replica) (lit< tt) (simp length-le) (lit≤ tt) refl (f .replica) in
+      let e : num b₄ 1 1 ≡ st .site .replica = get-head entered-follows 1 1 1 (st .site .replica) (lit< tt) (simp length-le) (lit≤ tt) refl (f .replica) in
       omega (arith, replica-below s)
 
   -- and is kept

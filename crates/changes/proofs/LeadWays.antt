@@ -66,7 +66,7 @@ module _ {sh : Shape} {st : State} {b : List ℕ} (s : Stands sh st b) (view : �
     pub lead-tells : (num b′ 1 1 < sh .n) × (num b′ (startOf sh 3) 4 ≤ sh .c) × (24 + 4 * sh .s + 24 * num b′ (startOf sh 3) 4 ≤ length out)
     lead-tells =
         let x : num b′ (startOf sh 3) 4 ≡ length log = log-counted (next-laid b′ begun-is) table in
-        let g : num b′ 1 1 ≡ st .replica = own-replica (next-laid b′ begun-is) next-sender in
+        let g : num b′ 1 1 ≡ st .site .replica = own-replica (next-laid b′ begun-is) next-sender in
         let y : need ≡ 24 + 4 * sh .s + 24 * number = e ∙ start-room (sh .s) number in
         (omega (arith, replica-below s), omega (arith, table .room), omega (arith, number-is))
 

@@ -51,47 +51,47 @@ pub start-room : (s k : ℕ) → lengthFor s 9 k ≡ 24 + 4 * s + 24 * k
 unfolding pick
 start-room s k = omega arith
 
-module _ {sh : Shape} {st : State} {b : List ℕ} (l : Laid sh st b) (t : TableFits (sh .c) (st .log)) where
-  pub log-counted : num b (startOf sh 3) 4 ≡ length (st .log)
+module _ {sh : Shape} {st : State} {b : List ℕ} (l : Laid sh st b) (t : TableFits (sh .c) (st .logged .log)) where
+  pub log-counted : num b (startOf sh 3) 4 ≡ length (st .logged .log)
   unfolding tableBytes
   log-counted =
-      back-number 4 b (startOf sh 3) (length (st .log)) _ (omega (arith, t .room, t .counted))
-      (drop-all l 3 (startOf sh 3) (lit< tt) refl ∙ append-assoc (le 4 (length (st .log))) (flat entryBytes (st .log) ++ zeroBytes (24 * (sh .c - length (st .log)))) _)
+      back-number 4 b (startOf sh 3) (length (st .logged .log)) _ (omega (arith, t .room, t .counted))
+      (drop-all l 3 (startOf sh 3) (lit< tt) refl ∙ append-assoc (le 4 (length (st .logged .log))) (flat entryBytes (st .logged .log) ++ zeroBytes (24 * (sh .c - length (st .logged .log)))) _)
 
-  log-block : logIn sh b ≡ flat entryBytes (st .log)
+  log-block : logIn sh b ≡ flat entryBytes (st .logged .log)
   unfolding tableBytes
   log-block =
-      let n = 24 * length (st .log) in
-      let x = flat entryBytes (st .log) in
-      let z = zeroBytes (24 * (sh .c - length (st .log))) in
-      let m : length x ≡ n = flat-long entryBytes 24 long-entry (st .log) in
+      let n = 24 * length (st .logged .log) in
+      let x = flat entryBytes (st .logged .log) in
+      let z = zeroBytes (24 * (sh .c - length (st .logged .log))) in
+      let m : length x ≡ n = flat-long entryBytes 24 long-entry (st .logged .log) in
       ap (λ (k : ℕ). part b (startOf sh 3 + 4) (24 * k)) log-counted
       ∙ get-in l 3 4 (startOf sh 3 + 4) n (lit< tt) refl (omega (arith, t .room))
-      ∙ part-past (le 4 (length (st .log))) (x ++ z) 4 4 n (length-le 4 (length (st .log))) (lit≤ tt)
+      ∙ part-past (le 4 (length (st .logged .log))) (x ++ z) 4 4 n (length-le 4 (length (st .logged .log))) (lit≤ tt)
       ∙ part-front x z 0 n (omega arith)
       ∙ part-whole x n (omega arith)
 
   module _ (f : Sender sh st) where
     -- kind 8
-    pub vote-sent : st .group < sh .s → st .normal < 256 ^ 4 → st .sync < 256 ^ 8 → messageBytes sh b (voteIn sh b) (logIn sh b) ≡ wireBytes (sendLeader sh st 8 (st .group) (st .normal ∷ st .sync ∷ []) (st .log))
+    pub vote-sent : st .site .group < sh .s → st .view .normal < 256 ^ 4 → st .logged .sync < 256 ^ 8 → messageBytes sh b (voteIn sh b) (logIn sh b) ≡ wireBytes (sendLeader sh st 8 (st .site .group) (st .view .normal ∷ st .logged .sync ∷ []) (st .logged .log))
     vote-sent h fn fs =
-        let en : num b 12 4 ≡ st .normal = get-head l 5 12 4 (st .normal) (lit< tt) (simp length-le) (lit≤ tt) refl fn in
-        let es : num b 24 8 ≡ st .sync = get-head l 7 24 8 (st .sync) (lit< tt) (simp length-le) (lit≤ tt) refl fs in
-        message-sent l f (voteIn sh b) (logIn sh b) 8 (st .group) (only (leader (sh .n) (st .gVec) (st .group))) (st .normal ∷ st .sync ∷ []) (st .log)
-        (ap (λ (g : ℕ). headedIn b 8 g (only (leaderIn sh b g))) (own-group l f) ∙ ap (λ (v : ℕ). headedIn b 8 (st .group) (only (v % sh .n))) (view-in l f (st .group) h))
+        let en : num b 12 4 ≡ st .view .normal = get-head l 5 12 4 (st .view .normal) (lit< tt) (simp length-le) (lit≤ tt) refl fn in
+        let es : num b 24 8 ≡ st .logged .sync = get-head l 7 24 8 (st .logged .sync) (lit< tt) (simp length-le) (lit≤ tt) refl fs in
+        message-sent l f (voteIn sh b) (logIn sh b) 8 (st .site .group) (only (leader (sh .n) (st .view .gVec) (st .site .group))) (st .view .normal ∷ st .logged .sync ∷ []) (st .logged .log)
+        (ap (λ (g : ℕ). headedIn b 8 g (only (leaderIn sh b g))) (own-group l f) ∙ ap (λ (v : ℕ). headedIn b 8 (st .site .group) (only (v % sh .n))) (view-in l f (st .site .group) h))
         (rw (en, es)) log-block (t .each)
 
-    pub vote-long : length (wireBytes (sendLeader sh st 8 (st .group) (st .normal ∷ st .sync ∷ []) (st .log))) ≡ lengthFor (sh .s) 8 (length (st .log))
+    pub vote-long : length (wireBytes (sendLeader sh st 8 (st .site .group) (st .view .normal ∷ st .logged .sync ∷ []) (st .logged .log))) ≡ lengthFor (sh .s) 8 (length (st .logged .log))
     unfolding pick
-    vote-long = sent-length (sh .s) st 8 (st .group) (only (leader (sh .n) (st .gVec) (st .group))) (st .normal ∷ st .sync ∷ []) (st .log) (f .places) refl refl
+    vote-long = sent-length (sh .s) st 8 (st .site .group) (only (leader (sh .n) (st .view .gVec) (st .site .group))) (st .view .normal ∷ st .logged .sync ∷ []) (st .logged .log) (f .places) refl refl
 
     -- kind 9
-    pub start-sent : messageBytes sh b (startIn sh b) (logIn sh b) ≡ wireBytes (sendFollowers sh st 9 (st .log))
+    pub start-sent : messageBytes sh b (startIn sh b) (logIn sh b) ≡ wireBytes (sendFollowers sh st 9 (st .logged .log))
     start-sent =
-        message-sent l f (startIn sh b) (logIn sh b) 9 (st .group) (others (sh .n) (st .replica)) [] (st .log)
-        (ap (λ (g : ℕ). headedIn b 9 g (others (sh .n) (num b 1 1))) (own-group l f) ∙ ap (λ (r : ℕ). headedIn b 9 (st .group) (others (sh .n) r)) (own-replica l f))
+        message-sent l f (startIn sh b) (logIn sh b) 9 (st .site .group) (others (sh .n) (st .site .replica)) [] (st .logged .log)
+        (ap (λ (g : ℕ). headedIn b 9 g (others (sh .n) (num b 1 1))) (own-group l f) ∙ ap (λ (r : ℕ). headedIn b 9 (st .site .group) (others (sh .n) r)) (own-replica l f))
         refl log-block (t .each)
 
-    pub start-long : length (wireBytes (sendFollowers sh st 9 (st .log))) ≡ lengthFor (sh .s) 9 (length (st .log))
+    pub start-long : length (wireBytes (sendFollowers sh st 9 (st .logged .log))) ≡ lengthFor (sh .s) 9 (length (st .logged .log))
     unfolding pick
-    start-long = sent-length (sh .s) st 9 (st .group) (others (sh .n) (st .replica)) [] (st .log) (f .places) refl refl
+    start-long = sent-length (sh .s) st 9 (st .site .group) (others (sh .n) (st .site .replica)) [] (st .logged .log) (f .places) refl refl

@@ -8,7 +8,8 @@ use mathlib.Core.Bool.{true, false}
 use lib.Dec.{leb}
 use borrow.Author.Tests.{le-leb, lt-leb}
 use Rattle.octets.specs.Bytes.{num, items}
-use Rattle.rules.specs.Wire.{Wire, bare, known, tagOf, headerIn}
+use Rattle.rules.specs.Wire.{Wire, tagOf, headerIn}
+use Rattle.rules.specs.Kind.{bare, known}
 use Rattle.rules.specs.Read.{wireIn, entriesAt, lengthFor, entryAt}
 use Rattle.rules.specs.State.{State}
 use Rattle.rules.specs.Image.{image, stateOf}

@@ -21,26 +21,26 @@ use Rattle.handler.specs.Sending.{headedIn, leaderIn}
 
 -- whether the own replica leads its group by a gVec
 abbrev pub leadsWith : Shape → State → List ℕ → Bool
-leadsWith sh st gVec = eqb (st .replica) (leader (sh .n) gVec (st .group))
+leadsWith sh st gVec = eqb (st .site .replica) (leader (sh .n) gVec (st .site .group))
 
 -- a leader's own vote alone, or none
 abbrev pub firstKept : Shape → State → Bool → List (Option Vote)
-firstKept sh st leads = pick leads (set (replicate (sh .n) none) (st .replica) (some (ownVote st))) (replicate (sh .n) none)
+firstKept sh st leads = pick leads (set (replicate (sh .n) none) (st .site .replica) (some (ownVote st))) (replicate (sh .n) none)
 
 -- a view entered, by whether the site leads in it
 abbrev pub enteredBy : Shape → State → ℕ → List ℕ → Bool → State
 enteredBy sh st view gVec leads =
     record {
-      group = st .group;
-      replica = st .replica;
+      group = st .site .group;
+      replica = st .site .replica;
       view = view;
       gVec = gVec;
-      normal = st .normal;
+      normal = st .view .normal;
       status = 2;
       clock = st .clock;
-      sync = st .sync;
-      commit = st .commit;
-      log = st .log;
+      sync = st .logged .sync;
+      commit = st .logged .commit;
+      log = st .logged .log;
       early = [];
       late = [];
       notes = [];

@@ -46,7 +46,7 @@ pub fn on_commit(
 // Kind 10, once nothing refuses it: keeps the point that a follower reports, raises the commit point by it, and gives the commit point.
 pub fn keep_status(shape: Shape, state: &mut [u8], from: u64, point: u64, len: u64) -> u64
     requires { ⌜ Stands shape (stateOf shape (now state)) (now state) × (from < shape .n) ⌝ }
-    ensures { λ r. ⌜ (r ≡ commitPoint (shape .n) (stateOf shape (now (state .entry)) .replica) len (set (stateOf shape (now (state .entry)) .heard) from (some point)) (stateOf shape (now (state .entry)) .commit)) × (now (state .exit) ≡ image shape (committed (stateOf shape (now (state .entry))) r (set (stateOf shape (now (state .entry)) .heard) from (some point)))) ⌝ }
+    ensures { λ r. ⌜ (r ≡ commitPoint (shape .n) (stateOf shape (now (state .entry)) .site .replica) len (set (stateOf shape (now (state .entry)) .heard) from (some point)) (stateOf shape (now (state .entry)) .logged .commit)) × (now (state .exit) ≡ image shape (committed (stateOf shape (now (state .entry))) r (set (stateOf shape (now (state .entry)) .heard) from (some point)))) ⌝ }
 {
     places::put_heard(shape, state, from, point);
     let layout = places::places_of(shape);
@@ -72,7 +72,7 @@ fn is_stale(shape: Shape, state: &[u8], from: u64, point: u64) -> bool
 // The length of the own log.
 fn log_length(shape: Shape, state: &[u8]) -> u64
     requires { ⌜ Stands shape (stateOf shape (now state)) (now state) ⌝ }
-    ensures { λ r. ⌜ r ≡ length (stateOf shape (now (state .entry)) .log) ⌝ }
+    ensures { λ r. ⌜ r ≡ length (stateOf shape (now (state .entry)) .logged .log) ⌝ }
 {
     let place = places::places_of(shape).log;
     octets::get32(state, place) as u64

@@ -8,7 +8,7 @@ use lib.Dec.{eqb, ltb, leb}
 use borrow.Author.Tests.{lt-leb}
 use Rattle.rules.specs.Choice.{pick, when, allOf}
 use Rattle.rules.specs.Entry.{latest, stampFits}
-use Rattle.rules.specs.Wire.{viewsIn, numbersIn}
+use Rattle.rules.specs.Kind.{viewsIn, numbersIn}
 use Rattle.rules.specs.Read.{Fields, Row, _to_is_, bodyRows, numberRow, numbersAt, entriesAt, firstFits, secondFits, entriesFit, firstWrong}
 use Rattle.rules.specs.declared.Verdict.{Verdict}
 use Rattle.rules.specs.declared.Verdict.the-variants.{Fine, Wrong}

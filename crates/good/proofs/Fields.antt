@@ -73,24 +73,24 @@ row-in get b a k n o e h =
 -- ---- the fields
 
 pub record Fields (sh : Shape) (b : List ℕ) (st : State) : Type 0 where
-  pub group : st .group ≡ num b 0 1
-  pub replica : st .replica ≡ num b 1 1
-  pub status : st .status ≡ num b 2 1
-  pub view : st .view ≡ num b 8 4
-  pub normal : st .normal ≡ num b 12 4
+  pub group : st .site .group ≡ num b 0 1
+  pub replica : st .site .replica ≡ num b 1 1
+  pub status : st .view .status ≡ num b 2 1
+  pub view : st .view .gView ≡ num b 8 4
+  pub normal : st .view .normal ≡ num b 12 4
   pub clock : st .clock ≡ num b 16 8
-  pub sync : st .sync ≡ num b 24 8
-  pub commit : st .commit ≡ num b 32 8
-  pub boundary : st .boundary ≡ num b 40 8
-  pub gVec : st .gVec ≡ items (λ a. num b a 4) 4 (startOf sh 1) (sh .s)
+  pub sync : st .logged .sync ≡ num b 24 8
+  pub commit : st .logged .commit ≡ num b 32 8
+  pub boundary : st .change .boundary ≡ num b 40 8
+  pub gVec : st .view .gVec ≡ items (λ a. num b a 4) 4 (startOf sh 1) (sh .s)
   pub heard : st .heard ≡ items (pointAt b) 9 (startOf sh 2) (sh .n)
-  pub log : st .log ≡ tableAt (sh .c) b (startOf sh 3)
-  pub early : st .early ≡ tableAt (sh .c) b (startOf sh 4)
-  pub late : st .late ≡ tableAt (sh .c) b (startOf sh 5)
-  pub notes : st .notes ≡ notesAt (sh .c) (sh .s) (part b (startOf sh 6) (4 + noteLength (sh .s) * sh .c))
-  pub votes : st .votes ≡ items (voteAt (sh .c) b) (voteLength (sh .c)) (startOf sh 7) (sh .n)
-  pub draft : st .draft ≡ tableAt (sh .c) b (startOf sh 8)
-  pub replies : st .replies ≡ items (replyAt (sh .c) b) (replyLength (sh .c)) (startOf sh 9) (sh .s)
+  pub log : st .logged .log ≡ tableAt (sh .c) b (startOf sh 3)
+  pub early : st .waiting .early ≡ tableAt (sh .c) b (startOf sh 4)
+  pub late : st .waiting .late ≡ tableAt (sh .c) b (startOf sh 5)
+  pub notes : st .waiting .notes ≡ notesAt (sh .c) (sh .s) (part b (startOf sh 6) (4 + noteLength (sh .s) * sh .c))
+  pub votes : st .change .votes ≡ items (voteAt (sh .c) b) (voteLength (sh .c)) (startOf sh 7) (sh .n)
+  pub draft : st .change .draft ≡ tableAt (sh .c) b (startOf sh 8)
+  pub replies : st .change .replies ≡ items (replyAt (sh .c) b) (replyLength (sh .c)) (startOf sh 9) (sh .s)
 
 module _ (sh : Shape) (b : List ℕ) (size : length b ≡ stateLength sh) where
   pub fields : Fields sh b (stateOf sh b)
@@ -131,5 +131,5 @@ module _ (sh : Shape) (b : List ℕ) (size : length b ≡ stateLength sh) where
       }
 
   -- the own group's view
-  pub view-of : (j : ℕ) → j < sh .s → getD (stateOf sh b .gVec) j 0 ≡ num b (startOf sh 1 + 4 * j) 4
+  pub view-of : (j : ℕ) → j < sh .s → getD (stateOf sh b .view .gVec) j 0 ≡ num b (startOf sh 1 + 4 * j) 4
   view-of j l = ap (λ (xs : List ℕ). getD xs j 0) (fields .gVec) ∙ getD-items (λ a. num b a 4) 4 (startOf sh 1) (sh .s) j 0 l

@@ -9,7 +9,7 @@ ghost use lib.Dec.{eqb, leb};
 ghost use lib.ListN.{length};
 ghost use Rattle.octets.specs.Bytes.{num, items, flat, part};
 ghost use Rattle.rules.specs.Choice.{pick, every, passes, below, same};
-ghost use Rattle.rules.specs.Entry.{lastStamp};
+ghost use Rattle.rules.specs.Log.{lastStamp};
 ghost use Rattle.rules.specs.Log.{goodLog, distinct};
 ghost use Rattle.rules.specs.State.{viewGood, heardGood, voteGood, replyGood, keptGood, noteFits, notesDistinct};
 ghost use Rattle.rules.specs.State as rule;
@@ -387,7 +387,7 @@ fn noting_good(shape: Shape, state: &[u8], t: &[u8]) -> bool
 // Whether the notes have their form and are in range.
 fn notes_fit(shape: Shape, state: &[u8]) -> bool
     requires { ⌜ Sized shape (now state) ⌝ }
-    ensures { λ r. ⌜ r ≡ (sectionForm shape (now (state .entry)) 6 && every noteFits (stateOf shape (now (state .entry)) .notes)) ⌝ }
+    ensures { λ r. ⌜ r ≡ (sectionForm shape (now (state .entry)) 6 && every noteFits (stateOf shape (now (state .entry)) .waiting .notes)) ⌝ }
 {
     let layout = places::places_of(shape);
     let from = layout.notes;

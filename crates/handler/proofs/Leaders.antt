@@ -39,8 +39,8 @@ all-hold s j h l = below-at (λ j. holds (2 ^ s - 1) j) s (below-at (λ s. every
 
 pub all-others : (sh : Shape) (st : State) → sh .s ≤ 8 → otherGroups sh st (λ j. true) ≡ otherGroups sh st (holds (2 ^ sh .s - 1))
 all-others sh st h =
-    keep-ext (λ j. not (eqb j (st .group)) && true) (λ j. not (eqb j (st .group)) && holds (2 ^ sh .s - 1) j) (below (sh .s))
-    (all-map (λ j l. ap (λ (t : Bool). not (eqb j (st .group)) && t) (sym (all-hold (sh .s) j h l))) (below (sh .s)) (all-below (sh .s)))
+    keep-ext (λ j. not (eqb j (st .site .group)) && true) (λ j. not (eqb j (st .site .group)) && holds (2 ^ sh .s - 1) j) (below (sh .s))
+    (all-map (λ j l. ap (λ (t : Bool). not (eqb j (st .site .group)) && t) (sym (all-hold (sh .s) j h l))) (below (sh .s)) (all-below (sh .s)))
 
 module _ {sh : Shape} {st : State} {b : List ℕ} (l : Laid sh st b) (f : Sender sh st) where
   -- the other groups of a mask, by the bytes and by the state
@@ -51,7 +51,7 @@ module _ {sh : Shape} {st : State} {b : List ℕ} (l : Laid sh st b) (f : Sender
     leader-sent : (j : ℕ) → j < sh .s → leaderBytes sh b kind number entries j ≡ wireBytes (sendLeader sh st kind j xs es)
     unfolding leaderBytes
     leader-sent j u =
-        message-sent l f (askedOf kind number (headedIn b kind j (only (leaderIn sh b j)))) entries kind j (only (leader (sh .n) (st .gVec) j)) xs es
+        message-sent l f (askedOf kind number (headedIn b kind j (only (leaderIn sh b j)))) entries kind j (only (leader (sh .n) (st .view .gVec) j)) xs es
         (h _ ∙ ap (λ (v : ℕ). headedIn b kind j (only (v % sh .n))) (view-in l f j u))
         (q _) e fe
 

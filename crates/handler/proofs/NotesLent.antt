@@ -15,8 +15,8 @@ use Rattle.notes.specs.Notes.{NotesHold}
 use Rattle.notes.proofs.Notes.{hold-section, held-section}
 
 module _ {sh : Shape} {st : State} {b : List ℕ} (l : Laid sh st b) where
-  pub notes-lent : (at n : ℕ) → Fits sh → NotesFit sh (st .notes) → at ≡ startOf sh 6 → n ≡ 4 + noteLength (sh .s) * sh .c → NotesHold (sh .c) (sh .s) (st .notes) (take n (drop at b))
-  notes-lent at n s f e m = hold-section sh (st .notes) (take n (drop at b)) (lent l 6 at n (lit< tt) e m) f (s .small) (s .few)
+  pub notes-lent : (at n : ℕ) → Fits sh → NotesFit sh (st .waiting .notes) → at ≡ startOf sh 6 → n ≡ 4 + noteLength (sh .s) * sh .c → NotesHold (sh .c) (sh .s) (st .waiting .notes) (take n (drop at b))
+  notes-lent at n s f e m = hold-section sh (st .waiting .notes) (take n (drop at b)) (lent l 6 at n (lit< tt) e m) f (s .small) (s .few)
 
   pub notes-home : {b′ x : List ℕ} (at n : ℕ) (xs : List Note) → NotesHold (sh .c) (sh .s) xs x → at ≡ startOf sh 6 → n ≡ 4 + noteLength (sh .s) * sh .c → b′ ≡ take at b ++ (x ++ drop n (drop at b)) → Laid sh (withNotes st xs) b′
   unfolding headSection

@@ -15,11 +15,11 @@ use Rattle.places.proofs.Head.{group-of, replica-of}
 use Rattle.places.proofs.Kept.{view-at}
 
 module _ {sh : Shape} {st : State} {b : List ℕ} (s : Stands sh st b) where
-  pub group-below : st .group < sh .s
+  pub group-below : st .site .group < sh .s
   unfolding good rangesGood
   group-below = ltb-true _ _ (split _ (split _ (s .good) 10) 0)
 
-  pub replica-below : st .replica < sh .n
+  pub replica-below : st .site .replica < sh .n
   unfolding good rangesGood
   replica-below = ltb-true _ _ (split _ (split _ (s .good) 10) 1)
 
@@ -28,5 +28,5 @@ module _ {sh : Shape} {st : State} {b : List ℕ} (s : Stands sh st b) where
 
   pub leads-is : (own view replica : ℕ) (r : Bool) → own ≡ num b 0 1 → view ≡ num b (startOf sh 1 + 4 * own) 4 → replica ≡ num b 1 1 → r ≡ eqb replica (view % sh .n) → r ≡ leads sh st
   leads-is own view replica r e v q h =
-      let g : own ≡ st .group = e ∙ group-of s in
+      let g : own ≡ st .site .group = e ∙ group-of s in
       h ∙ rw (q ∙ replica-of s, v ∙ view-at s own (own-below own e), g)

@@ -14,7 +14,8 @@ use Rattle.rules.specs.Choice.{pick}
 use Rattle.rules.specs.Group.{sizesFit}
 use Rattle.rules.specs.Entry.{noEntry, entryOf}
 use Rattle.rules.specs.Log.{goodLog}
-use Rattle.rules.specs.Wire.{Wire, firstEntry, fromOutside, bare, withOne, withLog, known, viewsIn, numbersIn, headerOf, caseOf, tagOf, headerIn, numbersOf}
+use Rattle.rules.specs.Wire.{Wire, firstEntry, headerOf, caseOf, tagOf, headerIn, numbersOf}
+use Rattle.rules.specs.Kind.{fromOutside, bare, withOne, withLog, known, viewsIn, numbersIn}
 use Rattle.rules.specs.Wire as wires
 use Rattle.rules.specs.Read.{Read, malformed, message, read, wireIn, fieldsOf, entriesAt, lengthFor, entryAt, caseRead, decoded, formed}
 use Rattle.rules.specs.Image.{stateOf}
@@ -174,12 +175,12 @@ module _ (sh : Shape) (b msg : List ℕ) (m : Message) (r : Ready sh b m msg) wh
   ready-told = told (sh .n) (sh .s) m msg (r .told)
 
   -- it is for the own group
-  pub ready-group : known (tagOf m) ≡ true → headerIn m .«to_group» ≡ stateOf sh b .group
+  pub ready-group : known (tagOf m) ≡ true → headerIn m .«to_group» ≡ stateOf sh b .site .group
   ready-group e =
       ap (λ (h : Header). h .«to_group») (sym (ready-told e .header))
-      ∙ eqb-true _ _ (and-left (eqb (wireIn (sh .s) msg .toGroup) (stateOf sh b .group)) _ (r .here))
+      ∙ eqb-true _ _ (and-left (eqb (wireIn (sh .s) msg .toGroup) (stateOf sh b .site .group)) _ (r .here))
 
-  pub ready-log : Bytes msg → withLog (tagOf m) ≡ true → goodLog (sh .s) (stateOf sh b .group) (wireIn (sh .s) msg .entries) ≡ true
+  pub ready-log : Bytes msg → withLog (tagOf m) ≡ true → goodLog (sh .s) (stateOf sh b .site .group) (wireIn (sh .s) msg .entries) ≡ true
   ready-log bs e =
       let k : known (tagOf m) ≡ true = log-known (tagOf m) e in
       ap (λ (g : ℕ). goodLog (sh .s) g (wireIn (sh .s) msg .entries)) (sym (ready-group k)) ∙ told-log (sh .n) (sh .s) m msg (ready-told k) bs e

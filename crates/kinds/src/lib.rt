@@ -1,7 +1,7 @@
 // The kinds of messages: which sections each has, and where they stand.
 ghost use mathlib.Core.Path.{_≡_};
 ghost use Prim.Native.Nat.{ℕ, _+_, _*_, _^_, _≤_, _<_};
-ghost use Rattle.rules.specs.Wire as kinds;
+ghost use Rattle.rules.specs.Kind as kinds;
 ghost use Rattle.rules.specs.Read as reading;
 
 // Whether it comes from outside every group.

@@ -50,7 +50,7 @@ some-is (some es) h = (es, refl)
 
 -- the replies with that of one group put in
 abbrev pub withReply : State → ℕ → List Entry → List (Option (List Entry))
-withReply st from es = set (st .replies) from (some es)
+withReply st from es = set (st .change .replies) from (some es)
 
 module _ {sh : Shape} {st : State} {b : List ℕ} (s : Stands sh st b) (j : ℕ) (h : j < sh .s) (f : Bool) (a len : ℕ) (g : f ≡ isSome (replyAt (sh .c) b (startOf sh 9 + replyLength (sh .c) * j))) (q : f ≡ true) (ha : PlaceAt sh 9 (replyLength (sh .c)) j a) (hl : len ≡ tableLength (sh .c)) where
   -- the table of a reply that is kept
@@ -67,12 +67,12 @@ module _ {sh : Shape} {st : State} {b : List ℕ} (s : Stands sh st b) (j : ℕ)
 module _ {sh : Shape} {st : State} {b : List ℕ} (s : Stands sh st b) (from : ℕ) (es : List Entry) where
   own : (j : ℕ) → j < sh .s → j ≡ from → getD (withReply st from es) j none ≡ some es
   own j h q =
-      let m : length (st .replies) ≡ sh .s = stands-fits s .replyPlaces in
-      let l : from < length (st .replies) = omega arith in
-      rw q (getD-set-same (st .replies) from (some es) none l)
+      let m : length (st .change .replies) ≡ sh .s = stands-fits s .replyPlaces in
+      let l : from < length (st .change .replies) = omega arith in
+      rw q (getD-set-same (st .change .replies) from (some es) none l)
 
   other : (j : ℕ) → j < sh .s → (j ≡ from → ⊥) → getD (withReply st from es) j none ≡ replyAt (sh .c) b (startOf sh 9 + replyLength (sh .c) * j)
-  other j h n = getD-set-other (st .replies) from j (some es) none n ∙ sym (reply-at s j h)
+  other j h n = getD-set-other (st .change .replies) from j (some es) none n ∙ sym (reply-at s j h)
 
   -- the ways of taking it in
   module _ (j c : ℕ) (h : j < sh .s) (ds : List Entry) where
@@ -95,14 +95,14 @@ module _ {sh : Shape} {st : State} {b : List ℕ} (s : Stands sh st b) (from : �
 -- ---- the draft, and the replies of the first j groups
 
 -- the draft's table, copied over bytes of its length
-pub draft-copied : {sh : Shape} {st : State} {b : List ℕ} → Stands sh st b → (at len : ℕ) (t u : List ℕ) → at ≡ startOf sh 8 → len ≡ tableLength (sh .c) → length t ≡ 4 + 24 * sh .c → u ≡ splice t 0 (take (at + len - at) (drop at b)) → Holds (sh .c) (st .draft) u
+pub draft-copied : {sh : Shape} {st : State} {b : List ℕ} → Stands sh st b → (at len : ℕ) (t u : List ℕ) → at ≡ startOf sh 8 → len ≡ tableLength (sh .c) → length t ≡ 4 + 24 * sh .c → u ≡ splice t 0 (take (at + len - at) (drop at b)) → Holds (sh .c) (st .change .draft) u
 draft-copied {sh} {st} {b} s at len t u ha hl ht q =
     let m : at + len - at ≡ tableLength (sh .c) = omega arith in
-    let k : Holds (sh .c) (st .draft) (take (at + len - at) (drop at b)) = draft-lent (stands-laid s) at (at + len - at) (s .fits) (stands-fits s .draft) ha m in
+    let k : Holds (sh .c) (st .change .draft) (take (at + len - at) (drop at b)) = draft-lent (stands-laid s) at (at + len - at) (s .fits) (stands-fits s .draft) ha m in
     rw (q ∙ splice-whole t (take (at + len - at) (drop at b)) (k .size ∙ sym ht)) k
 
 pub replies-long : {sh : Shape} {st : State} {b : List ℕ} → Stands sh st b → (from : ℕ) (es : List Entry) → length (withReply st from es) ≡ sh .s
-replies-long {st = st} s from es = length-set (st .replies) from (some es) ∙ stands-fits s .replyPlaces
+replies-long {st = st} s from es = length-set (st .change .replies) from (some es) ∙ stands-fits s .replyPlaces
 
 module _ (draft : List Entry) (rs : List (Option (List Entry))) where
   abbrev pub mergedTo : ℕ → List Entry

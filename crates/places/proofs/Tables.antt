@@ -16,19 +16,19 @@ use Rattle.places.proofs.Sections.{get-all, put-all}
 
 module _ {sh : Shape} {st : State} {b : List ℕ} (l : Laid sh st b) where
   -- ---- read
-  pub log-part : part b (startOf sh 3) (tableLength (sh .c)) ≡ tableBytes (sh .c) (st .log)
+  pub log-part : part b (startOf sh 3) (tableLength (sh .c)) ≡ tableBytes (sh .c) (st .logged .log)
   log-part = get-all l 3 (startOf sh 3) (tableLength (sh .c)) (lit< tt) refl refl
 
-  pub early-part : part b (startOf sh 4) (tableLength (sh .c)) ≡ tableBytes (sh .c) (st .early)
+  pub early-part : part b (startOf sh 4) (tableLength (sh .c)) ≡ tableBytes (sh .c) (st .waiting .early)
   early-part = get-all l 4 (startOf sh 4) (tableLength (sh .c)) (lit< tt) refl refl
 
-  pub late-part : part b (startOf sh 5) (tableLength (sh .c)) ≡ tableBytes (sh .c) (st .late)
+  pub late-part : part b (startOf sh 5) (tableLength (sh .c)) ≡ tableBytes (sh .c) (st .waiting .late)
   late-part = get-all l 5 (startOf sh 5) (tableLength (sh .c)) (lit< tt) refl refl
 
-  pub notes-part : part b (startOf sh 6) (4 + noteLength (sh .s) * sh .c) ≡ notesSection sh (st .notes)
+  pub notes-part : part b (startOf sh 6) (4 + noteLength (sh .s) * sh .c) ≡ notesSection sh (st .waiting .notes)
   notes-part = get-all l 6 (startOf sh 6) (4 + noteLength (sh .s) * sh .c) (lit< tt) refl refl
 
-  pub draft-part : part b (startOf sh 8) (tableLength (sh .c)) ≡ tableBytes (sh .c) (st .draft)
+  pub draft-part : part b (startOf sh 8) (tableLength (sh .c)) ≡ tableBytes (sh .c) (st .change .draft)
   draft-part = get-all l 8 (startOf sh 8) (tableLength (sh .c)) (lit< tt) refl refl
 
   -- ---- written

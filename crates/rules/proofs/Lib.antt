@@ -1,18 +1,23 @@
 -- What follows from the definitions. Round trips: a state and its bytes (Good), a message and its bytes (Messages), a case and its message (Case). The starred numbers (Cases).
+-- A good state by its conjuncts (Conjuncts), the table of kinds row by row (EachKind), the commit rule in the paper's words (Counted), what an answer says (Answers).
 -- The order, good logs, the rebuild and the merge. Runs of a group (Run, RunSafe). A good state stays good (Kept, KeptBytes), and what is sent is well formed (Sent).
 pub mod Tests
+pub mod Conjuncts
 pub mod Entries
 pub mod Tables
 pub mod Image
 pub mod Good
 pub mod Verdicts
 pub mod EachKind
+pub mod KindsWritten
 pub mod Messages
 pub mod Case
 pub mod Choice
 pub mod Cases
 pub mod NotKept
 pub mod Digest
+pub mod Answers
+pub mod Counted
 pub mod Order
 pub mod Logs
 pub mod Rebuilt

@@ -4,7 +4,8 @@ use mathlib.Core.Path.{_≡_, ap}
 use mathlib.Core.List.{List}
 use native.Mathlib.Omega.{arith}
 use lib.Dec.{leb}
-use Rattle.rules.specs.Entry.{lastStamp, mayFollow, followsLast, leaderStamp}
+use Rattle.rules.specs.Log.{lastStamp, followsLast, leaderStamp}
+use Rattle.rules.specs.Entry.{mayFollow}
 use Rattle.rules.specs.declared.Entry.{Entry}
 
 -- an entry may follow where it is not below the last

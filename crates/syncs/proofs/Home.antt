@@ -9,9 +9,9 @@ use lib.Seq.{take-at, drop-at}
 use Rattle.octets.specs.Bytes.{le, part, splice}
 use Rattle.octets.proofs.Laws.{part-add, splice-home, splice-splice-next}
 use Rattle.rules.specs.Choice.{keep}
-use Rattle.rules.specs.Entry.{lastStamp}
+use Rattle.rules.specs.Log.{lastStamp}
 use Rattle.rules.specs.State.{State}
-use Rattle.rules.specs.Step.{staysEarly, notesWithout}
+use Rattle.rules.specs.Early.{staysEarly, notesWithout}
 use Rattle.rules.specs.Image.{tableLength, noteLength, tableBytes, image}
 use Rattle.rules.specs.declared.Entry.{Entry}
 use Rattle.rules.specs.declared.Shape.{Shape}
@@ -36,19 +36,19 @@ module _ {sh : Shape} {st : State} {b : List ℕ} (l : Laid sh st b) (at n : ℕ
   next : startOf sh 5 ≡ startOf sh 4 + tableLength (sh .c)
   next = omega arith
 
-  both-bytes : take n (drop at b) ≡ tableBytes (sh .c) (st .early) ++ tableBytes (sh .c) (st .late)
+  both-bytes : take n (drop at b) ≡ tableBytes (sh .c) (st .waiting .early) ++ tableBytes (sh .c) (st .waiting .late)
   unfolding part
   both-bytes = rw (e, m) (part-add b (startOf sh 4) (tableLength (sh .c)) (tableLength (sh .c)) ∙ ap₂ _++_ (tables.early-part l) (ap (λ (a : ℕ). part b a (tableLength (sh .c))) (sym next) ∙ tables.late-part l))
 
-  pub both-lent : Fits sh → TableFits (sh .c) (st .early) → TableFits (sh .c) (st .late) → BothHold (sh .c) (st .early) (st .late) (take n (drop at b))
+  pub both-lent : Fits sh → TableFits (sh .c) (st .waiting .early) → TableFits (sh .c) (st .waiting .late) → BothHold (sh .c) (st .waiting .early) (st .waiting .late) (take n (drop at b))
   both-lent s fe fl =
-      let x : List ℕ = tableBytes (sh .c) (st .early) in
-      let y : List ℕ = tableBytes (sh .c) (st .late) in
-      let lx : length x ≡ 4 + 24 * sh .c = table-long (sh .c) (st .early) (fe .room) in
-      let ly : length y ≡ 4 + 24 * sh .c = table-long (sh .c) (st .late) (fl .room) in
+      let x : List ℕ = tableBytes (sh .c) (st .waiting .early) in
+      let y : List ℕ = tableBytes (sh .c) (st .waiting .late) in
+      let lx : length x ≡ 4 + 24 * sh .c = table-long (sh .c) (st .waiting .early) (fe .room) in
+      let ly : length y ≡ 4 + 24 * sh .c = table-long (sh .c) (st .waiting .late) (fl .room) in
       rw both-bytes (record {
-        early = hold (sh .c) (st .early) _ (take-at x y (4 + 24 * sh .c) lx) (fe .room) (s .small) (fe .each);
-        late = hold (sh .c) (st .late) _ (drop-at x y (4 + 24 * sh .c) lx) (fl .room) (s .small) (fl .each);
+        early = hold (sh .c) (st .waiting .early) _ (take-at x y (4 + 24 * sh .c) lx) (fe .room) (s .small) (fe .each);
+        late = hold (sh .c) (st .waiting .late) _ (drop-at x y (4 + 24 * sh .c) lx) (fl .room) (s .small) (fl .each);
         size = length-append x y ∙ ap₂ _+_ lx ly;
       })
 
@@ -70,7 +70,7 @@ module _ {sh : Shape} {st : State} {b : List ℕ} (s : Stands sh st b) (log : Li
   abbrev lent : List ℕ
   lent = take n (drop at b)
 
-  both : BothHold (sh .c) (st .early) (st .late) lent
+  both : BothHold (sh .c) (st .waiting .early) (st .waiting .late) lent
   both = both-lent (stands-laid s) at n e m (s .fits) (stands-fits s .early) (stands-fits s .late)
 
   pub is-both : Both (sh .c) lent
@@ -89,14 +89,14 @@ module _ {sh : Shape} {st : State} {b : List ℕ} (s : Stands sh st b) (log : Li
     abbrev b₁ : List ℕ
     b₁ = take at b ++ (x ++ drop n (drop at b))
 
-    laid₁ : Laid sh (withLate (withEarly st (staysEarly log (st .early))) (lateBy st log)) b₁
+    laid₁ : Laid sh (withLate (withEarly st (staysEarly log (st .waiting .early))) (lateBy st log)) b₁
     laid₁ =
-        both-home (stands-laid s) at n e m (staysEarly log (st .early)) (lateBy st log) x
-        (rw (buffers.early-is both, buffers.late-is both, hl, stays-is log (st .early), late-is st log) at k)
+        both-home (stands-laid s) at n e m (staysEarly log (st .waiting .early)) (lateBy st log) x
+        (rw (buffers.early-is both, buffers.late-is both, hl, stays-is log (st .waiting .early), late-is st log) at k)
         (omega (arith, s .size))
 
     module _ (at₂ n₂ : ℕ) (e₂ : at₂ ≡ startOf sh 6) (m₂ : n₂ ≡ 4 + noteLength (sh .s) * sh .c) where
-      noted : NotesHold (sh .c) (sh .s) (st .notes) (take n₂ (drop at₂ b₁))
+      noted : NotesHold (sh .c) (sh .s) (st .waiting .notes) (take n₂ (drop at₂ b₁))
       noted = notes-lent laid₁ at₂ n₂ (s .fits) (stands-fits s .notes) e₂ m₂
 
       pub notes-asked : Notes (sh .c) (sh .s) (take n₂ (drop at₂ b₁))
@@ -106,6 +106,6 @@ module _ {sh : Shape} {st : State} {b : List ℕ} (s : Stands sh st b) (log : Li
           → b₃ ≡ splice (take at₂ b₁ ++ (y ++ drop n₂ (drop at₂ b₁))) to (tableBytes (sh .c) log) → b₄ ≡ splice b₃ 24 (le 8 v) → v ≡ length log → b₄ ≡ image sh (syncedBy st log)
       unfolding syncedBy
       taken-over y to v b₃ b₄ k₂ r t q w z =
-          let l₂ = notes-home laid₁ {x = y} at₂ n₂ (notesWithout log (st .notes)) (rw (decoded (sh .c) (sh .s) _ _ noted) at k₂) e₂ m₂ refl in
+          let l₂ = notes-home laid₁ {x = y} at₂ n₂ (notesWithout log (st .waiting .notes)) (rw (decoded (sh .c) (sh .s) _ _ noted) at k₂) e₂ m₂ refl in
           let l₃ = tables.put-log l₂ log r (q ∙ rw t) in
           put-sync l₃ v w .bytes ∙ rw z

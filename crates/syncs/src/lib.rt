@@ -11,7 +11,8 @@ ghost use Prim.Native.Nat.{_+_, _-_, _*_, _<_, _≤_};
 ghost use lib.ListN.{length};
 ghost use Rattle.octets.specs.Bytes.{splice, flat};
 ghost use Rattle.rules.specs.Choice.{pick, keep};
-ghost use Rattle.rules.specs.Entry.{entryOf, lastStamp};
+ghost use Rattle.rules.specs.Entry.{entryOf};
+ghost use Rattle.rules.specs.Log.{lastStamp};
 ghost use Rattle.rules.specs.Wire.{wireBytes};
 ghost use Rattle.rules.specs.Read.{lengthFor};
 ghost use Rattle.rules.specs.Step.{slowReply, onReplicaSync};
@@ -153,7 +154,7 @@ fn tell_slow(
 // How long the outgoing messages are: one for each position past the sync point.
 fn slow_length(shape: Shape, state: &[u8], message: &[u8], log: Listed) -> usize
     requires { ⌜ Coming shape (now state) (now message) log ⌝ }
-    ensures { λ r. ⌜ r ≡ lengthFor (shape .s) 6 1 * (log .count - stateOf shape (now (state .entry)) .sync) ⌝ }
+    ensures { λ r. ⌜ r ≡ lengthFor (shape .s) 6 1 * (log .count - stateOf shape (now (state .entry)) .logged .sync) ⌝ }
 {
     let sync = places::get_sync(state) as usize;
     kinds::length_for(shape.s, 6, 1) * (log.count - sync)
@@ -161,7 +162,7 @@ fn slow_length(shape: Shape, state: &[u8], message: &[u8], log: Listed) -> usize
 
 // Writes kind 6 for each position past the sync point, and says where the last ends.
 fn tell_synced(shape: Shape, state: &[u8], out: &mut [u8], message: &[u8], log: Listed) -> usize
-    requires { ⌜ Coming shape (now state) (now message) log × (lengthFor (shape .s) 6 1 * (log .count - stateOf shape (now state) .sync) ≤ length (now out)) ⌝ }
+    requires { ⌜ Coming shape (now state) (now message) log × (lengthFor (shape .s) 6 1 * (log .count - stateOf shape (now state) .logged .sync) ≤ length (now out)) ⌝ }
     ensures { λ r. ⌜ (r ≡ length (flat wireBytes (slowReplies (stateOf shape (now (state .entry))) (listedIn (now (message .entry)) log)))) × (now (out .exit) ≡ splice (now (out .entry)) 0 (flat wireBytes (slowReplies (stateOf shape (now (state .entry))) (listedIn (now (message .entry)) log)))) ⌝ }
 {
     let sync = places::get_sync(state) as usize;

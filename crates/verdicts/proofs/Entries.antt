@@ -8,9 +8,9 @@ use native.Mathlib.Numerals.{add-one}
 use lib.Dec.{eqb, ltb, leb}
 use borrow.Author.Tests.{lt-ltb, ltb-true}
 use Rattle.rules.specs.Choice.{pick, when, allOf}
-use Rattle.rules.specs.Entry.{stampBefore, mayFollow}
+use Rattle.rules.specs.Entry.{lastBefore, mayFollow}
 use Rattle.rules.specs.Log.{seenBefore, stands}
-use Rattle.rules.specs.Wire.{withLog}
+use Rattle.rules.specs.Kind.{withLog}
 use Rattle.rules.specs.Read.{Fields, headRows, bodyRows, entryRows, entriesAt, firstWrong, andThen, entriesWrong, messageWrong}
 use Rattle.rules.specs.declared.Entry.{Entry}
 use Rattle.rules.specs.declared.Header.{Header}
@@ -24,16 +24,16 @@ use Rattle.fields.proofs.Rows.{and-true, and-false}
 use Rattle.verdicts.proofs.Fresh.{Limit, limit-is}
 
 module _ (s k : ℕ) (f : ℕ → Entry) (i : ℕ) where
-  stands-fresh : (last : ℕ) → last ≡ stampBefore f i → seenBefore f (f i) i ≡ false → stands s k f i ≡ standsAfter s k last (f i)
+  stands-fresh : (last : ℕ) → last ≡ lastBefore f i .stamp → seenBefore f (f i) i ≡ false → stands s k f i ≡ standsAfter s k last (f i)
   unfolding stands mayFollow allOf
   stands-fresh last e h = rw (e, h, and-true (ltb (f i .mask) _))
 
   stands-again : seenBefore f (f i) i ≡ true → stands s k f i ≡ false
   unfolding stands mayFollow allOf
-  stands-again h = rw (h, and-false (leb (stampBefore f i) (f i .stamp)))
+  stands-again h = rw (h, and-false (leb (lastBefore f i .stamp) (f i .stamp)))
 
-pub stamp-next : (f : ℕ → Entry) (i : ℕ) (e : Entry) → e ≡ f i → e .stamp ≡ stampBefore f (i + 1)
-unfolding stampBefore
+pub stamp-next : (f : ℕ → Entry) (i : ℕ) (e : Entry) → e ≡ f i → e .stamp ≡ lastBefore f (i + 1) .stamp
+unfolding lastBefore
 stamp-next f i e q = rw (add-one, q)
 
 module _ (s : ℕ) (h : Header) (f : ℕ → Entry) (whole : ℕ) where
@@ -68,7 +68,7 @@ module _ (s : ℕ) (h : Header) (f : ℕ → Entry) (whole : ℕ) where
     abbrev is : Limit log f whole seen limit
     is = rw isLimit (limit-is log f whole seen)
 
-    module _ (i last : ℕ) (e : Entry) (st : Bool) (l : i < limit) (isLast : last ≡ stampBefore f i) (isEntry : e ≡ f i) (isStanding : st ≡ standsAfter s (h .«to_group») last e) where
+    module _ (i last : ℕ) (e : Entry) (st : Bool) (l : i < limit) (isLast : last ≡ lastBefore f i .stamp) (isEntry : e ≡ f i) (isStanding : st ≡ standsAfter s (h .«to_group») last e) where
       standing-is : when (withLog (h .kind) && ltb i whole) (stands s (h .«to_group») f i) ≡ (not (log && ltb i whole) || st)
       standing-is = rw (← isLog) (go (log && ltb i whole) refl)
         where

@@ -12,7 +12,8 @@ use Rattle.octets.proofs.Laws.{Bytes, length-le, length-splice, splice-splice-n
 use Rattle.rules.specs.Choice.{pick}
 use Rattle.rules.specs.Group.{only}
 use Rattle.rules.specs.Entry.{ordered}
-use Rattle.rules.specs.Wire.{Wire, known, fromOutside, entryBytes, headBytes, wireBytes, tagOf, headerIn, numbersOf}
+use Rattle.rules.specs.Wire.{Wire, entryBytes, headBytes, wireBytes, tagOf, headerIn, numbersOf}
+use Rattle.rules.specs.Kind.{known, fromOutside}
 use Rattle.rules.specs.Wire as wires
 use Rattle.rules.specs.Read.{wireIn, lengthFor}
 use Rattle.rules.specs.State.{State}
@@ -39,7 +40,7 @@ use Rattle.verify.proofs.Asked.{rows-long, source-fits, asked-is, splic
 module _ (st : State) (k g t : ℕ) (xs : List ℕ) where
   -- what stands before the count
   front : List ℕ
-  front = concat (headBytes (send st k g t xs []) ∷ le 4 (length (st .gVec)) ∷ flat (le 4) (st .gVec) ∷ le 4 (length xs) ∷ flat (le 8) xs ∷ [])
+  front = concat (headBytes (send st k g t xs []) ∷ le 4 (length (st .view .gVec)) ∷ flat (le 4) (st .view .gVec) ∷ le 4 (length xs) ∷ flat (le 8) xs ∷ [])
 
   in-two : (es : List Entry) → wireBytes (send st k g t xs es) ≡ front ++ (le 4 (length es) ++ flat entryBytes es)
   unfolding front wireBytes headBytes concat

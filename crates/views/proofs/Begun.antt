@@ -31,17 +31,17 @@ pub begun-in : (b b₁ b₂ b₃ b₄ b₅ : List ℕ) (view len old commit : �
 begun-in b b₁ b₂ b₃ b₄ b₅ view len old commit e q w₁ w₂ w₃ w₄ w₅ = rw (w₅, w₄, w₃, w₂, w₁, q, e)
 
 module _ {sh : Shape} {st : State} {b : List ℕ} (l : Laid sh st b) where
-  head-begun : {b′ : List ℕ} (view len : ℕ) → st .commit < 256 ^ 8 → b′ ≡ begunIn b view len → Laid sh (withBoundary (withCommit (withSync (withNormal (withStatus st 1) view) len) (min (st .commit) len)) 0) b′
+  head-begun : {b′ : List ℕ} (view len : ℕ) → st .logged .commit < 256 ^ 8 → b′ ≡ begunIn b view len → Laid sh (withBoundary (withCommit (withSync (withNormal (withStatus st 1) view) len) (min (st .logged .commit) len)) 0) b′
   head-begun view len f w =
-      let e : num b 32 8 ≡ st .commit = get-head l 8 32 8 (st .commit) (lit< tt) (simp length-le) (lit≤ tt) refl f in
-      put-boundary (put-commit (put-sync (put-normal (put-status l 1 refl) view refl) len refl) (min (st .commit) len) refl) 0
+      let e : num b 32 8 ≡ st .logged .commit = get-head l 8 32 8 (st .logged .commit) (lit< tt) (simp length-le) (lit≤ tt) refl f in
+      put-boundary (put-commit (put-sync (put-normal (put-status l 1 refl) view refl) len refl) (min (st .logged .commit) len) refl) 0
       (w ∙ ap (λ (v : ℕ). splice (splice (splice (splice (splice b 2 (le 1 1)) 12 (le 4 view)) 24 (le 8 len)) 32 (le 8 (min v len))) 40 (le 8 0)) e)
 
 -- ---- the whole
 
 -- with the old log and the old tables still
 abbrev unheard : Shape → State → ℕ → List ℕ → ℕ → State
-unheard sh st view gVec len = withHeard (withBoundary (withCommit (withSync (withNormal (withStatus (withGVec (withView st view) gVec) 1) view) len) (min (st .commit) len)) 0) (replicate (sh .n) none)
+unheard sh st view gVec len = withHeard (withBoundary (withCommit (withSync (withNormal (withStatus (withGVec (withView st view) gVec) 1) view) len) (min (st .logged .commit) len)) 0) (replicate (sh .n) none)
 
 module _ {sh : Shape} {st : State} {b : List ℕ} (s : Stands sh st b) (view : ℕ) (msg : List ℕ) (bs : Bytes msg) (h : 16 + 4 * sh .s ≤ length msg) (es : List Entry) (r : length es ≤ sh .c) where
   -- before the log is written, and after it

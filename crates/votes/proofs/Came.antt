@@ -52,13 +52,13 @@ even-none c (suc n) = (length-replicate {A = ℕ} (voteLength c) 0, even-none c 
 -- ---- what is known of the state in the vote's view
 
 pub record Comes (sh : Shape) (b msg : List ℕ) (v : ℕ) (k : Cast) (st : State) : Type 0 where
-  pub votes : set (st .votes) (k .sender) (some (said msg k)) ≡ votesIn sh b msg k
-  pub even : Even (voteBytes (sh .c)) (voteLength (sh .c)) (st .votes)
+  pub votes : set (st .change .votes) (k .sender) (some (said msg k)) ≡ votesIn sh b msg k
+  pub even : Even (voteBytes (sh .c)) (voteLength (sh .c)) (st .change .votes)
   pub laid : (b′ : List ℕ) → b′ ≡ image sh st → Laid sh st b′
   pub sends : Sender sh st
-  pub status : st .status ≡ 2
-  pub group : st .group ≡ stateOf sh b .group
-  pub begins : (es : List Entry) → started sh st (st .view) (st .gVec) es ≡ started sh (stateOf sh b) v (viewsOf sh msg) es
+  pub status : st .view .status ≡ 2
+  pub group : st .site .group ≡ stateOf sh b .site .group
+  pub begins : (es : List Entry) → started sh st (st .view .gView) (st .view .gVec) es ≡ started sh (stateOf sh b) v (viewsOf sh msg) es
 
 module _ (sh : Shape) (b msg : List ℕ) (view : ℕ) (k : Cast) (g : Brought sh b msg view k) where
   abbrev st : State
@@ -85,11 +85,11 @@ module _ (sh : Shape) (b msg : List ℕ) (view : ℕ) (k : Cast) (g : Brought sh
         let f = stands-fits stands in
         let n = even-none (sh .c) (sh .n) in
         let o : length (voteBytes (sh .c) (some (ownVote st))) ≡ voteLength (sh .c) = vote-long (sh .c) (ownVote st) (f .log .room) in
-        let l = put-vote (entered-laid stands view msg bs (g .views) refl) (st .replica) (ownVote st) n (f .log .room) (replica-below stands) refl in
+        let l = put-vote (entered-laid stands view msg bs (g .views) refl) (st .site .replica) (ownVote st) n (f .log .room) (replica-below stands) refl in
         let s = entered-sender stands view msg bs (g .views) v in
         record {
           votes = sym (rw e (ballots-entering sh st (k .sender) (said msg k)));
-          even = even-set (voteBytes (sh .c)) (voteLength (sh .c)) (replicate (sh .n) none) (st .replica) (some (ownVote st)) n o;
+          even = even-set (voteBytes (sh .c)) (voteLength (sh .c)) (replicate (sh .n) none) (st .site .replica) (some (ownVote st)) n o;
           laid = λ b′ i. laid-as l i;
           sends = record { group = s .group; replica = s .replica; view = s .view; places = s .places; gVec = s .gVec };
           status = refl;

@@ -63,7 +63,7 @@ held-none n =
 
 module _ (sh : Shape) (b : List ℕ) (k : Cast) where
   pub count-entering : k .entering ≡ true → 2 ≡ countWith sh b k
-  count-entering e = sym (pick-true (k .entering) 2 (held (stateOf sh b .votes) + 1) e)
+  count-entering e = sym (pick-true (k .entering) 2 (held (stateOf sh b .change .votes) + 1) e)
 
   module _ (g : Sent sh b k) where
     pub second-kept : (t : Bool) → t ≡ isSome (voteAt (sh .c) b (startOf sh 7 + voteLength (sh .c) * k .sender)) → (not (k .entering) && t) ≡ isSecond sh b k
@@ -74,4 +74,4 @@ module _ (sh : Shape) (b : List ℕ) (k : Cast) where
       count-small = omega (arith, count-most (λ r. isSome (voteAt (sh .c) b (startOf sh 7 + voteLength (sh .c) * r))) (sh .n), g .stands .fits .most)
 
       pub count-kept : k .entering ≡ false → m + 1 ≡ countWith sh b k
-      count-kept f = ap (λ (x : ℕ). x + 1) (e ∙ votes-held (g .stands)) ∙ sym (pick-false (k .entering) 2 (held (stateOf sh b .votes) + 1) f)
+      count-kept f = ap (λ (x : ℕ). x + 1) (e ∙ votes-held (g .stands)) ∙ sym (pick-false (k .entering) 2 (held (stateOf sh b .change .votes) + 1) f)

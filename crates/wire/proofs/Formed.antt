@@ -13,7 +13,8 @@ use Rattle.octets.proofs.Codecs.{length-items, getD-items}
 use Rattle.rules.specs.Choice.{pick, allOf, every}
 use Rattle.rules.specs.Entry.{noEntry, entryOf}
 use Rattle.rules.specs.Group.{sizesFit}
-use Rattle.rules.specs.Wire.{wireBytes, bare, viewsIn, numbersIn, numbersOf}
+use Rattle.rules.specs.Wire.{wireBytes, numbersOf}
+use Rattle.rules.specs.Kind.{bare, viewsIn, numbersIn}
 use Rattle.rules.specs.Wire as Wires
 use Rattle.rules.specs.Read.{entryAt, messageWrong, entryWide, wide, isFine, formed}
 use Rattle.rules.specs.Read as Reads

@@ -12,7 +12,8 @@ use Rattle.octets.specs.Bytes.{num}
 use Rattle.octets.proofs.Codecs.{getD-items}
 use Rattle.rules.specs.Choice.{pick}
 use Rattle.rules.specs.Group.{sizesFit}
-use Rattle.rules.specs.Wire.{Wire, numbersIn, caseWith, caseOf}
+use Rattle.rules.specs.Wire.{Wire, caseWith, caseOf}
+use Rattle.rules.specs.Kind.{numbersIn}
 use Rattle.rules.specs.Read.{malformed, message, fieldsAt, numbersAt, entriesAt, lengthFor, messageWrong, wholeIn, wireIn, judged, verdictIn, read, caseRead, decoded}
 use Rattle.rules.specs.declared.Message.{Message}
 use Rattle.rules.specs.declared.Message.the-variants.{Malformed}

@@ -5,7 +5,8 @@ use lib.ListN.{length, getD}
 use lib.Dec.{eqb, leb}
 use Rattle.octets.specs.Bytes.{num, items}
 use Rattle.rules.specs.Choice.{pick}
-use Rattle.rules.specs.Wire.{numbersIn, numbersOf}
+use Rattle.rules.specs.Kind.{numbersIn}
+use Rattle.rules.specs.Wire.{numbersOf}
 use Rattle.rules.specs.Wire as Wires
 use Rattle.rules.specs.Read.{numbersAt, entriesAt}
 use Rattle.rules.specs.declared.Header.{Header}

@@ -6,7 +6,7 @@ use Rattle.arrivals.proofs.keep_note.Tie as tie
 use mathlib.Core.Path.{refl, sym}
 use mathlib.Core.List.{List}
 use Rattle.rules.specs.State.{Note}
-use Rattle.rules.specs.Step.{keepNote}
+use Rattle.rules.specs.Early.{keepNote}
 use Rattle.notes.specs.Notes.{sized}
 use Rattle.rules.specs.Image.{stateOf}
 use Rattle.notes.proofs.Notes.{decoded, is-notes, and-then}
@@ -37,7 +37,7 @@ returns : tie.Need-returns
 returns c =
     let h = notes-here ((c .before .before .before .before .before .before .pre .0)) _ _ (c .before .before .before .before .places-of .ensures .notes) (c .before .before .before .before .places-of .ensures .votes) in
     let k = and-then _ _ _ _ h (λ (xs : List Note). keepNote (sized (c .before .before .before .before .before .before .args .shape .c) (c .before .before .before .before .before .before .args .shape .s)) (c .before .before .before .before .before .before .args .e) (c .before .before .before .before .before .before .args .j) (c .before .before .before .before .before .before .args .stamp) xs) _ (c .before .before .keep .ensures) in
-    notes-come ((c .before .before .before .before .before .before .pre .0)) _ _ _ (rw (sym (kept-sized (c .before .before .before .before .before .before .args .e) (c .before .before .before .before .before .before .args .shape) (c .before .before .before .before .before .before .args .j) (c .before .before .before .before .before .before .args .stamp) (c .before .before .before .before .before .before .args .shape .c) (stateOf (c .before .before .before .before .before .before .args .shape) (c .before .before .before .before .before .before .args .state .now) .notes))) at k) (c .before .before .before .before .places-of .ensures .notes) (c .before .before .before .before .places-of .ensures .votes) refl
+    notes-come ((c .before .before .before .before .before .before .pre .0)) _ _ _ (rw (sym (kept-sized (c .before .before .before .before .before .before .args .e) (c .before .before .before .before .before .before .args .shape) (c .before .before .before .before .before .before .args .j) (c .before .before .before .before .before .before .args .stamp) (c .before .before .before .before .before .before .args .shape .c) (stateOf (c .before .before .before .before .before .before .args .shape) (c .before .before .before .before .before .before .args .state .now) .waiting .notes))) at k) (c .before .before .before .before .places-of .ensures .notes) (c .before .before .before .before .places-of .ensures .votes) refl
 
 pub keep-note-spec : {M : Type 1} → statement M
 keep-note-spec = tie.close (tie.spec places-of-requires sub-keep part-keep-start part-keep-end keep-requires same-length returns)

@@ -17,7 +17,7 @@ use Rattle.merge.proofs.merge_with.Statement.{statement}
 use Rattle.merge.proofs.merge_with.Tie as tie
 
 abbrev Inv-loop : tie.InvT-loop
-Inv-loop shape state from message at count scratch₀ rows₀ filled₀ j₀ scratch rows filled j = (j ≤ shape .s) × Holds (shape .c) (mergedTo (stateOf shape state .draft) (repliesWith shape state from message at count) j) scratch × (filled ≡ true → Rows (mergedTo (stateOf shape state .draft) (repliesWith shape state from message at count) j) rows) × (length rows ≡ length rows₀)
+Inv-loop shape state from message at count scratch₀ rows₀ filled₀ j₀ scratch rows filled j = (j ≤ shape .s) × Holds (shape .c) (mergedTo (stateOf shape state .change .draft) (repliesWith shape state from message at count) j) scratch × (filled ≡ true → Rows (mergedTo (stateOf shape state .change .draft) (repliesWith shape state from message at count) j) rows) × (length rows ≡ length rows₀)
 
 abbrev μ-loop : tie.MeasureT-loop
 μ-loop shape state from message at count scratch₀ rows₀ filled₀ j₀ scratch rows filled j = shape .s - j
@@ -26,7 +26,7 @@ take-draft-requires : tie.Need-take-draft-requires Inv-loop μ-loop
 take-draft-requires c κs = ((c .before .before .before .before .before .before .pre .0), (c .before .before .before .before .before .before .pre .2))
 
 loop-holds : tie.Need-loop-holds Inv-loop μ-loop
-loop-holds c = let k = merge-start (stateOf (c .before .before .before .before .before .before .before .before .before .before .before .args .shape) (c .before .before .before .before .before .before .before .before .before .before .before .args .state .now) .draft) (repliesWith (c .before .before .before .before .before .before .before .before .before .before .before .args .shape) (c .before .before .before .before .before .before .before .before .before .before .before .args .state .now) (c .before .before .before .before .before .before .before .before .before .before .before .args .from) (c .before .before .before .before .before .before .before .before .before .before .before .args .message .now) (c .before .before .before .before .before .before .before .before .before .before .before .args .at) (c .before .before .before .before .before .before .before .before .before .before .before .args .count)) _ _ _ _ (c .before .before .before .before .take-draft .ensures) in (omega arith, k .0, k .1, search needs)
+loop-holds c = let k = merge-start (stateOf (c .before .before .before .before .before .before .before .before .before .before .before .args .shape) (c .before .before .before .before .before .before .before .before .before .before .before .args .state .now) .change .draft) (repliesWith (c .before .before .before .before .before .before .before .before .before .before .before .args .shape) (c .before .before .before .before .before .before .before .before .before .before .before .args .state .now) (c .before .before .before .before .before .before .before .before .before .before .before .args .from) (c .before .before .before .before .before .before .before .before .before .before .before .args .message .now) (c .before .before .before .before .before .before .before .before .before .before .before .args .at) (c .before .before .before .before .before .before .before .before .before .before .before .args .count)) _ _ _ _ (c .before .before .before .before .take-draft .ensures) in (omega arith, k .0, k .1, search needs)
 
 take-reply-requires : tie.Need-take-reply-requires Inv-loop μ-loop
 take-reply-requires c κs = ((c .before .before .before .before .before .before .before .before .before .before .before .before .before .before .before .before .pre .0), (c .before .before .if1 .taken), (c .before .before .before .before .before .before .before .before .before .before .before .before .before .before .before .before .pre .1), is-table _ _ _ (c .before .before .before .before .loop .inv .1), λ q. rows-read _ _ _ (c .before .before .before .before .loop .inv .1) _ ((c .before .before .before .before .loop .inv .2) q))

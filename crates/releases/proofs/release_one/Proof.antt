@@ -15,7 +15,7 @@ due-place-requires : tie.Need-due-place-requires
 due-place-requires c κs =
     let a = (c .before .before .before .before .args) in
     let st = stateOf (a .shape) (a .state .now) in
-    ((c .before .before .before .before .pre .0), reached-by (a .time) (st .early) (st .log) (a .n) (a .i) _ (c .before .before .before .before .pre .3) (c .before .before .before .before .pre .4) (c .before .last-released .ensures), (c .before .before .before .before .pre .3))
+    ((c .before .before .before .before .pre .0), reached-by (a .time) (st .waiting .early) (st .logged .log) (a .n) (a .i) _ (c .before .before .before .before .pre .3) (c .before .before .before .before .pre .4) (c .before .last-released .ensures), (c .before .before .before .before .pre .3))
 
 early-entry-requires : tie.Need-early-entry-requires
 early-entry-requires c κs = search needs

@@ -1,6 +1,6 @@
 -- `replica::jallumere_read` meets its contract. Assumes nothing.
 use mathlib.Core.Path.{sym, ap, _∙_}
-use Rattle.rules.specs.Read.{answerOf}
+use Rattle.rules.specs.Wire.{answerOf}
 use borrow.Author.Needs.{needs}
 use Rattle.replica.proofs.jallumere_read.Statement.{statement}
 use Rattle.replica.proofs.jallumere_read.Tie as tie

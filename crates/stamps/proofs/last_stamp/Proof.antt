@@ -3,7 +3,7 @@ use native.Mathlib.Omega.{arith}
 use Rattle.stamps.proofs.last_stamp.Statement.{statement}
 use Rattle.stamps.proofs.last_stamp.Tie as tie
 use mathlib.Core.List.{List}
-use Rattle.rules.specs.Entry.{lastStamp}
+use Rattle.rules.specs.Log.{lastStamp}
 use Rattle.rules.specs.declared.Entry.{Entry}
 use Rattle.entries.proofs.Table.{is-table}
 use Rattle.stamps.proofs.Midway.{log-here, log-read}

@@ -9,7 +9,7 @@ last-stamp-requires : tie.Need-last-stamp-requires
 last-stamp-requires c κs = search needs
 
 returns : tie.Need-returns
-returns c = follows-is (stateOf (c .before .before .before .args .shape) (c .before .before .before .args .state .now) .log) (c .before .before .before .args .e) _ (c .before .last-stamp .ensures)
+returns c = follows-is (stateOf (c .before .before .before .args .shape) (c .before .before .before .args .state .now) .logged .log) (c .before .before .before .args .e) _ (c .before .last-stamp .ensures)
 
 pub may-follow-spec : {M : Type 1} → statement M
 may-follow-spec = tie.close (tie.spec last-stamp-requires returns)

@@ -9,11 +9,11 @@ use native.Mathlib.Omega.{arith}
 use lib.ListN.{take}
 use Rattle.rules.specs.Digest.{digest}
 use Rattle.rules.specs.Image.{stateOf}
-use Rattle.rules.specs.Step.{dueBy}
+use Rattle.rules.specs.Early.{dueOf}
 use Rattle.ticks.proofs.Turns.{Appended, turn-start, sum-start, turn-asks, turn-tells, turn-next, leave-asks, turn-end, none-end}
 
 abbrev Inv-loop : tie.InvT-loop
-Inv-loop shape state₀ out₀ time n k sum₀ at₀ i₀ state out sum at i = (i ≤ k) × Appended shape state₀ out₀ time i at state out × (sum ≡ digest (stateOf shape state₀ .log ++ take i (dueBy time (stateOf shape state₀ .early))))
+Inv-loop shape state₀ out₀ time n k sum₀ at₀ i₀ state out sum at i = (i ≤ k) × Appended shape state₀ out₀ time i at state out × (sum ≡ digest (stateOf shape state₀ .logged .log ++ take i (dueOf time (stateOf shape state₀ .waiting .early))))
 
 abbrev μ-loop : tie.MeasureT-loop
 μ-loop shape state₀ out₀ time n k sum₀ at₀ i₀ state out sum at i = k - i

@@ -5,7 +5,7 @@ use Rattle.verdicts.proofs.entries_wrong.Tie as tie
 use Prim.Native.Nat.{_≤_, _-_}
 use mathlib.Core.Path.{_≡_, refl, sym, _∙_}
 use native.Mathlib.Omega.{arith}
-use Rattle.rules.specs.Entry.{stampBefore}
+use Rattle.rules.specs.Entry.{lastBefore}
 use Rattle.rules.specs.Read.{entriesWrong}
 use Rattle.rules.specs.declared.Verdict.the-variants.{Fine}
 use Rattle.fields.specs.Parts.{fieldsFrom, headed}
@@ -14,7 +14,7 @@ use Rattle.verdicts.proofs.Entries.{stamp-next, entry-is, next-fine, ne
 use Rattle.verdicts.proofs.Fresh.{limit-within}
 
 abbrev Inv-loop : tie.InvT-loop
-Inv-loop s h b at whole seen log from limit last₀ i₀ last i = (i ≤ limit) × (limit ≤ seen) × (from ≤ 76) × (last ≡ stampBefore (rowIn b at) i) × (entriesWrong s (fieldsFrom (headed h) (rowIn b at)) whole i ≡ Fine)
+Inv-loop s h b at whole seen log from limit last₀ i₀ last i = (i ≤ limit) × (limit ≤ seen) × (from ≤ 76) × (last ≡ lastBefore (rowIn b at) i .stamp) × (entriesWrong s (fieldsFrom (headed h) (rowIn b at)) whole i ≡ Fine)
 
 abbrev μ-loop : tie.MeasureT-loop
 μ-loop s h b at whole seen log from limit last₀ i₀ last i = limit - i
@@ -29,7 +29,7 @@ limit-of-requires : tie.Need-limit-of-requires Inv-loop μ-loop
 limit-of-requires c κs = search needs
 
 loop-holds : tie.Need-loop-holds Inv-loop μ-loop
-unfolding stampBefore entriesWrong
+unfolding lastBefore entriesWrong
 loop-holds c = (omega arith, limit-within (c .before .before .with-log .result) (rowIn (c .before .before .before .before .args .b .now) (c .before .before .before .before .args .at)) (c .before .before .before .before .args .whole) (c .before .before .before .before .args .seen) (c .limit-of .result) (c .limit-of .ensures), (c .before .entries-at .ensures .1), refl, refl)
 
 mul-look-entry : tie.Need-mul-look-entry Inv-loop μ-loop
