@@ -7,10 +7,10 @@ use native.Mathlib.Omega.{arith}
 use lib.ListN.{length}
 use lib.Dec.{ltb, leb}
 use borrow.Author.Tests.{ltb-true, ltb-false, le-leb, lt-leb}
-use Rattle.rules.specs.Choice.{pick, isSome}
+use Rattle.rules.specs.Choice.{pick, isSome, any}
 use Rattle.rules.specs.Entry.{among}
 use Rattle.rules.specs.Wire.{Wire, firstEntry, tagOf, headerIn}
-use Rattle.rules.specs.Kind.{known}
+use Rattle.rules.specs.Kind.{known, fromOutside, rowOf}
 use Rattle.rules.specs.Wire as wires
 use Rattle.rules.specs.Read.{wireIn}
 use Rattle.rules.specs.State.{Note, State, noted}
@@ -75,7 +75,7 @@ module _ (sh : Shape) (b msg out : List ℕ) (m : Message) (h : Header) (r : Rea
   j = h .«from_group»
 
   kind-known : known (tagOf m) ≡ true
-  unfolding pick
+  unfolding pick any
   kind-known = ap (λ (x : Message). known (tagOf x)) e
 
   from-is : wireIn (sh .s) msg .fromGroup ≡ j
@@ -83,7 +83,8 @@ module _ (sh : Shape) (b msg out : List ℕ) (m : Message) (h : Header) (r : Rea
 
   -- the sender's group is one of the shape's
   pub from-below : j < sh .s
-  from-below = rw e at (told-sender (sh .n) (sh .s) m msg (ready-told sh b msg m r kind-known) (ap (λ (x : Message). wires.fromOutside (tagOf x)) e) .0)
+  unfolding rowOf
+  from-below = rw e at (told-sender (sh .n) (sh .s) m msg (ready-told sh b msg m r kind-known) (ap (λ (x : Message). fromOutside (tagOf x)) e) .0)
 
   by-rule : (o : Outcome) → onNote sh st (wireIn (sh .s) msg) ≡ o → handled 3 onNote sh m b msg out ≡ closes sh b out o
   by-rule o q = handled-own 3 onNote sh m b msg out (ap tagOf e) ∙ ap (closes sh b out) q

@@ -10,6 +10,7 @@ use lib.Dec.{ltb, leb}
 use borrow.Author.Tests.{le-leb, lt-leb}
 use Rattle.octets.specs.Bytes.{splice, flat}
 use Rattle.octets.proofs.Sections.{splice-whole}
+use Rattle.rules.specs.Kind.{rowOf}
 use Rattle.rules.specs.Choice.{pick}
 use Rattle.rules.specs.Group.{holds}
 use Rattle.rules.specs.Log.{followsLast}
@@ -101,13 +102,13 @@ entry-alone e = splice-whole (replicate 24 0) (entryBytes e) (long-entry e ∙ s
 
 -- the notes to 8 groups at most
 pub notes-small : (s k n : ℕ) → s ≤ 8 → k ≡ lengthFor s 3 1 → n ≤ 8 → k * n ≤ 640
-unfolding pick
+unfolding pick rowOf
 notes-small s k n h e l = let a : k ≤ 80 = omega arith in mul-le-mul a l
 
 module _ {sh : Shape} {st : State} {b : List ℕ} (s : Stands sh st b) (e : Entry) where
   -- how long the notes are together
   pub notes-long : (k n : ℕ) → k ≡ lengthFor (sh .s) 3 1 → n ≡ length (othersIn sh b (e .mask)) → k * n ≡ length (flat wireBytes (noteSends sh st e))
-  unfolding pick
+  unfolding pick rowOf
   notes-long k n p q =
       ap₂ _*_ p (q ∙ ap length (others-are (stands-laid s) (sender (stands-fits s)) (e .mask)))
       ∙ sym (sends-length (λ j. sendLeader sh st 3 j [] (e ∷ [])) (lengthFor (sh .s) 3 1) (otherGroups sh st (holds (e .mask)))
@@ -128,7 +129,7 @@ pub taken-is : {sh : Shape} {b : List ℕ} (st : State) (e : Entry) (own : ℕ) 
     → b′ ≡ image sh (takenEarly sh st e)
 taken-is {sh} {b} st e own b′ m g w =
     w
-    ∙ ap (λ (x : State). image sh (buffered x (lifted sh (keepNote sh e own (e .stamp) (x .notes)) e (x .early)) (x .late) (keepNote sh e own (e .stamp) (x .notes)))) (midway-as m)
+    ∙ ap (λ (x : State). image sh (buffered x (lifted sh (keepNote sh e own (e .stamp) (x .waiting .notes)) e (x .waiting .early)) (x .waiting .late) (keepNote sh e own (e .stamp) (x .waiting .notes)))) (midway-as m)
     ∙ ap (λ (k : ℕ). image sh (buffered st (lifted sh (keepNote sh e k (e .stamp) (st .waiting .notes)) e (st .waiting .early ++ (e ∷ []))) (st .waiting .late) (keepNote sh e k (e .stamp) (st .waiting .notes)))) g
 
 -- ---- a leader's ways
@@ -155,5 +156,5 @@ module _ (sh : Shape) (b out : List ℕ) (e : Entry) (s : Stands sh (stateOf sh 
       out-full l = sym (ap (closes sh b out) done-so ∙ closes-tight sh b out (takenEarly sh st′ e) (noteSends sh st′ e) (rw d at l))
 
       pub taken : need ≤ length out → (sent : ℕ) (b′ out′ : List ℕ) → sent ≡ length (flat wireBytes (noteSends sh st′ e)) → out′ ≡ splice out 0 (flat wireBytes (noteSends sh st′ e)) → b′ ≡ image sh (takenEarly sh st′ e)
-          → _≡_ {A = Left} (record { number = 0; sent = sent; state = b′; out = out′ }) (closes sh b out (leaderTakes sh st′ e))
+          → _≡_ {A = Left} (record { refused = false; number = 0; sent = sent; state = b′; out = out′ }) (closes sh b out (leaderTakes sh st′ e))
       taken l sent b′ out′ v o w = sym (ap (closes sh b out) done-so ∙ closes-sent sh b out (takenEarly sh st′ e) (noteSends sh st′ e) (rw d at l) ∙ rw (v, o, w))

@@ -268,14 +268,13 @@ pub fn on_transaction(
     let Message::Transaction(_, send_time, bound) = m else {
         return Answer::Refused(2);
     };
-    let e = handler::first_entry(shape, state, m, message, 1);
-    if known(shape, state, e) {
+    let entry = handler::first_entry(shape, state, m, message, 1);
+    if known(shape, state, entry) {
         return Answer::Refused(7);
     }
-    let due = send_time + bound;
+    let e = stamps::stamped(send_time + bound, entry);
     if handler::leads(shape, state) {
-        let stamp = stamps::leader_stamp(shape, state, due);
-        return leader_takes(shape, state, stamps::stamped(stamp, e), out);
+        return leader_takes(shape, state, stamps::raised(shape, state, e), out);
     }
-    follower_takes(shape, state, stamps::stamped(due, e), out)
+    follower_takes(shape, state, e, out)
 }

@@ -7,8 +7,9 @@ use native.Mathlib.Omega.{arith}
 use lib.ListN.{length}
 use Rattle.octets.specs.Bytes.{num, splice}
 use Rattle.octets.proofs.Laws.{Bytes}
+use Rattle.rules.specs.Choice.{any}
 use Rattle.rules.specs.Wire.{Wire, wireBytes, tagOf, headerIn}
-use Rattle.rules.specs.Kind.{bare, known}
+use Rattle.rules.specs.Kind.{bare, known, rowOf}
 use Rattle.rules.specs.Read.{wireIn, lengthFor}
 use Rattle.rules.specs.State.{State}
 use Rattle.rules.specs.Image.{image, stateOf}
@@ -54,9 +55,11 @@ module _ (sh : Shape) (b msg out : List ℕ) (m : Message) (h : Header) (r : Rea
   w = wireIn (sh .s) msg
 
   kind-known : known (tagOf m) ≡ true
+  unfolding any
   kind-known = ap (λ (x : Message). known (tagOf x)) e
 
   kind-views : bare (tagOf m) ≡ false
+  unfolding rowOf
   kind-views = ap (λ (x : Message). bare (tagOf x)) e
 
   view-is : headerIn m .view ≡ h .view
@@ -122,7 +125,7 @@ module _ (sh : Shape) (b msg out : List ℕ) (m : Message) (h : Header) (r : Rea
               let y : need ≡ 40 + 4 * sh .s + 24 * count = n ∙ vote-room (sh .s) count in
               (omega (arith, group-below (r .stands)), omega (arith, table .room), omega (arith, count-is))
 
-          pub change-sent : (sent : ℕ) (out′ : List ℕ) → sent ≡ length (messageBytes sh b′ (voteIn sh b′) (logIn sh b′)) → out′ ≡ splice out 0 (messageBytes sh b′ (voteIn sh b′) (logIn sh b′)) → _≡_ {A = Left} (record { number = 0; sent = sent; state = b′; out = out′ }) (handled 7 onChangeView sh m b msg out)
+          pub change-sent : (sent : ℕ) (out′ : List ℕ) → sent ≡ length (messageBytes sh b′ (voteIn sh b′) (logIn sh b′)) → out′ ≡ splice out 0 (messageBytes sh b′ (voteIn sh b′) (logIn sh b′)) → _≡_ {A = Left} (record { refused = false; number = 0; sent = sent; state = b′; out = out′ }) (handled 7 onChangeView sh m b msg out)
           change-sent sent out′ v o =
               let f = stands-fits (r .stands) in
               let x = vote-sent (next-laid b′ i) table next-sender (group-below (r .stands)) (f .normal) (f .sync) in

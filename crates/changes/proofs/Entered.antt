@@ -10,6 +10,7 @@ use lib.Dec.{eqb, lit<, lit≤}
 use Rattle.octets.specs.Bytes.{le, num, splice}
 use Rattle.octets.proofs.Laws.{Bytes, length-le}
 use Rattle.octets.proofs.Codecs.{getD-items}
+use Rattle.rules.specs.Kind.{rowOf}
 use Rattle.rules.specs.Choice.{pick}
 use Rattle.rules.specs.Wire.{Wire}
 use Rattle.rules.specs.State.{State}
@@ -59,7 +60,7 @@ module _ {sh : Shape} {st : State} {b : List ℕ} (s : Stands sh st b) (view : �
 
   -- and is kept
   pub entered-leader : {b₅ : List ℕ} (leads : Bool) → leads ≡ true → b₅ ≡ splice b₄ (startOf sh 7 + voteLength (sh .c) * num b₄ 1 1) (ownBytes sh b₄) → b₅ ≡ image sh (enteredBy sh st view (viewsOf sh msg) leads)
-  unfolding pick
+  unfolding pick rowOf
   entered-leader leads e w =
       let f = stands-fits s in
       rw e (put-own-vote entered-follows (even-none (sh .c) (sh .n)) (f .log .room) (replica-below s) (f .replica) (f .normal) (f .sync) w .bytes)

@@ -9,6 +9,7 @@ use Rattle.octets.specs.Bytes.{le, num, part, flat}
 use Rattle.octets.proofs.Laws.{length-le, part-past, part-front}
 use Rattle.octets.proofs.Sections.{part-whole}
 use Rattle.octets.proofs.Codecs.{back-number}
+use Rattle.rules.specs.Kind.{rowOf}
 use Rattle.rules.specs.Choice.{pick}
 use Rattle.rules.specs.Group.{only, others, leader}
 use Rattle.rules.specs.Wire.{entryBytes, wireBytes}
@@ -44,11 +45,11 @@ start-case sh b own replica mask h o r t e = rw (e, t, r, o)
 
 -- how long the two kinds are
 pub vote-room : (s k : ℕ) → lengthFor s 8 k ≡ 40 + 4 * s + 24 * k
-unfolding pick
+unfolding pick rowOf
 vote-room s k = omega arith
 
 pub start-room : (s k : ℕ) → lengthFor s 9 k ≡ 24 + 4 * s + 24 * k
-unfolding pick
+unfolding pick rowOf
 start-room s k = omega arith
 
 module _ {sh : Shape} {st : State} {b : List ℕ} (l : Laid sh st b) (t : TableFits (sh .c) (st .logged .log)) where
@@ -82,7 +83,7 @@ module _ {sh : Shape} {st : State} {b : List ℕ} (l : Laid sh st b) (t : TableF
         (rw (en, es)) log-block (t .each)
 
     pub vote-long : length (wireBytes (sendLeader sh st 8 (st .site .group) (st .view .normal ∷ st .logged .sync ∷ []) (st .logged .log))) ≡ lengthFor (sh .s) 8 (length (st .logged .log))
-    unfolding pick
+    unfolding pick rowOf
     vote-long = sent-length (sh .s) st 8 (st .site .group) (only (leader (sh .n) (st .view .gVec) (st .site .group))) (st .view .normal ∷ st .logged .sync ∷ []) (st .logged .log) (f .places) refl refl
 
     -- kind 9
@@ -93,5 +94,5 @@ module _ {sh : Shape} {st : State} {b : List ℕ} (l : Laid sh st b) (t : TableF
         refl log-block (t .each)
 
     pub start-long : length (wireBytes (sendFollowers sh st 9 (st .logged .log))) ≡ lengthFor (sh .s) 9 (length (st .logged .log))
-    unfolding pick
+    unfolding pick rowOf
     start-long = sent-length (sh .s) st 9 (st .site .group) (others (sh .n) (st .site .replica)) [] (st .logged .log) (f .places) refl refl

@@ -8,7 +8,7 @@ use lib.ListN.{length, getD}
 use lib.Dec.{ltb, leb}
 use borrow.Author.Tests.{lt-ltb, le-ltb, le-leb, lt-leb}
 use Rattle.octets.specs.Bytes.{le, num, splice}
-use Rattle.rules.specs.Choice.{pick}
+use Rattle.rules.specs.Choice.{pick, any}
 use Rattle.rules.specs.Wire.{Wire, tagOf, numbersOf}
 use Rattle.rules.specs.Kind.{known}
 use Rattle.rules.specs.Wire as wires
@@ -43,7 +43,7 @@ between sh st w p e h g = rw (e, lt-ltb (st .logged .commit) p h, le-leb p (st .
 
 module _ (sh : Shape) (b msg out : List ℕ) (m : Message) (h : Header) (p : ℕ) (r : Ready sh b m msg) (e : m ≡ Commit h p) where
   point-is : wires.number (wireIn (sh .s) msg) 0 ≡ p
-  unfolding pick
+  unfolding pick any
   point-is =
       told-number (sh .n) (sh .s) m msg (told (sh .n) (sh .s) m msg (r .told) (ap (λ (x : Message). known (tagOf x)) e)) 0
       ∙ ap (λ (x : Message). getD (numbersOf x) 0 0) e

@@ -10,10 +10,10 @@ use lib.Dec.{eqb, leb, lit<}
 use borrow.Author.Tests.{lt-ltb, le-ltb}
 use Rattle.octets.specs.Bytes.{le, num, splice, flat}
 use Rattle.octets.proofs.Codecs.{back-number}
-use Rattle.rules.specs.Choice.{pick, isSome}
+use Rattle.rules.specs.Choice.{pick, isSome, any}
 use Rattle.rules.specs.Group.{only}
 use Rattle.rules.specs.Wire.{Wire, wireBytes, tagOf, headerIn, numbersOf}
-use Rattle.rules.specs.Kind.{known}
+use Rattle.rules.specs.Kind.{known, fromOutside, rowOf}
 use Rattle.rules.specs.Wire as wires
 use Rattle.rules.specs.Read.{wireIn, lengthFor}
 use Rattle.rules.specs.State.{State}
@@ -74,7 +74,7 @@ module _ {sh : Shape} {st : State} {b : List ℕ} (s : Stands sh st b) where
         (ap (λ (g : ℕ). headedIn b′ 11 g (only from)) (own-group (kept-laid e) kept-sender)) refl refl tt
 
   pub commit-long : (to c : ℕ) → length (wireBytes (send st 11 (st .site .group) to (c ∷ []) [])) ≡ lengthFor (sh .s) 11 0
-  unfolding pick
+  unfolding pick rowOf
   commit-long to c = sent-length (sh .s) st 11 (st .site .group) to (c ∷ []) [] (stands-fits s .gVecPlaces) refl refl
 
 -- ---- the rule at a point
@@ -106,7 +106,7 @@ module _ (sh : Shape) (b msg out : List ℕ) (m : Message) (h : Header) (p : ℕ
   heard = set (st .heard) from (some p)
 
   kind-known : known (tagOf m) ≡ true
-  unfolding pick
+  unfolding pick any
   kind-known = ap (λ (x : Message). known (tagOf x)) e
 
   point-is : wires.number (wireIn (sh .s) msg) 0 ≡ p
@@ -117,7 +117,8 @@ module _ (sh : Shape) (b msg out : List ℕ) (m : Message) (h : Header) (p : ℕ
 
   -- the sender is a replica of the group
   pub from-below : from < sh .n
-  from-below = rw e at (told-sender (sh .n) (sh .s) m msg (ready-told sh b msg m r kind-known) (ap (λ (x : Message). wires.fromOutside (tagOf x)) e) .1)
+  unfolding rowOf
+  from-below = rw e at (told-sender (sh .n) (sh .s) m msg (ready-told sh b msg m r kind-known) (ap (λ (x : Message). fromOutside (tagOf x)) e) .1)
 
   by-rule : (o : Outcome) → onSyncStatus sh st (wireIn (sh .s) msg) ≡ o → handled 10 onSyncStatus sh m b msg out ≡ closes sh b out o
   by-rule o q = handled-own 10 onSyncStatus sh m b msg out (ap tagOf e) ∙ ap (closes sh b out) q
@@ -144,7 +145,7 @@ module _ (sh : Shape) (b msg out : List ℕ) (m : Message) (h : Header) (p : ℕ
       pub kept : (need c sent : ℕ) (b′ out′ : List ℕ) → need ≡ lengthFor (sh .s) 11 0 → need ≤ length out → c ≡ commitPoint (sh .n) (st .site .replica) len heard (st .logged .commit) → b′ ≡ image sh (committed st c heard)
           → sent ≡ length (messageBytes sh b′ (Commit (headedIn b′ 11 (num b′ 0 1) (only from)) c) [])
           → out′ ≡ splice out 0 (messageBytes sh b′ (Commit (headedIn b′ 11 (num b′ 0 1) (only from)) c) [])
-          → _≡_ {A = Left} (record { number = 0; sent = sent; state = b′; out = out′ }) (handled 10 onSyncStatus sh m b msg out)
+          → _≡_ {A = Left} (record { refused = false; number = 0; sent = sent; state = b′; out = out′ }) (handled 10 onSyncStatus sh m b msg out)
       kept need c sent b′ out′ n k y w v o =
           let x = commit-sent (r .stands) from p c from-below b′ w in
           sym (after c y ∙ closes-one sh b out (committed st c heard) _ (omega (arith, commit-long (r .stands) (only from) c)) ∙ rw (v ∙ ap length x, o ∙ ap (splice out 0) x, w))

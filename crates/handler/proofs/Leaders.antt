@@ -13,6 +13,7 @@ use Rattle.octets.proofs.Codecs.{All}
 use Rattle.rules.specs.Choice.{pick, every, keep, below}
 use Rattle.rules.specs.Group.{holds, only, leader}
 use Rattle.rules.specs.Wire.{entryBytes, wireBytes, headerIn, numbersOf}
+use Rattle.rules.specs.Kind.{rowOf}
 use Rattle.rules.specs.Read.{lengthFor}
 use Rattle.rules.specs.State.{State}
 use Rattle.rules.specs.Step.{sends, sendLeader, otherGroups}
@@ -74,11 +75,11 @@ module _ {sh : Shape} {st : State} {b : List ℕ} (l : Laid sh st b) (f : Sender
 
 -- an entry goes with a note, none with a verify request
 pub asks-note : (entries : List ℕ) → length entries ≡ 24 → Asks 3 entries
-unfolding pick
+unfolding pick rowOf
 asks-note entries e = record { whole = omega arith; few = omega arith; long = λ s. rw e (omega arith) }
 
 pub asks-verify : (entries : List ℕ) → length entries ≡ 0 → Asks 18 entries
-unfolding pick
+unfolding pick rowOf
 asks-verify entries e = record { whole = omega arith; few = omega arith; long = λ s. rw e (omega arith) }
 
 -- ---- as they are written one after the other

@@ -1,21 +1,21 @@
 -- What a case says of the message in the bytes. Assumes nothing.
 use Prim.Native.Nat.{ℕ, _+_, _*_, _^_, _<_}
 use mathlib.Core.Path.{_≡_, refl, sym, ap, subst, _∙_}
-use mathlib.Core.Bool.{Bool, true, false, _||_, true≢false}
-use mathlib.Core.List.{List}
+use mathlib.Core.Bool.{Bool, true, false, not, true≢false}
+use mathlib.Core.List.{List, [], _∷_}
 use native.Mathlib.Omega.{arith}
 use lib.ListN.{length, getD}
 use lib.Dec.{eqb, ltb}
-use borrow.Author.Tests.{eqb-true, ltb-true}
+use borrow.Author.Tests.{eqb-true, ltb-true, not-true}
 use Rattle.octets.specs.Bytes.{num, items}
 use Rattle.octets.proofs.Laws.{Bytes}
 use Rattle.octets.proofs.Codecs.{All, length-items, getD-items}
-use Rattle.rules.specs.Choice.{pick}
+use Rattle.rules.specs.Choice.{pick, any, every, when}
 use Rattle.rules.specs.Group.{sizesFit}
 use Rattle.rules.specs.Entry.{noEntry, entryOf}
 use Rattle.rules.specs.Log.{goodLog}
 use Rattle.rules.specs.Wire.{Wire, firstEntry, headerOf, caseOf, tagOf, headerIn, numbersOf}
-use Rattle.rules.specs.Kind.{fromOutside, bare, withOne, withLog, known, viewsIn, numbersIn}
+use Rattle.rules.specs.Kind.{Kind, kinds, noKind, rowIn, rowOf, fromOutside, bare, withOne, withLog, known, viewsIn, numbersIn}
 use Rattle.rules.specs.Wire as wires
 use Rattle.rules.specs.Read.{Read, malformed, message, read, wireIn, fieldsOf, entriesAt, lengthFor, entryAt, caseRead, decoded, formed}
 use Rattle.rules.specs.Image.{stateOf}
@@ -24,8 +24,9 @@ use Rattle.rules.specs.declared.Header.{Header}
 use Rattle.rules.specs.declared.Shape.{Shape}
 use Rattle.rules.specs.declared.Message.{Message}
 use Rattle.rules.specs.declared.Message.the-variants.{WrongSizes, Malformed}
-use Rattle.rules.proofs.Choice.{and-left, or-second, pick-false}
-use Rattle.rules.proofs.EachKind.{or-elim}
+use Rattle.rules.proofs.Choice.{and-left, pick-false, any-none}
+use Rattle.rules.proofs.Tests.{so-when}
+use Rattle.rules.proofs.EachKind.{by-test}
 use Rattle.rules.proofs.Entries.{EntryFits}
 use Rattle.rules.proofs.Verdicts.{Rights, message-right}
 use Rattle.rules.proofs.Messages.{Whole, read-whole, read-formed, formed-fits}
@@ -47,17 +48,37 @@ whole-known n s b w q = message-right n s (fieldsOf w) (length (w .entries)) (le
 
 whole-numbers : (n s : ℕ) (b : List ℕ) (w : Wire) → Whole n s b w → length (w .numbers) ≡ numbersIn (w .kind)
 unfolding fieldsOf
-whole-numbers n s b w q = eqb-true _ _ (message-right n s (fieldsOf w) (length (w .entries)) (length (w .entries)) (q .fine) .body 1)
+whole-numbers n s b w q = eqb-true _ _ (message-right n s (fieldsOf w) (length (w .entries)) (length (w .entries)) (q .fine) .count)
 
--- a kind with a log is none with one entry, and is known
-no-one : (k : ℕ) → withLog k ≡ true → eqb k 1 ≡ false
-no-one k = or-elim (eqb k 4) _ (is 4 refl) (or-elim (eqb k 8) _ (is 8 refl) (or-elim (eqb k 9) _ (is 9 refl) (is 19 refl)))
+rows-none : (rs : List Kind) (k : ℕ) → All (λ r. eqb k (r .kind) ≡ false) rs → rowIn rs k ≡ noKind
+unfolding rowIn pick
+rows-none [] k h = refl
+rows-none (r ∷ rs) k h = rw (h .0) (rows-none rs k (h .1))
+
+-- a number that is no kind has no row
+no-row : (k : ℕ) → known k ≡ false → rowOf k ≡ noKind
+unfolding rowOf
+no-row k e = rows-none kinds k (any-none (λ r. eqb k (r .kind)) kinds e)
+
+-- a kind with one entry, or with a log, is known
+one-known : (k : ℕ) → withOne k ≡ true → known k ≡ true
+one-known k e = go (known k) refl
   where
-    is : (j : ℕ) → eqb j 1 ≡ false → eqb k j ≡ true → eqb k 1 ≡ false
-    is j f e = rw (eqb-true k j e) f
+    go : (t : Bool) → known k ≡ t → t ≡ true
+    go true h = refl
+    go false h = absurd (true≢false (sym e ∙ rw (no-row k h)))
 
 log-known : (k : ℕ) → withLog k ≡ true → known k ≡ true
-log-known k e = or-second (withOne k) _ (rw e)
+log-known k e = go (known k) refl
+  where
+    go : (t : Bool) → known k ≡ t → t ≡ true
+    go true h = refl
+    go false h = absurd (true≢false (sym e ∙ rw (no-row k h)))
+
+-- a transaction has no log
+no-one : (k : ℕ) → withLog k ≡ true → eqb k 1 ≡ false
+unfolding every rowOf
+no-one k e = not-true (eqb k 1) (so-when (withLog k) (not (eqb k 1)) (by-test (λ k. when (withLog k) (not (eqb k 1))) refl k (log-known k e)) e)
 
 module _ (n s : ℕ) (m : Message) (msg : List ℕ) where
   told-whole : (w : Wire) → sizesFit n s ≡ true → read n s msg ≡ message w → m ≡ caseOf w → Told n s m msg
@@ -74,7 +95,7 @@ module _ (n s : ℕ) (m : Message) (msg : List ℕ) where
       }
 
   pub told : m ≡ decoded n s msg → known (tagOf m) ≡ true → Told n s m msg
-  unfolding decoded pick
+  unfolding decoded pick any
   told e k = go (sizesFit n s) (read n s msg) refl refl e
     where
       go : (t : Bool) (r : Read) → sizesFit n s ≡ t → read n s msg ≡ r → m ≡ pick t (caseRead r) WrongSizes → Told n s m msg
@@ -144,12 +165,8 @@ module _ (n s : ℕ) (m : Message) (msg : List ℕ) where
 
     -- a kind with one entry has one, the first
     pub told-one : withOne k ≡ true → length (w .entries) ≡ 1
-    unfolding pick
-    told-one =
-        or-elim (eqb k 1) _ (λ e. eqb-true _ _ (told-right 1 (eqb-true k 1 e) .body 4))
-        (or-elim (eqb k 3) _ (λ e. eqb-true _ _ (told-right 3 (eqb-true k 3 e) .body 2))
-        (or-elim (eqb k 5) _ (λ e. eqb-true _ _ (told-right 5 (eqb-true k 5 e) .body 5))
-        (λ e. eqb-true _ _ (told-right 6 (eqb-true k 6 e) .body 3))))
+    unfolding pick fieldsOf
+    told-one o = let h : withOne (w .kind) ≡ true = ap withOne (t .kind) ∙ o in eqb-true (length (w .entries)) 1 (rw h at (told-rights t .entries))
 
     pub told-first : withOne k ≡ true → (length msg ≡ lengthFor s k 1) × (entryAt msg (entriesAt s k + 4) ≡ firstEntry w)
     told-first e =
@@ -189,4 +206,4 @@ module _ (sh : Shape) (b msg : List ℕ) (m : Message) (r : Ready sh b m msg) wh
   pub ready-first : (k : ℕ) → tagOf m ≡ k → withOne k ≡ true → (length msg ≡ lengthFor (sh .s) k 1) × (entryAt msg (entriesAt (sh .s) k + 4) ≡ firstEntry (wireIn (sh .s) msg))
   ready-first k e o =
       let w : withOne (tagOf m) ≡ true = rw e o in
-      rw e at (told-first (sh .n) (sh .s) m msg (ready-told (rw w)) w)
+      rw e at (told-first (sh .n) (sh .s) m msg (ready-told (one-known (tagOf m) w)) w)

@@ -105,9 +105,9 @@ module _ {sh : Shape} {b : List ℕ} (m : Midway sh b) where
       → at ≡ startOf sh 3 + (4 + 24 * i) → end ≡ at + 24 → r ≡ digestFrom sum (take (end - at) (drop at b′)) → r ≡ digest (stateOf sh b .logged .log ++ (d ∷ []))
   digest-runs {b′} d at end i sum r w hi hs e z q =
       let log = stateOf sh b .logged .log in
-      let y : stateOf sh b′ .log ≡ log ++ (d ∷ []) = ap (λ (x : State). x .log) (w .is) in
-      let long : length (stateOf sh b′ .log) ≡ length log + 1 = ap length y ∙ simp length-append in
-      let last : entryOf (stateOf sh b′ .log) i ≡ d = ap (λ (es : List Entry). entryOf es i) y ∙ last-of log d i hi in
+      let y : stateOf sh b′ .logged .log ≡ log ++ (d ∷ []) = ap (λ (x : State). x .logged .log) (w .is) in
+      let long : length (stateOf sh b′ .logged .log) ≡ length log + 1 = ap length y ∙ simp length-append in
+      let last : entryOf (stateOf sh b′ .logged .log) i ≡ d = ap (λ (es : List Entry). entryOf es i) y ∙ last-of log d i hi in
       q ∙ ap (digestFrom sum) (log-entry (w .midway .laid) (w .midway .state .log .room) at end i e z (omega arith) ∙ ap entryBytes last) ∙ ap (λ (h : ℕ). digestFrom h (entryBytes d)) hs ∙ sym (digest-next log d)
     where
       last-of : (log : List Entry) (d : Entry) (i : ℕ) → i ≡ length log → entryOf (log ++ (d ∷ [])) i ≡ d

@@ -72,7 +72,7 @@ pub all-left : {sh : Shape} (b : List ℕ) {b₁ b₂ : List ℕ} (n k : ℕ) (u
     → Reaches sh (withNotes (stateOf sh b₁) (notesWithout (listedIn u (firstOf k f)) (stateOf sh b₁ .waiting .notes))) b₂ → Cleared sh b n b₂
 all-left {sh} b n k u f e r s =
     record {
-      is = s .is ∙ ap (λ (x : State). withNotes x (notesWithout (items (entryAt u) 24 0 k) (x .notes))) (r .is)
+      is = s .is ∙ ap (λ (x : State). withNotes x (notesWithout (items (entryAt u) 24 0 k) (x .waiting .notes))) (r .is)
           ∙ ap (λ (gone : List Entry). withNotes (withEarly (stateOf sh b) (without gone (stateOf sh b .waiting .early))) (notesWithout gone (stateOf sh b .waiting .notes))) e;
       midway = s .midway;
     }

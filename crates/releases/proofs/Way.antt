@@ -64,7 +64,7 @@ arrive {sh} {st} {b} f g l hg hr d =
             state = subst (StateFits sh) (sym e) g;
             group = rw e hg;
             replica = rw e hr;
-            early = ap (λ (x : State). distinct (x .early)) e ∙ d;
+            early = ap (λ (x : State). distinct (x .waiting .early)) e ∙ d;
           };
     }
 

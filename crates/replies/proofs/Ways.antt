@@ -10,9 +10,9 @@ use lib.Dec.{eqb, ltb, leb}
 use borrow.Author.Tests.{eqb-true, lt-ltb, le-ltb, le-leb, lt-leb, not-true, not-false}
 use Rattle.octets.specs.Bytes.{num, splice, items}
 use Rattle.octets.proofs.Codecs.{length-items}
-use Rattle.rules.specs.Choice.{pick, count, isSome, same}
+use Rattle.rules.specs.Choice.{pick, count, isSome, same, any}
 use Rattle.rules.specs.Wire.{Wire, tagOf, headerIn}
-use Rattle.rules.specs.Kind.{bare, known, fromOutside}
+use Rattle.rules.specs.Kind.{bare, known, fromOutside, rowOf}
 use Rattle.rules.specs.Wire as wires
 use Rattle.rules.specs.Read.{wireIn, entriesAt, lengthFor, entryAt}
 use Rattle.rules.specs.State.{State, held}
@@ -105,9 +105,11 @@ module _ (sh : Shape) (b msg out : List ℕ) (m : Message) (h : Header) (r : Rea
   from = h .«from_group»
 
   kind-known : known (tagOf m) ≡ true
+  unfolding any
   kind-known = ap (λ (x : Message). known (tagOf x)) e
 
   kind-views : bare (tagOf m) ≡ false
+  unfolding rowOf
   kind-views = ap (λ (x : Message). bare (tagOf x)) e
 
   kind-is : tagOf m ≡ 19
@@ -121,6 +123,7 @@ module _ (sh : Shape) (b msg out : List ℕ) (m : Message) (h : Header) (r : Rea
 
   -- the sender is of a group
   pub from-below : from < sh .s
+  unfolding rowOf
   from-below = rw e at (told-sender (sh .n) (sh .s) m msg told-so (ap (λ (x : Message). fromOutside (tagOf x)) e) .0)
 
   pub reply-views : 16 + 4 * sh .s ≤ length msg

@@ -205,19 +205,19 @@ module _ {sh : Shape} {b : List ℕ} (st : State) (es : List Entry) (m : Midway 
   -- with a transaction that was not there
   pub added-once : (ds : List Entry) (e : Entry) → es ≡ ds ++ (e ∷ []) → distinct ds ≡ true → among ds e ≡ false → distinct (stateOf sh b .waiting .early) ≡ true
   added-once ds e q o a =
-      ap (λ (x : State). distinct (x .early)) (midway-as m)
+      ap (λ (x : State). distinct (x .waiting .early)) (midway-as m)
       ∙ ap distinct q
       ∙ pairs-distinct (ds ++ (e ∷ []))
       (pairs-append Apart ds (e ∷ []) (distinct-pairs ds o) (tt, tt) (all-map (λ d h. (txn-turns d e ∙ h, tt)) ds (any-none (sameTxn e) ds a)))
 
   pub added-row : (p : List Note → Type 0) → p (st .waiting .notes) → p (stateOf sh b .waiting .notes)
-  added-row p h = subst (λ (x : State). p (x .notes)) (sym (midway-as m)) h
+  added-row p h = subst (λ (x : State). p (x .waiting .notes)) (sym (midway-as m)) h
 
 -- ---- a note kept, and the early entry lifted by it
 
 module _ {sh : Shape} {b : List ℕ} (st : State) (xs : List Note) (m : Midway sh (withNotes st xs) b) where
   pub still-once : distinct (st .waiting .early) ≡ true → distinct (stateOf sh b .waiting .early) ≡ true
-  still-once o = ap (λ (x : State). distinct (x .early)) (midway-as m) ∙ o
+  still-once o = ap (λ (x : State). distinct (x .waiting .early)) (midway-as m) ∙ o
 
   pub kept-lifted : (e : Entry) (b′ : List ℕ) → Midway sh (withEarly (stateOf sh b) (lifted sh (stateOf sh b .waiting .notes) e (stateOf sh b .waiting .early))) b′ → b′ ≡ image sh (buffered st (lifted sh xs e (st .waiting .early)) (st .waiting .late) xs)
-  kept-lifted e b′ k = k .laid .bytes ∙ ap (λ (x : State). image sh (withEarly x (lifted sh (x .notes) e (x .early)))) (midway-as m)
+  kept-lifted e b′ k = k .laid .bytes ∙ ap (λ (x : State). image sh (withEarly x (lifted sh (x .waiting .notes) e (x .waiting .early)))) (midway-as m)

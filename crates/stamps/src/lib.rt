@@ -7,7 +7,7 @@ ghost use mathlib.Core.Bool.{true};
 ghost use Prim.Native.Nat.{_<_};
 ghost use lib.ListN.{length, set};
 ghost use Rattle.rules.specs.Entry as order;
-ghost use Rattle.rules.specs.Log.{distinct};
+ghost use Rattle.rules.specs.Log as log;
 ghost use Rattle.rules.specs.Choice.{isSome};
 ghost use Rattle.rules.specs.State as rule;
 ghost use Rattle.rules.specs.Image.{stateOf};
@@ -33,7 +33,7 @@ pub fn stamped(stamp: u64, e: Entry) -> Entry
 // The timestamp of the log's last entry, 0 where it is empty.
 fn last_stamp(shape: Shape, state: &[u8]) -> u64
     requires { ⌜ Midway shape (stateOf shape (now state)) (now state) ⌝ }
-    ensures { λ r. ⌜ r ≡ order.lastStamp (stateOf shape (now (state .entry)) .logged .log) ⌝ }
+    ensures { λ r. ⌜ r ≡ log.lastStamp (stateOf shape (now (state .entry)) .logged .log) ⌝ }
 {
     let layout = places::places_of(shape);
     let start = layout.log;
@@ -44,21 +44,21 @@ fn last_stamp(shape: Shape, state: &[u8]) -> u64
 // Whether e may follow the log's last.
 pub fn may_follow(shape: Shape, state: &[u8], e: Entry) -> bool
     requires { ⌜ Midway shape (stateOf shape (now state)) (now state) ⌝ }
-    ensures { λ r. ⌜ r ≡ order.followsLast (stateOf shape (now (state .entry)) .logged .log) e ⌝ }
+    ensures { λ r. ⌜ r ≡ log.followsLast (stateOf shape (now (state .entry)) .logged .log) e ⌝ }
 {
     last_stamp(shape, state) <= e.stamp
 }
 
-// The timestamp that a leader gives: the greater of due and the log's last.
-pub fn leader_stamp(shape: Shape, state: &[u8], due: u64) -> u64
+// The entry that a leader puts in early: e at its due time or, where that is below the log's last, at that timestamp.
+pub fn raised(shape: Shape, state: &[u8], e: Entry) -> Entry
     requires { ⌜ Midway shape (stateOf shape (now state)) (now state) ⌝ }
-    ensures { λ r. ⌜ r ≡ order.leaderStamp (stateOf shape (now (state .entry)) .logged .log) due ⌝ }
+    ensures { λ r. ⌜ r ≡ log.raised (stateOf shape (now (state .entry)) .logged .log) e ⌝ }
 {
     let last = last_stamp(shape, state);
-    if due < last {
-        return last;
+    if e.stamp < last {
+        return stamped(last, e);
     }
-    due
+    e
 }
 
 // ---- the notes
@@ -116,7 +116,7 @@ fn put_early(shape: Shape, state: &mut [u8], i: usize, d: Entry)
 
 // The early entry of e's transaction, once notes from every group of its mask are held, gets their greatest as its timestamp.
 pub fn lift(shape: Shape, state: &mut [u8], e: Entry)
-    requires { ⌜ Midway shape (stateOf shape (now state)) (now state) × (distinct (stateOf shape (now state) .waiting .early) ≡ true) ⌝ }
+    requires { ⌜ Midway shape (stateOf shape (now state)) (now state) × (log.distinct (stateOf shape (now state) .waiting .early) ≡ true) ⌝ }
     ensures { λ _. ⌜ Midway shape (withEarly (stateOf shape (now (state .entry))) (lifted shape (stateOf shape (now (state .entry)) .waiting .notes) e (stateOf shape (now (state .entry)) .waiting .early))) (now (state .exit)) ⌝ }
 {
     let start = places::places_of(shape).early;

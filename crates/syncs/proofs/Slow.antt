@@ -10,6 +10,7 @@ use lib.Seq.{take-at, length-take-le}
 use Rattle.octets.specs.Bytes.{num, splice, flat}
 use Rattle.octets.proofs.Laws.{bytes-known, splice-none, splice-next}
 use Rattle.octets.proofs.Codecs.{length-items, getD-items}
+use Rattle.rules.specs.Kind.{rowOf}
 use Rattle.rules.specs.Choice.{pick, below}
 use Rattle.rules.specs.Entry.{noEntry, entryOf}
 use Rattle.rules.specs.Wire.{Wire, entryBytes, wireBytes}
@@ -37,7 +38,7 @@ use Rattle.leaving.specs.declared.Listed.{Listed}
 
 -- how long it is
 pub one-long : (s : ℕ) → lengthFor s 6 1 ≡ 56 + 4 * s
-unfolding pick
+unfolding pick rowOf
 one-long s = omega arith
 
 -- for C positions at most
@@ -72,7 +73,7 @@ module _ {sh : Shape} {b msg : List ℕ} {log : Listed} (g : Coming sh b msg log
       (record { fits = g .stands .fits; size = g .stands .size }, omega (arith, bytes-long), omega (arith, bytes-long), omega (arith, bytes-long, one-long (sh .s)))
 
   slow-long : length (wireBytes (slowReply st entries i)) ≡ lengthFor (sh .s) 6 1
-  unfolding pick
+  unfolding pick rowOf
   slow-long = sent-length (sh .s) st 6 255 1 _ (entryOf entries i ∷ []) (stands-fits (g .stands) .gVecPlaces) refl refl
 
   module _ (known : (j : ℕ) → getD msg j 0 < 256) where

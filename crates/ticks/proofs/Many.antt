@@ -7,6 +7,7 @@ use native.Mathlib.Numerals.{add-one}
 use lib.ListN.{length, take, drop, length-append, List·getD-append}
 use lib.Seq.{drop-at, take-suc, take-all, take-append-le, getD-take, getD-append-add, length-take-le}
 use Rattle.octets.specs.Bytes.{flat}
+use Rattle.rules.specs.Kind.{rowOf}
 use Rattle.rules.specs.Choice.{pick, below}
 use Rattle.rules.specs.Entry.{noEntry, entryOf, without}
 use Rattle.rules.specs.Wire.{Wire, wireBytes}
@@ -70,7 +71,7 @@ module _ (st : State) (ds : List Entry) where
 
   -- how long they are
   pub replies-length : (s : ℕ) → length (st .view .gVec) ≡ s → (i : ℕ) → i ≤ length ds → length (flat wireBytes (placedReplies st (take i ds))) ≡ lengthFor s 5 1 * i
-  unfolding placedReply pick
+  unfolding placedReply pick rowOf
   replies-length s e i l = ap (λ (ws : List Wire). length (flat wireBytes ws)) (replies-are i l) ∙ sends-below (reply i) (lengthFor s 5 1) i (λ j h. long j)
     where
       long : (j : ℕ) → length (wireBytes (reply i j)) ≡ lengthFor s 5 1

@@ -13,7 +13,7 @@ use Rattle.octets.proofs.Codecs.{All}
 use Rattle.rules.specs.Choice.{pick}
 use Rattle.rules.specs.Group.{only, others}
 use Rattle.rules.specs.Entry.{noEntry, entryOf}
-use Rattle.rules.specs.Kind.{bare, numbersIn}
+use Rattle.rules.specs.Kind.{bare, numbersIn, rowOf}
 use Rattle.rules.specs.Wire.{entryBytes, wireBytes, headerIn, numbersOf}
 use Rattle.rules.specs.Read.{lengthFor}
 use Rattle.rules.specs.Image.{stateOf}
@@ -37,18 +37,18 @@ use Rattle.releases.proofs.LogBytes.{log-rest, log-entry, early-entry}
 
 -- how long a message is
 pub placed-long : (s : ℕ) → lengthFor s 5 1 ≡ 72 + 4 * s
-unfolding pick
+unfolding pick rowOf
 placed-long s = omega arith
 
 pub replies-small : (s k : ℕ) → s ≤ 8 → k ≤ 4096 → lengthFor s 5 1 * k ≤ 425984
 replies-small s k a b = mul-le-mul (let z : lengthFor s 5 1 ≤ 104 = omega (arith, placed-long s) in z) b
 
 pub log-long : (s n : ℕ) → lengthFor s 4 n ≡ 24 + 4 * s + 24 * n
-unfolding pick
+unfolding pick rowOf
 log-long s n = omega arith
 
 pub status-long : (s : ℕ) → lengthFor s 10 0 ≡ 32 + 4 * s
-unfolding pick
+unfolding pick rowOf
 status-long s = omega arith
 
 one-flat : (e : Entry) → entryBytes e ≡ flat entryBytes (e ∷ [])
@@ -86,7 +86,7 @@ module _ {sh : Shape} {b : List ℕ} (m : Midway sh b) where
     pub placed-told : (out out′ : List ℕ) (at r sum : ℕ) (h : Header) → h ≡ headedIn b 5 255 1
         → (r ≡ at + length (messageBytes sh b (FastReply h 1 (n + 1) sum) (take (end - from) (drop from b)))) × (out′ ≡ splice out at (messageBytes sh b (FastReply h 1 (n + 1) sum) (take (end - from) (drop from b))))
         → (r ≡ at + lengthFor (sh .s) 5 1) × (out′ ≡ splice out at (wireBytes (sendOut (stateOf sh b) 5 (1 ∷ (n + 1) ∷ sum ∷ []) (entryOf (stateOf sh b .logged .log) n))))
-    unfolding pick
+    unfolding pick rowOf
     placed-told out out′ at r sum h hh w =
         let e = entryOf (stateOf sh b .logged .log) n in
         said out out′ (take (end - from) (drop from b)) at r 5 255 1 (FastReply h 1 (n + 1) sum) (1 ∷ (n + 1) ∷ sum ∷ []) (e ∷ []) hh refl (placed-bytes ∙ one-flat e) (all-at EntryFits noEntry (stateOf sh b .logged .log) (m .state .log .each) n hn, tt) refl refl w
@@ -103,7 +103,7 @@ module _ {sh : Shape} {b : List ℕ} (m : Midway sh b) where
     pub unplaced-told : (out out′ : List ℕ) (r sum : ℕ) (h : Header) → h ≡ headedIn b 5 255 1 → sum ≡ digest (stateOf sh b .logged .log) → entryOf (stateOf sh b .waiting .early) i ≡ entryOf (dueOf time (stateOf sh b .waiting .early)) 0
         → (r ≡ 0 + length (messageBytes sh b (FastReply h 0 0 sum) (take (end - from) (drop from b)))) × (out′ ≡ splice out 0 (messageBytes sh b (FastReply h 0 0 sum) (take (end - from) (drop from b))))
         → (r ≡ lengthFor (sh .s) 5 1) × (out′ ≡ splice out 0 (wireBytes (unplacedReply (stateOf sh b) (entryOf (dueOf time (stateOf sh b .waiting .early)) 0))))
-    unfolding pick unplacedReply
+    unfolding pick unplacedReply rowOf
     unplaced-told out out′ r sum h hh hs hd w =
         let e = entryOf (stateOf sh b .waiting .early) i in
         let s = said out out′ (take (end - from) (drop from b)) 0 r 5 255 1 (FastReply h 0 0 sum) (0 ∷ 0 ∷ sum ∷ []) (e ∷ []) hh refl (unplaced-bytes ∙ one-flat e) (all-at EntryFits noEntry (stateOf sh b .waiting .early) (m .state .early .each) i hi, tt) refl refl w in
@@ -123,7 +123,7 @@ module _ {sh : Shape} {b : List ℕ} (m : Midway sh b) where
     pub log-told : (out out′ : List ℕ) (at r g own t : ℕ) (h : Header) → g ≡ num b 0 1 → own ≡ num b 1 1 → t ≡ others (sh .n) own → h ≡ headedIn b 4 g t
         → (r ≡ at + length (messageBytes sh b (ReplicaSync h) (take (end - from) (drop from b)))) × (out′ ≡ splice out at (messageBytes sh b (ReplicaSync h) (take (end - from) (drop from b))))
         → (r ≡ at + lengthFor (sh .s) 4 (length (stateOf sh b .logged .log))) × (out′ ≡ splice out at (wireBytes (sendFollowers sh (stateOf sh b) 4 (stateOf sh b .logged .log))))
-    unfolding pick
+    unfolding pick rowOf
     log-told out out′ at r g own t h hg ho ht hh w =
         let st = stateOf sh b in
         let y : headedIn b 4 g t ≡ headedIn b 4 (st .site .group) (others (sh .n) (st .site .replica)) = rw (hg ∙ own-group (m .laid) (sender (m .state)), ht ∙ ap (others (sh .n)) (ho ∙ own-replica (m .laid) (sender (m .state)))) in
@@ -140,7 +140,7 @@ module _ {sh : Shape} {b : List ℕ} (m : Midway sh b) where
   pub status-told : (out out′ : List ℕ) (at r g own view t sync : ℕ) (h : Header) → g ≡ num b 0 1 → own ≡ num b 0 1 → view ≡ num b (startOf sh 1 + 4 * own) 4 → t ≡ only (view % sh .n) → sync ≡ num b 24 8 → h ≡ headedIn b 10 g t
       → (r ≡ at + length (messageBytes sh b (SyncStatus h sync) (take (0 - 0) (drop 0 b)))) × (out′ ≡ splice out at (messageBytes sh b (SyncStatus h sync) (take (0 - 0) (drop 0 b))))
       → (r ≡ at + lengthFor (sh .s) 10 0) × (out′ ≡ splice out at (wireBytes (sendLeader sh (stateOf sh b) 10 (stateOf sh b .site .group) (stateOf sh b .logged .sync ∷ []) [])))
-  unfolding pick flat
+  unfolding pick flat rowOf
   status-told out out′ at r g own view t sync h hg ho hv ht hs hh w =
       let st = stateOf sh b in
       let a : own ≡ st .site .group = ho ∙ own-group (m .laid) (sender (m .state)) in

@@ -7,7 +7,7 @@ use native.Mathlib.Omega.{arith}
 use lib.ListN.{getD}
 use borrow.Author.Tests.{lt-ltb, le-ltb}
 use Rattle.octets.specs.Bytes.{num}
-use Rattle.rules.specs.Choice.{pick, leading}
+use Rattle.rules.specs.Choice.{pick, leading, any}
 use Rattle.rules.specs.Wire.{Wire, tagOf, numbersOf}
 use Rattle.rules.specs.Kind.{known}
 use Rattle.rules.specs.Wire as wires
@@ -45,7 +45,7 @@ module _ (sh : Shape) (b msg out : List ℕ) (m : Message) (h : Header) (t : ℕ
   st = stateOf sh b
 
   time-is : wires.number (wireIn (sh .s) msg) 0 ≡ t
-  unfolding pick
+  unfolding pick any
   time-is =
       told-number (sh .n) (sh .s) m msg (ready-told sh b msg m r (ap (λ (x : Message). known (tagOf x)) e)) 0
       ∙ ap (λ (x : Message). getD (numbersOf x) 0 0) e

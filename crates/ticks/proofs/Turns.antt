@@ -8,7 +8,8 @@ use lib.ListN.{length, take, drop, length-append}
 use lib.Seq.{getD-append-add, getD-take, length-take-le}
 use Rattle.octets.specs.Bytes.{flat, splice}
 use Rattle.octets.proofs.Laws.{length-splice, splice-none, splice-next}
-use Rattle.rules.specs.Choice.{below}
+use Rattle.rules.specs.Kind.{rowOf}
+use Rattle.rules.specs.Choice.{below, pick}
 use Rattle.rules.specs.Entry.{noEntry, entryOf, without}
 use Rattle.rules.specs.Wire.{wireBytes}
 use Rattle.rules.specs.Read.{lengthFor}
@@ -65,23 +66,23 @@ module _ {sh : Shape} {b₀ : List ℕ} (m : Midway sh b₀) (out₀ : List ℕ)
     pub turn-asks : Midway sh b × (n + i ≡ length (stateOf sh b .logged .log)) × (n + i < sh .c) × (i < length (dueOf time (stateOf sh b .waiting .early))) × (drop n (stateOf sh b .logged .log) ≡ take i (dueOf time (stateOf sh b .waiting .early))) × (sum ≡ digest (stateOf sh b .logged .log))
     turn-asks =
         let e : stateOf sh b ≡ longer st time i = r .reached .is in
-        let a : length (stateOf sh b .logged .log) ≡ n + i = ap (λ (x : State). length (x .log)) e ∙ long-log i (omega (arith, less)) in
-        let d : length (dueOf time (stateOf sh b .waiting .early)) ≡ length ds = ap (λ (x : State). length (dueOf time (x .early))) e in
-        let g : drop n (stateOf sh b .logged .log) ≡ take i (dueOf time (stateOf sh b .waiting .early)) = ap (λ (x : State). drop n (x .log)) e ∙ longer-rest st time n i hn ∙ ap (λ (x : State). take i (dueOf time (x .early))) (sym e) in
-        (r .reached .midway, sym a, omega arith, omega (arith, less), g, hs ∙ ap (λ (x : State). digest (x .log)) (sym e))
+        let a : length (stateOf sh b .logged .log) ≡ n + i = ap (λ (x : State). length (x .logged .log)) e ∙ long-log i (omega (arith, less)) in
+        let d : length (dueOf time (stateOf sh b .waiting .early)) ≡ length ds = ap (λ (x : State). length (dueOf time (x .waiting .early))) e in
+        let g : drop n (stateOf sh b .logged .log) ≡ take i (dueOf time (stateOf sh b .waiting .early)) = ap (λ (x : State). drop n (x .logged .log)) e ∙ longer-rest st time n i hn ∙ ap (λ (x : State). take i (dueOf time (x .waiting .early))) (sym e) in
+        (r .reached .midway, sym a, omega arith, omega (arith, less), g, hs ∙ ap (λ (x : State). digest (x .logged .log)) (sym e))
 
     module _ (sum₁ : ℕ) {b₁ : List ℕ}
         (w : Reaches sh (withLog (stateOf sh b) (stateOf sh b .logged .log ++ (entryOf (dueOf time (stateOf sh b .waiting .early)) i ∷ []))) b₁)
         (hs₁ : sum₁ ≡ digest (stateOf sh b .logged .log ++ (entryOf (dueOf time (stateOf sh b .waiting .early)) i ∷ []))) where
       -- the state once it is there
       next-is : stateOf sh b₁ ≡ longer st time (i + 1)
-      next-is = w .is ∙ ap (λ (x : State). withLog x (x .log ++ (entryOf (dueOf time (x .early)) i ∷ []))) (r .reached .is) ∙ longer-next st time i less
+      next-is = w .is ∙ ap (λ (x : State). withLog x (x .logged .log ++ (entryOf (dueOf time (x .waiting .early)) i ∷ []))) (r .reached .is) ∙ longer-next st time i less
 
       next-log : stateOf sh b₁ .logged .log ≡ st .logged .log ++ take (i + 1) ds
-      next-log = ap (λ (x : State). x .log) next-is
+      next-log = ap (λ (x : State). x .logged .log) next-is
 
       next-sum : sum₁ ≡ digest (st .logged .log ++ take (i + 1) ds)
-      next-sum = hs₁ ∙ ap (λ (x : State). digest (x .log ++ (entryOf (dueOf time (x .early)) i ∷ []))) (r .reached .is) ∙ ap digest (longer-log st time i less)
+      next-sum = hs₁ ∙ ap (λ (x : State). digest (x .logged .log ++ (entryOf (dueOf time (x .waiting .early)) i ∷ []))) (r .reached .is) ∙ ap digest (longer-log st time i less)
 
       next-entry : entryOf (stateOf sh b₁ .logged .log) (n + i) ≡ entryOf ds i
       next-entry = ap (λ (es : List Entry). entryOf es (n + i)) next-log ∙ rw hn (getD-append-add (st .logged .log) (take (i + 1) ds) i noEntry) ∙ taken-at i
@@ -124,7 +125,7 @@ module _ {sh : Shape} {b₀ : List ℕ} (m : Midway sh b₀) (out₀ : List ℕ)
     pub leave-asks : Midway sh b × (n + k ≡ length (stateOf sh b .logged .log))
     leave-asks =
         let e : i ≡ k = omega arith in
-        let a : length (stateOf sh b .logged .log) ≡ length (st .logged .log) + i = ap (λ (x : State). length (x .log)) (r .reached .is) ∙ length-append (st .logged .log) (take i ds) ∙ ap (λ (x : ℕ). length (st .logged .log) + x) (length-take-le i ds (omega arith)) in
+        let a : length (stateOf sh b .logged .log) ≡ length (st .logged .log) + i = ap (λ (x : State). length (x .logged .log)) (r .reached .is) ∙ length-append (st .logged .log) (take i ds) ∙ ap (λ (x : ℕ). length (st .logged .log) + x) (length-take-le i ds (omega arith)) in
         (r .reached .midway, omega arith)
 
     pub turn-end : (b₁ : List ℕ) → Cleared sh b n b₁ → Released sh b₀ out₀ time k at b₁ out
@@ -134,7 +135,7 @@ module _ {sh : Shape} {b₀ : List ℕ} (m : Midway sh b₀) (out₀ : List ℕ)
         (record {
           reached =
               record {
-                is = w .is ∙ ap (λ (x : State). withNotes (withEarly x (without (drop n (x .log)) (x .early))) (notesWithout (drop n (x .log)) (x .notes))) (r .reached .is) ∙ longer-released st time n i hn;
+                is = w .is ∙ ap (λ (x : State). withNotes (withEarly x (without (drop n (x .logged .log)) (x .waiting .early))) (notesWithout (drop n (x .logged .log)) (x .waiting .notes))) (r .reached .is) ∙ longer-released st time n i hn;
                 midway = w .midway;
               };
           end = r .end;

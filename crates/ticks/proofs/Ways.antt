@@ -11,6 +11,7 @@ use lib.Dec.{eqb, leb}
 use borrow.Author.Tests.{le-leb, lt-leb, ne-eqb}
 use Rattle.octets.specs.Bytes.{num, flat, splice}
 use Rattle.octets.proofs.Laws.{splice-next}
+use Rattle.rules.specs.Kind.{rowOf}
 use Rattle.rules.specs.Choice.{pick, leading, below}
 use Rattle.rules.specs.Entry.{entryOf}
 use Rattle.rules.specs.Wire.{Wire, wireBytes}
@@ -191,7 +192,7 @@ module _ {sh : Shape} {b₀ : List ℕ} (m : Midway sh b₀) (out₀ : List ℕ)
 
   module _ (due : ℕ) (e : due ≡ length ds) (f : due ≡ 0 → ⊥) where
     unplaced-long : length (wireBytes (unplacedReply old (entryOf ds 0))) ≡ lengthFor (sh .s) 5 1
-    unfolding unplacedReply pick
+    unfolding unplacedReply pick rowOf
     unplaced-long = sent-length (sh .s) old 5 255 1 _ _ (m .state .gVecPlaces) refl refl
 
     told-first : leaderReleases sh old time ds [] ≡ done (released old time n []) (unplacedReply old (entryOf ds 0) ∷ [])
@@ -238,7 +239,7 @@ module _ {sh : Shape} {b₀ : List ℕ} (m : Midway sh b₀) (out₀ : List ℕ)
     long-log = length-append (old .log) (take k ds) ∙ ap₂ _+_ (sym hn) (length-take-le k ds within)
 
     sync-long : length (wireBytes sync) ≡ z
-    unfolding pick
+    unfolding pick rowOf
     sync-long = sent-length (sh .s) old 4 _ _ [] (old .log ++ take k ds) (m .state .gVecPlaces) refl refl ∙ ap (lengthFor (sh .s) 4) long-log ∙ sym hz
 
     pub leader-tight : length out₀ < a + z → leaves 9 b₀ out₀ ≡ closes sh b₀ out₀ (leaderReleases sh old time ds run)
@@ -250,7 +251,7 @@ module _ {sh : Shape} {b₀ : List ℕ} (m : Midway sh b₀) (out₀ : List ℕ)
 
       module _ (at : ℕ) {b₁ out₁ : List ℕ} (w : Released sh b₀ out₀ time k at b₁ out₁) where
         now-log : length (stateOf sh b₁ .logged .log) ≡ n + k
-        now-log = ap (λ (x : State). length (x .log)) (w .reached .is) ∙ long-log
+        now-log = ap (λ (x : State). length (x .logged .log)) (w .reached .is) ∙ long-log
 
         pub leader-log : Midway sh b₁ × (at + lengthFor (sh .s) 4 (length (stateOf sh b₁ .logged .log)) ≤ length out₁)
         leader-log = let y : lengthFor (sh .s) 4 (length (stateOf sh b₁ .logged .log)) ≡ z = ap (lengthFor (sh .s) 4) now-log ∙ sym hz in (w .reached .midway, omega (arith, w .end, w .long))
@@ -260,7 +261,7 @@ module _ {sh : Shape} {b₀ : List ℕ} (m : Midway sh b₀) (out₀ : List ℕ)
         leader-done end b₂ out₂ (u, v) i =
             let y : lengthFor (sh .s) 4 (length (stateOf sh b₁ .logged .log)) ≡ z = ap (lengthFor (sh .s) 4) now-log ∙ sym hz in
             releases-done m out₀ time k within sync z sync-long (released old time (n + k) (take k ds)) at end b₂ out₂ (omega arith) w (omega arith)
-            (v ∙ ap (λ (x : State). splice out₁ at (wireBytes (sendFollowers sh x 4 (x .log)))) (w .reached .is))
+            (v ∙ ap (λ (x : State). splice out₁ at (wireBytes (sendFollowers sh x 4 (x .logged .log)))) (w .reached .is))
             (i ∙ ap (λ (x : State). image sh (withSync (withClock x time) (n + k))) (w .reached .is))
             ∙ ap (closes sh b₀ out₀) (sym made)
 
@@ -283,7 +284,7 @@ module _ {sh : Shape} {b₀ : List ℕ} (m : Midway sh b₀) (out₀ : List ℕ)
       sent = follower-some sh old time ds (sym full-is ∙ c) n k hn (q ∙ ap (λ (x : ℕ). min x (sh .c - n)) e)
 
       status-long : length (wireBytes status) ≡ z
-      unfolding pick
+      unfolding pick rowOf
       status-long = sent-length (sh .s) old 10 _ _ (old .sync ∷ []) [] (m .state .gVecPlaces) refl refl ∙ sym hz
 
       pub follower-tight : length out₀ < a + z → leaves 9 b₀ out₀ ≡ closes sh b₀ out₀ (followerReleases sh old time ds)
@@ -300,8 +301,8 @@ module _ {sh : Shape} {b₀ : List ℕ} (m : Midway sh b₀) (out₀ : List ℕ)
           pub follower-done : (end sync : ℕ) (b₂ out₂ : List ℕ) → (end ≡ at + lengthFor (sh .s) 10 0) × (out₂ ≡ splice out₁ at (wireBytes (sendLeader sh (stateOf sh b₁) 10 (stateOf sh b₁ .site .group) (stateOf sh b₁ .logged .sync ∷ []) []))) → sync ≡ num b₁ 24 8 → b₂ ≡ image sh (withSync (withClock (stateOf sh b₁) time) sync)
               → left (Done end) b₂ out₂ ≡ closes sh b₀ out₀ (followerReleases sh old time ds)
           follower-done end sync b₂ out₂ (u, v) y i =
-              let s : sync ≡ old .sync = y ∙ sync-in (w .reached .midway) ∙ ap (λ (x : State). x .sync) (w .reached .is) in
+              let s : sync ≡ old .sync = y ∙ sync-in (w .reached .midway) ∙ ap (λ (x : State). x .logged .sync) (w .reached .is) in
               releases-done m out₀ time k inside status z status-long (released old time (old .sync) (take k ds)) at end b₂ out₂ (omega arith) w (omega arith)
-              (v ∙ ap (λ (x : State). splice out₁ at (wireBytes (sendLeader sh x 10 (x .group) (x .sync ∷ []) []))) (w .reached .is))
+              (v ∙ ap (λ (x : State). splice out₁ at (wireBytes (sendLeader sh x 10 (x .site .group) (x .logged .sync ∷ []) []))) (w .reached .is))
               (i ∙ ap (λ (x : ℕ). image sh (withSync (withClock (stateOf sh b₁) time) x)) s ∙ ap (λ (x : State). image sh (withSync (withClock x time) (old .sync))) (w .reached .is))
               ∙ ap (closes sh b₀ out₀) (sym sent)

@@ -10,7 +10,7 @@ ghost use lib.Dec.{eqb};
 ghost use lib.ListN.{length};
 ghost use Rattle.octets.specs.Bytes.{le, num, splice, flat};
 ghost use Rattle.rules.specs.Choice.{pick};
-ghost use Rattle.rules.specs.Entry.{later};
+ghost use Rattle.rules.specs.Entry.{pastAsked};
 ghost use Rattle.rules.specs.Group as sets;
 ghost use Rattle.rules.specs.Wire.{entryBytes};
 ghost use Rattle.rules.specs.Image.{stateOf};
@@ -53,18 +53,18 @@ fn source_of(shape: Shape, state: &[u8]) -> &[u8]
     )
 }
 
-// Whether e is later than a boundary.
-fn is_later(boundary: u64, e: Entry) -> bool
-    ensures { λ r. ⌜ r ≡ later boundary e ⌝ }
+// Whether e is past the boundary that is asked from.
+fn is_past(boundary: u64, e: Entry) -> bool
+    ensures { λ r. ⌜ r ≡ pastAsked boundary e ⌝ }
 {
     boundary < e.stamp
 }
 
-// Whether e is asked for: it is later than the boundary, and its mask has the asker's group.
+// Whether e is asked for: it is past the boundary, and its mask has the asker's group.
 fn is_asked(boundary: u64, asker: u64, e: Entry) -> bool
     ensures { λ r. ⌜ r ≡ isAsked boundary asker e ⌝ }
 {
-    is_later(boundary, e) & group::holds(e.mask, asker)
+    is_past(boundary, e) & group::holds(e.mask, asker)
 }
 
 // How many of the entries in t are asked for.

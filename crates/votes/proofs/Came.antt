@@ -10,6 +10,7 @@ use borrow.Author.Tests.{not-true, not-false}
 use Rattle.octets.specs.Bytes.{le, num, splice, items}
 use Rattle.octets.proofs.Laws.{Bytes}
 use Rattle.octets.proofs.Codecs.{length-items}
+use Rattle.rules.specs.Kind.{rowOf}
 use Rattle.rules.specs.Choice.{pick}
 use Rattle.rules.specs.Read.{entryAt}
 use Rattle.rules.specs.State.{Vote, State}
@@ -80,7 +81,7 @@ module _ (sh : Shape) (b msg : List ℕ) (view : ℕ) (k : Cast) (g : Brought sh
 
   module _ (bs : Bytes msg) (v : view < 256 ^ 4) where
     comes-entered : k .entering ≡ true → Comes sh b msg view k entered
-    unfolding votesIn pick
+    unfolding votesIn pick rowOf
     comes-entered e =
         let f = stands-fits stands in
         let n = even-none (sh .c) (sh .n) in

@@ -11,11 +11,11 @@ use lib.Dec.{eqb, ltb, leb}
 use borrow.Author.Tests.{lt-ltb, le-ltb, le-leb, lt-leb, eqb-true, eqb-false, not-true}
 use Rattle.octets.specs.Bytes.{num, items}
 use Rattle.octets.proofs.Laws.{Bytes}
-use Rattle.rules.specs.Choice.{pick, isSome}
+use Rattle.rules.specs.Choice.{pick, isSome, any}
 use Rattle.rules.specs.Group.{majority}
 use Rattle.rules.specs.Log.{goodLog}
 use Rattle.rules.specs.Wire.{Wire, tagOf, headerIn, numbersOf}
-use Rattle.rules.specs.Kind.{bare, known}
+use Rattle.rules.specs.Kind.{bare, known, fromOutside, withLog, rowOf}
 use Rattle.rules.specs.Wire as wires
 use Rattle.rules.specs.Read.{wireIn, entriesAt, lengthFor, entryAt, formed}
 use Rattle.rules.specs.State.{Vote, State, held}
@@ -83,7 +83,7 @@ record Right (sh : Shape) (st : State) (w : Wire) : Type 0 where
   gVec : newer st w ≡ false → w .gVec ≡ st .view .gVec
 
 right : (sh : Shape) (st : State) (w : Wire) → viewRight 8 st w ≡ true → statusRight 8 st w ≡ true → roleRight 8 sh st w ≡ true → Right sh st w
-unfolding viewRight statusRight roleRight pick
+unfolding viewRight statusRight roleRight pick rowOf
 right sh st w v s r =
     let p = and-right (leadsBy sh st w) _ r in
     let q : not (eqb (w .fromReplica) (st .site .replica)) ≡ true = and-right (fromOwn st w) _ p in
@@ -118,9 +118,11 @@ module _ (sh : Shape) (b msg out : List ℕ) (m : Message) (h : Header) (normal 
   kind-is = ap tagOf e
 
   kind-known : known (tagOf m) ≡ true
+  unfolding any
   kind-known = ap (λ (x : Message). known (tagOf x)) e
 
   kind-views : bare (tagOf m) ≡ false
+  unfolding rowOf
   kind-views = ap (λ (x : Message). bare (tagOf x)) e
 
   told-so : Told (sh .n) (sh .s) m msg
@@ -178,20 +180,22 @@ module _ (sh : Shape) (b msg out : List ℕ) (m : Message) (h : Header) (normal 
   vote-counted = omega (arith, whole)
 
   pub vote-sender : Sent sh b k
+  unfolding rowOf
   vote-sender =
-      let f = told-sender (sh .n) (sh .s) m msg told-so (ap (λ (x : Message). wires.fromOutside (tagOf x)) e) .1 in
+      let f = told-sender (sh .n) (sh .s) m msg told-so (ap (λ (x : Message). fromOutside (tagOf x)) e) .1 in
       record { stands = r .stands; sender = subst (λ (x : Header). x .«from_replica» < sh .n) header-is f }
 
   formed-so : formed (sh .n) (sh .s) w ≡ true
   formed-so = told-formed (sh .n) (sh .s) m msg told-so bs
 
   pub vote-brought : num msg at 4 ≤ sh .c → Brought sh b msg (h .view) k
+  unfolding rowOf
   vote-brought l =
       let p = vote-parts (sh .n) (sh .s) w formed-so (told-so .kind ∙ kind-is) in
       let x : normal ≡ wires.number w 0 = sym (ap (λ (v : Vote). v .normal) vote-is) in
       let y : sync ≡ wires.number w 1 = sym (ap (λ (v : Vote). v .sync) vote-is) in
       let wide = view-wide (sh .n) (sh .s) w formed-so in
-      let good : goodLog (sh .s) (st .site .group) (sentLog msg at) ≡ true = rw (← entries-are) (ready-log sh b msg m r bs (ap (λ (z : Message). wires.withLog (tagOf z)) e)) in
+      let good : goodLog (sh .s) (st .site .group) (sentLog msg at) ≡ true = rw (← entries-are) (ready-log sh b msg m r bs (ap (λ (z : Message). withLog (tagOf z)) e)) in
       record {
         given = record { sent = vote-sender; long = omega (arith, whole); room = l; good = good; within = omega (arith, p .1, entries-long) };
         normal = omega (arith, p .0);

@@ -3,6 +3,7 @@ use borrow.Author.Needs.{needs}
 use Rattle.arrivals.proofs.on_note.Statement.{statement}
 use Rattle.arrivals.proofs.on_note.Tie as tie
 use mathlib.Core.Path.{refl}
+use Rattle.rules.specs.Kind.{rowOf}
 use Rattle.rules.specs.Step.{onNote}
 use Rattle.handler.proofs.Closes.{handled-other}
 use Rattle.handler.proofs.OtherKind.{not-tag}
@@ -19,6 +20,7 @@ cast-from : tie.Need-cast-from
 cast-from c = search needs
 
 first-entry-requires : tie.Need-first-entry-requires
+unfolding rowOf
 first-entry-requires c κs = (rw (c .before .before .before .m .given .1) at (c .before .before .before .before .before .before .before .before .pre), refl, refl)
 
 in-log-requires : tie.Need-in-log-requires

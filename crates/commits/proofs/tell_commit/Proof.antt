@@ -3,6 +3,7 @@ use mathlib.Core.Path.{_≡_, refl, _∙_}
 use native.Mathlib.Omega.{arith}
 use native.Mathlib.Nat.{zero-add}
 use Rattle.octets.specs.Bytes.{num}
+use Rattle.rules.specs.Kind.{rowOf}
 use Rattle.rules.specs.Choice.{pick}
 use Rattle.rules.specs.Group.{only}
 use Rattle.handler.specs.Sending.{headedIn}
@@ -42,7 +43,7 @@ part-tell-end c = search needs
 
 -- src/lib.rt:90:5
 tell-requires : tie.Need-tell-requires
-unfolding pick
+unfolding pick rowOf
 tell-requires c κs = (c .before .before .before .before .before .before .before .pre .0, refl, omega arith, omega arith)
 
 -- src/lib.rt:82:1

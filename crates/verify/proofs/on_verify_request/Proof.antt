@@ -4,6 +4,7 @@ use Rattle.verify.proofs.on_verify_request.Statement.{statement}
 use Rattle.verify.proofs.on_verify_request.Tie as tie
 use mathlib.Core.Path.{refl}
 use native.Mathlib.Omega.{arith}
+use Rattle.rules.specs.Kind.{rowOf}
 use Rattle.rules.specs.Choice.{pick}
 use Rattle.rules.specs.Step.{onVerifyRequest}
 use Rattle.handler.proofs.Closes.{handled-other}
@@ -36,14 +37,14 @@ cast-tell-none : tie.Need-cast-tell-none
 cast-tell-none c = search needs
 
 tell-none-requires : tie.Need-tell-none-requires
-unfolding pick
+unfolding pick rowOf
 tell-none-requires c κs = (search needs, from-small _ _ _ (c .before .before .before .before .before .before .before .before .before .before .before .before .before .args .out .now) _ _ _ (c .before .before .before .before .before .before .before .before .before .before .before .before .before .pre) (c .before .before .before .before .before .before .before .before .m .given .1), omega (arith, (c .before .before .before .length-for .ensures), (c .before .before .if1 .left)))
 
 sub-put-asked : tie.Need-sub-put-asked
 sub-put-asked c = search needs
 
 put-asked-requires : tie.Need-put-asked-requires
-unfolding pick
+unfolding pick rowOf
 put-asked-requires c κs = ((c .before .before .before .before .before .before .before .before .before .source-of .ensures .1), (c .before .before .before .before .before .before .before .before .count-asked .ensures), omega (arith, (c .before .before .before .tell-none .ensures .0), (c .before .before .before .before .before .before .before .length-for .ensures), (c .before .before .before .before .before .before .if1 .left)))
 
 mul-t13 : tie.Need-mul-t13
