@@ -131,11 +131,11 @@ module _ (sh : Shape) (b msg out : List ℕ) (m : Message) (h : Header) (r : Rea
 
   -- the site waits for replies, and the view is its own
   status-is : st .view .status ≡ 3
-  unfolding statusRight pick
+  unfolding statusRight pick rowOf stateOf
   status-is = eqb-true (st .view .status) 3 (rw kind-is at (r .status))
 
   views-equal : viewsOf sh msg ≡ st .view .gVec
-  unfolding viewRight pick
+  unfolding viewRight pick rowOf wireIn
   views-equal = sym (views-said sh b msg m r kind-known kind-views) ∙ same-true (w .gVec) (st .view .gVec) (and-right (eqb (w .view) (st .view .gView)) _ (rw kind-is at (r .view)))
 
   by-rule : (o : Outcome) → onVerifyReply sh st w ≡ o → handled 19 onVerifyReply sh m b msg out ≡ closes sh b out o

@@ -94,16 +94,16 @@ module _ (st : State) (time : ℕ) where
   pub longer-log : (i : ℕ) → i < length dues → (st .logged .log ++ take i dues) ++ (entryOf dues i ∷ []) ≡ st .logged .log ++ take (i + 1) dues
   longer-log i l = append-assoc (st .logged .log) (take i dues) (entryOf dues i ∷ []) ∙ rw add-one (ap (λ (x : List Entry). st .logged .log ++ x) (sym (take-suc dues i noEntry l)))
 
-  pub longer-next : (i : ℕ) → i < length dues → withLog (longer i) (longer i .log ++ (entryOf dues i ∷ [])) ≡ longer (i + 1)
+  pub longer-next : (i : ℕ) → i < length dues → withLog (longer i) (longer i .logged .log ++ (entryOf dues i ∷ [])) ≡ longer (i + 1)
   longer-next i l = ap (withLog st) (longer-log i l)
 
   -- those that are new in it
-  pub longer-rest : (n i : ℕ) → n ≡ length (st .logged .log) → drop n (longer i .log) ≡ take i dues
+  pub longer-rest : (n i : ℕ) → n ≡ length (st .logged .log) → drop n (longer i .logged .log) ≡ take i dues
   longer-rest n i e = drop-at (st .logged .log) (take i dues) n (sym e)
 
   -- once they left early and the notes they are released
   pub longer-released : (n i : ℕ) → n ≡ length (st .logged .log)
-      → withNotes (withEarly (longer i) (without (drop n (longer i .log)) (st .waiting .early))) (notesWithout (drop n (longer i .log)) (st .waiting .notes)) ≡ released st (st .clock) (st .logged .sync) (take i dues)
+      → withNotes (withEarly (longer i) (without (drop n (longer i .logged .log)) (st .waiting .early))) (notesWithout (drop n (longer i .logged .log)) (st .waiting .notes)) ≡ released st (st .clock) (st .logged .sync) (take i dues)
   longer-released n i e = ap (λ (gone : List Entry). withNotes (withEarly (longer i) (without gone (st .waiting .early))) (notesWithout gone (st .waiting .notes))) (longer-rest n i e)
 
   -- none is released

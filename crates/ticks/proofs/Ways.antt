@@ -179,11 +179,11 @@ module _ {sh : Shape} {b₀ : List ℕ} (m : Midway sh b₀) (out₀ : List ℕ)
   old = stateOf sh b₀
 
   abbrev ds : List Entry
-  ds = dueOf time (old .early)
+  ds = dueOf time (old .waiting .early)
 
   -- the state that a release of none leaves
   settled-none : (x : List ℕ) → x ≡ image sh (withSync (withClock old time) n) → x ≡ image sh (released old time n [])
-  settled-none x e = e ∙ rw (append-nil (old .log), without-none (old .early), notes.without-none (old .notes))
+  settled-none x e = e ∙ rw (append-nil (old .logged .log), without-none (old .waiting .early), notes.without-none (old .waiting .notes))
 
   -- ---- whose run is empty
   pub waits-none : (due : ℕ) (x : List ℕ) → due ≡ length ds → due ≡ 0 → x ≡ image sh (withSync (withClock old time) n) → left (Done 0) x out₀ ≡ closes sh b₀ out₀ (leaderReleases sh old time ds [])
@@ -217,7 +217,7 @@ module _ {sh : Shape} {b₀ : List ℕ} (m : Midway sh b₀) (out₀ : List ℕ)
 
   -- ---- whose run is not
   abbrev run : List Entry
-  run = leading (agreed sh (old .notes)) ds
+  run = leading (agreed sh (old .waiting .notes)) ds
 
   pub leader-empty : (r : ℕ) (x : Left) → r ≡ length run → r ≡ 0 → x ≡ closes sh b₀ out₀ (leaderReleases sh old time ds []) → x ≡ closes sh b₀ out₀ (leaderReleases sh old time ds run)
   leader-empty r x e z h = h ∙ ap (λ (xs : List Entry). closes sh b₀ out₀ (leaderReleases sh old time ds xs)) (sym (nothing run (sym e ∙ z)))
@@ -227,26 +227,26 @@ module _ {sh : Shape} {b₀ : List ℕ} (m : Midway sh b₀) (out₀ : List ℕ)
 
   module _ (r k a z : ℕ) (e : r ≡ length run) (f : r ≡ 0 → ⊥) (l : n < sh .c) (q : k ≡ min r (sh .c - n)) (ha : a ≡ lengthFor (sh .s) 5 1 * k) (hz : z ≡ lengthFor (sh .s) 4 (n + k)) where
     abbrev sync : Wire
-    sync = sendFollowers sh old 4 (old .log ++ take k ds)
+    sync = sendFollowers sh old 4 (old .logged .log ++ take k ds)
 
     within : k ≤ length ds
-    within = omega (arith, run-within sh old ds run (run-first (agreed sh (old .notes)) ds))
+    within = omega (arith, run-within sh old ds run (run-first (agreed sh (old .waiting .notes)) ds))
 
     made : leaderReleases sh old time ds run ≡ done (released old time (n + k) (take k ds)) (placedReplies old (take k ds) ++ (sync ∷ []))
-    made = leader-some sh old time ds run (run-first (agreed sh (old .notes)) ds) (λ y. f (e ∙ y)) n k hn l (q ∙ ap (λ (x : ℕ). min x (sh .c - n)) e)
+    made = leader-some sh old time ds run (run-first (agreed sh (old .waiting .notes)) ds) (λ y. f (e ∙ y)) n k hn l (q ∙ ap (λ (x : ℕ). min x (sh .c - n)) e)
 
-    long-log : length (old .log ++ take k ds) ≡ n + k
-    long-log = length-append (old .log) (take k ds) ∙ ap₂ _+_ (sym hn) (length-take-le k ds within)
+    long-log : length (old .logged .log ++ take k ds) ≡ n + k
+    long-log = length-append (old .logged .log) (take k ds) ∙ ap₂ _+_ (sym hn) (length-take-le k ds within)
 
     sync-long : length (wireBytes sync) ≡ z
     unfolding pick rowOf
-    sync-long = sent-length (sh .s) old 4 _ _ [] (old .log ++ take k ds) (m .state .gVecPlaces) refl refl ∙ ap (lengthFor (sh .s) 4) long-log ∙ sym hz
+    sync-long = sent-length (sh .s) old 4 _ _ [] (old .logged .log ++ take k ds) (m .state .gVecPlaces) refl refl ∙ ap (lengthFor (sh .s) 4) long-log ∙ sym hz
 
     pub leader-tight : length out₀ < a + z → leaves 9 b₀ out₀ ≡ closes sh b₀ out₀ (leaderReleases sh old time ds run)
     leader-tight t = releases-tight m out₀ time k within sync z sync-long (released old time (n + k) (take k ds)) (omega arith) ∙ ap (closes sh b₀ out₀) (sym made)
 
     module _ (t : a + z ≤ length out₀) where
-      pub leader-asks : Midway sh b₀ × (n ≡ length (old .log)) × (k ≤ length ds) × (n + k ≤ sh .c) × (lengthFor (sh .s) 5 1 * k ≤ length out₀)
+      pub leader-asks : Midway sh b₀ × (n ≡ length (old .logged .log)) × (k ≤ length ds) × (n + k ≤ sh .c) × (lengthFor (sh .s) 5 1 * k ≤ length out₀)
       leader-asks = (m, hn, within, omega arith, omega arith)
 
       module _ (at : ℕ) {b₁ out₁ : List ℕ} (w : Released sh b₀ out₀ time k at b₁ out₁) where
@@ -267,7 +267,7 @@ module _ {sh : Shape} {b₀ : List ℕ} (m : Midway sh b₀) (out₀ : List ℕ)
 
   -- ---- a follower
   module _ (due : ℕ) (e : due ≡ length ds) where
-    full-is : (leb (sh .c) n && not (eqb due 0)) ≡ (leb (sh .c) (length (old .log)) && not (eqb (length ds) 0))
+    full-is : (leb (sh .c) n && not (eqb due 0)) ≡ (leb (sh .c) (length (old .logged .log)) && not (eqb (length ds) 0))
     full-is = rw (hn, e)
 
     pub follower-shut : (leb (sh .c) n && not (eqb due 0)) ≡ true → leaves 8 b₀ out₀ ≡ closes sh b₀ out₀ (followerReleases sh old time ds)
@@ -275,23 +275,23 @@ module _ {sh : Shape} {b₀ : List ℕ} (m : Midway sh b₀) (out₀ : List ℕ)
 
     module _ (k a z : ℕ) (l : n ≤ sh .c) (c : (leb (sh .c) n && not (eqb due 0)) ≡ false) (q : k ≡ min due (sh .c - n)) (ha : a ≡ lengthFor (sh .s) 5 1 * k) (hz : z ≡ lengthFor (sh .s) 10 0) where
       abbrev status : Wire
-      status = sendLeader sh old 10 (old .group) (old .sync ∷ []) []
+      status = sendLeader sh old 10 (old .site .group) (old .logged .sync ∷ []) []
 
       inside : k ≤ length ds
       inside = omega arith
 
-      sent : followerReleases sh old time ds ≡ done (released old time (old .sync) (take k ds)) (placedReplies old (take k ds) ++ (status ∷ []))
+      sent : followerReleases sh old time ds ≡ done (released old time (old .logged .sync) (take k ds)) (placedReplies old (take k ds) ++ (status ∷ []))
       sent = follower-some sh old time ds (sym full-is ∙ c) n k hn (q ∙ ap (λ (x : ℕ). min x (sh .c - n)) e)
 
       status-long : length (wireBytes status) ≡ z
       unfolding pick rowOf
-      status-long = sent-length (sh .s) old 10 _ _ (old .sync ∷ []) [] (m .state .gVecPlaces) refl refl ∙ sym hz
+      status-long = sent-length (sh .s) old 10 _ _ (old .logged .sync ∷ []) [] (m .state .gVecPlaces) refl refl ∙ sym hz
 
       pub follower-tight : length out₀ < a + z → leaves 9 b₀ out₀ ≡ closes sh b₀ out₀ (followerReleases sh old time ds)
-      follower-tight t = releases-tight m out₀ time k inside status z status-long (released old time (old .sync) (take k ds)) (omega arith) ∙ ap (closes sh b₀ out₀) (sym sent)
+      follower-tight t = releases-tight m out₀ time k inside status z status-long (released old time (old .logged .sync) (take k ds)) (omega arith) ∙ ap (closes sh b₀ out₀) (sym sent)
 
       module _ (t : a + z ≤ length out₀) where
-        pub follower-asks : Midway sh b₀ × (n ≡ length (old .log)) × (k ≤ length ds) × (n + k ≤ sh .c) × (lengthFor (sh .s) 5 1 * k ≤ length out₀)
+        pub follower-asks : Midway sh b₀ × (n ≡ length (old .logged .log)) × (k ≤ length ds) × (n + k ≤ sh .c) × (lengthFor (sh .s) 5 1 * k ≤ length out₀)
         follower-asks = (m, hn, inside, omega arith, omega arith)
 
         module _ (at : ℕ) {b₁ out₁ : List ℕ} (w : Released sh b₀ out₀ time k at b₁ out₁) where
@@ -301,8 +301,8 @@ module _ {sh : Shape} {b₀ : List ℕ} (m : Midway sh b₀) (out₀ : List ℕ)
           pub follower-done : (end sync : ℕ) (b₂ out₂ : List ℕ) → (end ≡ at + lengthFor (sh .s) 10 0) × (out₂ ≡ splice out₁ at (wireBytes (sendLeader sh (stateOf sh b₁) 10 (stateOf sh b₁ .site .group) (stateOf sh b₁ .logged .sync ∷ []) []))) → sync ≡ num b₁ 24 8 → b₂ ≡ image sh (withSync (withClock (stateOf sh b₁) time) sync)
               → left (Done end) b₂ out₂ ≡ closes sh b₀ out₀ (followerReleases sh old time ds)
           follower-done end sync b₂ out₂ (u, v) y i =
-              let s : sync ≡ old .sync = y ∙ sync-in (w .reached .midway) ∙ ap (λ (x : State). x .logged .sync) (w .reached .is) in
-              releases-done m out₀ time k inside status z status-long (released old time (old .sync) (take k ds)) at end b₂ out₂ (omega arith) w (omega arith)
+              let s : sync ≡ old .logged .sync = y ∙ sync-in (w .reached .midway) ∙ ap (λ (x : State). x .logged .sync) (w .reached .is) in
+              releases-done m out₀ time k inside status z status-long (released old time (old .logged .sync) (take k ds)) at end b₂ out₂ (omega arith) w (omega arith)
               (v ∙ ap (λ (x : State). splice out₁ at (wireBytes (sendLeader sh x 10 (x .site .group) (x .logged .sync ∷ []) []))) (w .reached .is))
-              (i ∙ ap (λ (x : ℕ). image sh (withSync (withClock (stateOf sh b₁) time) x)) s ∙ ap (λ (x : State). image sh (withSync (withClock x time) (old .sync))) (w .reached .is))
+              (i ∙ ap (λ (x : ℕ). image sh (withSync (withClock (stateOf sh b₁) time) x)) s ∙ ap (λ (x : State). image sh (withSync (withClock x time) (old .logged .sync))) (w .reached .is))
               ∙ ap (closes sh b₀ out₀) (sym sent)

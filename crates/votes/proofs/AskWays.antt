@@ -1,7 +1,7 @@
 -- The ways through the asking of all other groups. Assumes nothing.
 use Prim.Native.Nat.{ℕ, _-_, _*_, _^_, _≤_, _<_}
 use mathlib.Core.Path.{_≡_, refl, sym, ap, _∙_}
-use mathlib.Core.Bool.{true, not, _&&_}
+use mathlib.Core.Bool.{true, not, _&&_, false}
 use mathlib.Core.Option.{Option}
 use mathlib.Core.List.{List, [], _∷_}
 use native.Mathlib.Omega.{arith}
@@ -54,7 +54,7 @@ module _ (sh : Shape) (b msg : List ℕ) (view : ℕ) (k : Cast) (g : Brought sh
   draft = tableAt (sh .c) t 0
 
   abbrev next : State
-  next = changing here 3 votes draft boundary (here .replies)
+  next = changing here 3 votes draft boundary (here .change .replies)
 
   abbrev asks : ℕ → Wire
   asks j = sendLeader sh here 18 j (boundary ∷ []) []
@@ -81,7 +81,7 @@ module _ (sh : Shape) (b msg : List ℕ) (view : ℕ) (k : Cast) (g : Brought sh
   unfolding pick rowOf
   long need e =
       sends-length asks (lengthFor (sh .s) 18 0) (otherGroups sh here (λ j. true))
-      (all-given (λ j. sent-length (sh .s) here 18 j (only (leader (sh .n) (here .gVec) j)) (boundary ∷ []) [] (come .sends .places) refl refl) (otherGroups sh here (λ j. true)))
+      (all-given (λ j. sent-length (sh .s) here 18 j (only (leader (sh .n) (here .view .gVec) j)) (boundary ∷ []) [] (come .sends .places) refl refl) (otherGroups sh here (λ j. true)))
       ∙ rw (e, n, groups-are, others-here)
 
   pub ask-short : (need : ℕ) → need ≡ lengthFor (sh .s) 18 0 → length out < need * count → leaves 9 b out ≡ outcome

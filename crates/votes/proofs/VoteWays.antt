@@ -216,11 +216,11 @@ module _ (sh : Shape) (b msg out : List ℕ) (m : Message) (h : Header) (normal 
   own-other : getD own (k .sender) none ≡ none
   own-other = getD-set-other (replicate (sh .n) none) (st .site .replica) (k .sender) (some (ownVote st)) none other-sender ∙ getD-replicate (sh .n) (k .sender) none none (vote-sender .sender)
 
-  entered-votes : k .entering ≡ true → here .votes ≡ own
+  entered-votes : k .entering ≡ true → here .change .votes ≡ own
   unfolding cameTo pick
   entered-votes f = rw f
 
-  same-votes : k .entering ≡ false → here .votes ≡ st .change .votes
+  same-votes : k .entering ≡ false → here .change .votes ≡ st .change .votes
   unfolding cameTo pick
   same-votes f = rw f
 
@@ -230,22 +230,22 @@ module _ (sh : Shape) (b msg out : List ℕ) (m : Message) (h : Header) (normal 
       (λ f. rw (entered-votes f, own-other, f))
       (λ f. rw (same-votes f, f))
 
-  places-long : length (here .votes) ≡ sh .n
+  places-long : length (here .change .votes) ≡ sh .n
   places-long =
       by-cases (k .entering)
       (λ f. ap length (entered-votes f) ∙ length-set (replicate (sh .n) none) (st .site .replica) (some (ownVote st)) ∙ length-replicate {A = Option Vote} (sh .n) none)
       (λ f. ap length (same-votes f) ∙ stands-fits (r .stands) .votePlaces)
 
-  held-here : held (here .votes) + 1 ≡ countWith sh b k
+  held-here : held (here .change .votes) + 1 ≡ countWith sh b k
   held-here = by-cases (k .entering) entering staying
     where
-      entering : k .entering ≡ true → held (here .votes) + 1 ≡ countWith sh b k
+      entering : k .entering ≡ true → held (here .change .votes) + 1 ≡ countWith sh b k
       entering f =
           let x : st .site .replica < length (replicate {A = Option Vote} (sh .n) none) = omega (arith, length-replicate {A = Option Vote} (sh .n) none, replica-below (r .stands)) in
           let y : isSome (getD (replicate {A = Option Vote} (sh .n) none) (st .site .replica) none) ≡ false = ap isSome (getD-replicate {A = Option Vote} (sh .n) (st .site .replica) none none (replica-below (r .stands))) in
           ap (λ (vs : List (Option Vote)). held vs + 1) (entered-votes f) ∙ ap (λ (i : ℕ). i + 1) (held-more (replicate (sh .n) none) (st .site .replica) (ownVote st) x y ∙ ap (λ (i : ℕ). i + 1) (held-none (sh .n))) ∙ sym (pick-true (k .entering) 2 (held (st .change .votes) + 1) f)
 
-      staying : k .entering ≡ false → held (here .votes) + 1 ≡ countWith sh b k
+      staying : k .entering ≡ false → held (here .change .votes) + 1 ≡ countWith sh b k
       staying f = ap (λ (vs : List (Option Vote)). held vs + 1) (same-votes f) ∙ sym (pick-false (k .entering) 2 (held (st .change .votes) + 1) f)
 
   -- ---- the ways
@@ -274,12 +274,12 @@ module _ (sh : Shape) (b msg out : List ℕ) (m : Message) (h : Header) (normal 
 
           count-is : total ≡ held (with-it sh here (k .sender) (said msg k))
           count-is =
-              let x : k .sender < length (here .votes) = omega (arith, places-long, vote-sender .sender) in
-              c ∙ sym held-here ∙ sym (held-more (here .votes) (k .sender) (said msg k) x first)
+              let x : k .sender < length (here .change .votes) = omega (arith, places-long, vote-sender .sender) in
+              c ∙ sym held-here ∙ sym (held-more (here .change .votes) (k .sender) (said msg k) x first)
 
           pub vote-few : (b′ : List ℕ) → total < most → Laid sh (keptIn sh b msg (h .view) k) b′ → quiet b′ out ≡ outcome
           vote-few b′ u i =
-              let next = changing here 2 (with-it sh here (k .sender) (said msg k)) (here .draft) (here .boundary) (here .replies) in
+              let next = changing here 2 (with-it sh here (k .sender) (said msg k)) (here .change .draft) (here .change .boundary) (here .change .replies) in
               let z : next ≡ keptIn sh b msg (h .view) k = rw (come .votes, ← come .status) in
               sym (by-rule (done next []) (few sh here (k .sender) (said msg k) first (omega (arith, log-long)) (omega (arith, count-is))) ∙ closes-quiet sh b out next ∙ ap (λ (x : State). quiet (image sh x) out) z ∙ ap (λ (x : List ℕ). quiet x out) (sym (i .bytes)))
 
