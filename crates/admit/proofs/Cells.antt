@@ -1,9 +1,8 @@
 -- What the cells of a kind's row say: which kinds have gVec, and what the mask of statuses asks. Assumes nothing.
 use Prim.Native.Nat.{ℕ, _≤_}
-use mathlib.Core.Path.{_≡_, refl, sym, ap, _∙_, subst}
+use mathlib.Core.Path.{_≡_, refl, sym, ap, _∙_}
 use mathlib.Core.Bool.{Bool, true, false, _||_, not, true≢false}
 use mathlib.Core.Logic.{_⊎_, inl, inr}
-use mathlib.Core.List.{List}
 use native.Mathlib.Omega.{arith}
 use lib.Dec.{eqb}
 use borrow.Author.Tests.{eqb-true, eqb-false}
@@ -12,12 +11,9 @@ use Rattle.rules.specs.Wire.{Wire}
 use Rattle.rules.specs.Kind.{Kind, Statuses, anyStatus, oneOf, ifEqual, rowOf, bare, fromOutside, isOneOf}
 use Rattle.rules.specs.State.{State}
 use Rattle.rules.specs.Step.{newer, statusFits}
-use Rattle.rules.specs.declared.Sender.{Sender}
-use Rattle.rules.specs.declared.Sender.the-variants.{Outsider, OwnLeader, OwnReplica, OtherLeader, AnyReplica}
-use Rattle.rules.specs.declared.Receiver.{Receiver}
-use Rattle.rules.specs.declared.Receiver.the-variants.{ALeader, AFollower, Anyone, Outsiders}
-use Rattle.rules.specs.declared.Views.{Views}
-use Rattle.rules.specs.declared.Views.the-variants.{AnyView, Greater, GreaterOrEqual, BothEqual}
+use Rattle.rules.specs.declared.Sender.the-variants.{Outsider, OwnLeader, OtherLeader}
+use Rattle.rules.specs.declared.Receiver.the-variants.{ALeader, AFollower, Anyone}
+use Rattle.rules.specs.declared.Views.the-variants.{AnyView, GreaterOrEqual, BothEqual}
 use Rattle.rules.proofs.Tests.{_also_}
 use Rattle.rules.proofs.EachKind.{by-row}
 use Rattle.kinds.specs.Rows.{maskOf, onlyIfEqual, rowAs}

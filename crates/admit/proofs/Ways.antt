@@ -1,26 +1,25 @@
 -- Why each test of a message at a state's bytes is that of the rules. Assumes nothing.
-use Prim.Native.Nat.{ℕ, zero, suc, _+_, _*_, _%_, _≤_, _<_}
-use mathlib.Core.Path.{_≡_, refl, sym, ap, _∙_, subst}
-use mathlib.Core.Bool.{Bool, true, false, _&&_, _||_, not, true≢false}
-use mathlib.Core.List.{List, [], _∷_, _++_}
+use Prim.Native.Nat.{ℕ, suc, _+_, _*_, _%_, _≤_, _<_}
+use mathlib.Core.Path.{_≡_, refl, sym, ap, _∙_}
+use mathlib.Core.Bool.{Bool, true, false, _&&_, _||_, not}
+use mathlib.Core.List.{List, [], _∷_}
 use native.Mathlib.Omega.{arith}
-use lib.ListN.{length, getD, take, drop}
+use lib.ListN.{getD}
 use lib.Dec.{eqb, ltb, lit<}
 use borrow.Author.Tests.{leb-true}
-use Rattle.octets.specs.Bytes.{num, le, flat, items}
-use Rattle.octets.specs.Sections.{concat}
+use Rattle.octets.specs.Bytes.{num, items}
 use Rattle.octets.proofs.Codecs.{back-all, number, length-items, getD-items}
 use Rattle.rules.specs.Choice.{pick, same}
-use Rattle.rules.specs.Group.{holds, leader}
+use Rattle.rules.specs.Group.{holds}
 use Rattle.rules.specs.Wire.{Wire}
 use Rattle.rules.specs.Kind.{bare, fromOutside, rowOf}
 use Rattle.rules.specs.Read.{wireIn}
 use Rattle.rules.specs.State.{State}
-use Rattle.rules.specs.Image.{stateOf, sections}
+use Rattle.rules.specs.Image.{stateOf}
 use Rattle.rules.specs.Step.{here, newer, equal, viewRight, statusRight, leadsBy, fromOwn, fromLeader, receiverFits, senderFits, roleRight}
 use Rattle.rules.specs.declared.Header.{Header}
 use Rattle.rules.specs.declared.Shape.{Shape}
-use Rattle.places.specs.Layout.{Stands, startOf}
+use Rattle.places.specs.Layout.{Stands}
 use Rattle.places.proofs.Sections.{stands-laid, stands-fits, drop-all}
 use Rattle.places.proofs.Head.{group-of, replica-of, status-of, view-of}
 use Rattle.handler.proofs.Own.{own-below}

@@ -1,6 +1,6 @@
 -- The row of a kind as the code has it: the table's cells, with the statuses as a mask.
 use Prim.Native.Nat.{ℕ, _+_, _^_}
-use mathlib.Core.Bool.{Bool, true, false, not}
+use mathlib.Core.Bool.{Bool, true, false}
 use mathlib.Core.List.{List, [], _∷_}
 use Rattle.rules.specs.Kind.{Statuses, anyStatus, oneOf, ifEqual, rowOf}
 use Rattle.rules.specs.Kind as kinds
