@@ -1,11 +1,15 @@
 -- `kinds::bare` meets its contract. Assumes nothing.
-use mathlib.Core.Path.{sym}
-use Rattle.rules.proofs.KindsWritten.{written-out}
+use mathlib.Core.Path.{ap}
+use Rattle.kinds.specs.declared.Row.{Row}
+use borrow.Author.Needs.{needs}
 use Rattle.kinds.proofs.bare.Statement.{statement}
 use Rattle.kinds.proofs.bare.Tie as tie
 
+row-of-requires : tie.Need-row-of-requires
+row-of-requires c κs = search needs
+
 returns : tie.Need-returns
-returns c = sym (written-out _ .isBare)
+returns c = ap (λ (r : Row). r .bare) (c .row-of .ensures)
 
 pub bare-spec : {M : Type 1} → statement M
-bare-spec = tie.close (tie.spec returns)
+bare-spec = tie.close (tie.spec row-of-requires returns)
