@@ -15,7 +15,7 @@ ghost use Rattle.rules.specs.Group.{holds};
 ghost use Rattle.rules.specs.Wire.{tagOf};
 ghost use Rattle.rules.specs.Kind.{bare, fromOutside, rowOf};
 ghost use Rattle.rules.specs.Read.{wireIn, decoded};
-ghost use Rattle.rules.specs.Image.{stateOf};
+ghost use Rattle.rules.specs.Image.{stateOf, atGVec};
 ghost use Rattle.rules.specs.Step.{newer, equal, here, viewRight, statusRight, leadsBy, fromLeader, receiverFits, senderFits, roleRight};
 ghost use Rattle.places.specs.Layout.{Stands, startOf};
 ghost use Rattle.admit.specs.Refusal.{refusalOf, Heads};
@@ -32,7 +32,7 @@ fn is_here(shape: Shape, state: &[u8], kind: u8, h: Header, message: &[u8]) -> b
 // Whether view j of a message's gVec is the state's.
 fn same_view(shape: Shape, state: &[u8], message: &[u8], j: u64) -> bool
     requires { ⌜ Stands shape (stateOf shape (now state)) (now state) × (j < shape .s) ⌝ }
-    ensures { λ r. ⌜ r ≡ eqb (num (now (message .entry)) (16 + 4 * j) 4) (num (now (state .entry)) (startOf shape 1 + 4 * j) 4) ⌝ }
+    ensures { λ r. ⌜ r ≡ eqb (num (now (message .entry)) (16 + 4 * j) 4) (num (now (state .entry)) (startOf shape atGVec + 4 * j) 4) ⌝ }
 {
     octets::look32(message, 16 + 4 * j as usize) == places::view_at(shape, state, j)
 }

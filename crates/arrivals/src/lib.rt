@@ -3,6 +3,8 @@ use rules::Answer;
 use rules::Entry;
 use rules::Message;
 use rules::Shape;
+use rules::kind;
+use rules::refusal;
 ghost use mathlib.Core.Path.{_≡_};
 ghost use mathlib.Core.Bool.{true, false};
 ghost use mathlib.Core.List.{[], _∷_, _++_};
@@ -169,13 +171,13 @@ fn follower_takes(shape: Shape, state: &mut [u8], e: Entry, out: &mut [u8]) -> A
 {
     if stamps::may_follow(shape, state, e) {
         if shape.c <= early_count(shape, state) {
-            return Answer::Refused(8);
+            return Answer::Refused(refusal::FULL);
         }
         add_early(shape, state, e);
         return Answer::Done(0);
     }
     if shape.c <= late_count(shape, state) {
-        return Answer::Refused(8);
+        return Answer::Refused(refusal::FULL);
     }
     add_late(shape, state, e);
     Answer::Done(0)
@@ -187,7 +189,7 @@ fn notes_length(shape: Shape, state: &[u8], e: Entry) -> usize
     ensures { λ r. ⌜ r ≡ length (flat wireBytes (noteSends shape (stateOf shape (now (state .entry))) e)) ⌝ }
 {
     let others = handler::count_others(shape, state, e.mask) as usize;
-    kinds::length_for(shape.s, 3, 1) * others
+    kinds::length_for(shape.s, kind::TIMESTAMP_NOTE, 1) * others
 }
 
 // Writes them first into the outgoing buffer, and says where the last ends.
@@ -197,7 +199,7 @@ fn tell_notes(shape: Shape, state: &[u8], e: Entry, out: &mut [u8]) -> usize
 {
     let mut bytes = [0u8; 24];
     entries::put_entry(&mut bytes, 0, e);
-    handler::tell_leaders(shape, state, out, 3, 0, e.mask, &bytes)
+    handler::tell_leaders(shape, state, out, kind::TIMESTAMP_NOTE, 0, e.mask, &bytes)
 }
 
 // Puts e in early with the own group's note of it.
@@ -216,13 +218,13 @@ fn leader_takes(shape: Shape, state: &mut [u8], e: Entry, out: &mut [u8]) -> Ans
     ensures { λ r. ⌜ left r (now (state .exit)) (now (out .exit)) ≡ closes shape (now (state .entry)) (now (out .entry)) (leaderTakes shape (stateOf shape (now (state .entry))) e) ⌝ }
 {
     if shape.c <= early_count(shape, state) {
-        return Answer::Refused(8);
+        return Answer::Refused(refusal::FULL);
     }
     if !room_for_note(shape, state, e) {
-        return Answer::Refused(8);
+        return Answer::Refused(refusal::FULL);
     }
     if out.len() < notes_length(shape, state, e) {
-        return Answer::Refused(9);
+        return Answer::Refused(refusal::NO_ROOM);
     }
     let sent = tell_notes(shape, state, e, out);
     take_early(shape, state, e);
@@ -237,18 +239,18 @@ pub fn on_note(shape: Shape, state: &mut [u8], m: Message, message: &[u8], out: 
     ensures { λ r. ⌜ left r (now (state .exit)) (now (out .exit)) ≡ handled 3 onNote shape m (now (state .entry)) (now (message .entry)) (now (out .entry)) ⌝ }
 {
     let Message::Note(h) = m else {
-        return Answer::Refused(2);
+        return Answer::Refused(refusal::MALFORMED);
     };
     let from = h.from_group as u64;
-    let e = handler::first_entry(shape, state, m, message, 3);
+    let e = handler::first_entry(shape, state, m, message, kind::TIMESTAMP_NOTE);
     if in_log(shape, state, e) {
-        return Answer::Refused(7);
+        return Answer::Refused(refusal::NOTHING_TO_DO);
     }
     if stamps::is_noted(shape, state, e, from) {
-        return Answer::Refused(7);
+        return Answer::Refused(refusal::NOTHING_TO_DO);
     }
     if !room_for_note(shape, state, e) {
-        return Answer::Refused(8);
+        return Answer::Refused(refusal::FULL);
     }
     keep_and_lift(shape, state, e, from, e.stamp);
     Answer::Done(0)
@@ -266,11 +268,11 @@ pub fn on_transaction(
     ensures { λ r. ⌜ left r (now (state .exit)) (now (out .exit)) ≡ handled 1 onTransaction shape m (now (state .entry)) (now (message .entry)) (now (out .entry)) ⌝ }
 {
     let Message::Transaction(_, send_time, bound) = m else {
-        return Answer::Refused(2);
+        return Answer::Refused(refusal::MALFORMED);
     };
-    let entry = handler::first_entry(shape, state, m, message, 1);
+    let entry = handler::first_entry(shape, state, m, message, kind::TRANSACTION);
     if known(shape, state, entry) {
-        return Answer::Refused(7);
+        return Answer::Refused(refusal::NOTHING_TO_DO);
     }
     let e = stamps::stamped(send_time + bound, entry);
     if handler::leads(shape, state) {

@@ -13,7 +13,7 @@ use Rattle.octets.specs.Bytes.{unle, part, num, items}
 use Rattle.octets.proofs.Codecs.{length-items}
 use Rattle.rules.specs.Choice.{pick, isSome}
 use Rattle.rules.specs.Read.{entryAt}
-use Rattle.rules.specs.Image.{tableLength, voteLength, tableAt, stateOf}
+use Rattle.rules.specs.Image.{tableLength, voteLength, tableAt, stateOf, atLog}
 use Rattle.rules.specs.Step.{ownVote}
 use Rattle.rules.specs.declared.Entry.{Entry}
 use Rattle.rules.specs.declared.Shape.{Shape}
@@ -76,7 +76,7 @@ module _ (sh : Shape) (b msg : List ℕ) (k : Cast) (g : Given sh b msg k) (r : 
   log-sent end e q = rw (at-sender sh b msg k (g .sent) r e) (lists-sent (sh .c) msg (k .at) end (g .long) (g .room) q)
 
   module _ (s : isSome (getD (votesIn sh b msg k) r none) ≡ true) (d : r ≡ k .sender → ⊥) (a e : ℕ) where
-    pub log-own : k .entering ≡ true → a ≡ startOf sh 3 → e ≡ a + tableLength (sh .c) → Lists (sh .c) (voteOf (getD (votesIn sh b msg k) r none) .log) (take (e - a) (drop a b))
+    pub log-own : k .entering ≡ true → a ≡ startOf sh atLog → e ≡ a + tableLength (sh .c) → Lists (sh .c) (voteOf (getD (votesIn sh b msg k) r none) .log) (take (e - a) (drop a b))
     unfolding pick voteOf
     log-own y p q =
         let st = g .sent .stands in

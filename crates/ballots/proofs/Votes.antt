@@ -12,7 +12,7 @@ use borrow.Author.Tests.{eqb-true, eqb-false}
 use Rattle.octets.specs.Bytes.{num}
 use Rattle.rules.specs.Choice.{pick, isSome}
 use Rattle.rules.specs.State.{Vote, State}
-use Rattle.rules.specs.Image.{voteLength, voteAt, stateOf}
+use Rattle.rules.specs.Image.{voteLength, voteAt, stateOf, atVotes}
 use Rattle.rules.specs.Step.{ownVote}
 use Rattle.rules.specs.declared.Shape.{Shape}
 use Rattle.rules.proofs.Choice.{by-cases, pick-true, pick-false}
@@ -101,7 +101,7 @@ module _ (sh : Shape) (b msg : List ℕ) (k : Cast) (g : Sent sh b k) where
   tells-own r own normal sync h d e p q s =
       rw (at-own r h d e, p ∙ replica-of (g .stands), q ∙ normal-of (g .stands), s ∙ sync-of (g .stands)) (own-tells (ownVote st) (eqb r (st .site .replica)))
 
-  pub tells-kept : (r : ℕ) (held : Bool) (normal sync : ℕ) → r < sh .n → (r ≡ k .sender → ⊥) → k .entering ≡ false → held ≡ isSome (voteAt (sh .c) b (startOf sh 7 + voteLength (sh .c) * r)) → normal ≡ num b (startOf sh 7 + voteLength (sh .c) * r + 1) 4 → sync ≡ num b (startOf sh 7 + voteLength (sh .c) * r + 5) 8 → Tells (getD (votesIn sh b msg k) r none) (record { held = held; normal = normal; sync = sync })
+  pub tells-kept : (r : ℕ) (held : Bool) (normal sync : ℕ) → r < sh .n → (r ≡ k .sender → ⊥) → k .entering ≡ false → held ≡ isSome (voteAt (sh .c) b (startOf sh atVotes + voteLength (sh .c) * r)) → normal ≡ num b (startOf sh atVotes + voteLength (sh .c) * r + 1) 4 → sync ≡ num b (startOf sh atVotes + voteLength (sh .c) * r + 5) 8 → Tells (getD (votesIn sh b msg k) r none) (record { held = held; normal = normal; sync = sync })
   unfolding voteOf
   tells-kept r held normal sync h d e p q s =
       rw (at-kept r d e)

@@ -12,7 +12,7 @@ use Rattle.rules.specs.Wire.{Wire, wireBytes, tagOf, headerIn}
 use Rattle.rules.specs.Kind.{bare, known, rowOf}
 use Rattle.rules.specs.Read.{wireIn, lengthFor}
 use Rattle.rules.specs.State.{State}
-use Rattle.rules.specs.Image.{image, stateOf}
+use Rattle.rules.specs.Image.{image, stateOf, atLog}
 use Rattle.rules.specs.Step.{Outcome, done, sendLeader, leadsBy, entered, onChangeView}
 use Rattle.rules.specs.Bytes.{Left, leaves, closes}
 use Rattle.rules.specs.declared.Header.{Header}
@@ -88,7 +88,7 @@ module _ (sh : Shape) (b msg out : List ℕ) (m : Message) (h : Header) (r : Rea
     change-leads b′ z i =
         sym (by-rule (done (next true) []) (leads sh st w (role-is true z) ∙ ap (λ (x : State). done x []) (next-is true z)) ∙ closes-quiet sh b out (next true) ∙ ap (λ (x : List ℕ). quiet x out) (sym i))
 
-    module _ (z : l ≡ false) (count : ℕ) (c : count ≡ num b (startOf sh 3) 4) where
+    module _ (z : l ≡ false) (count : ℕ) (c : count ≡ num b (startOf sh atLog) 4) where
       after : handled 7 onChangeView sh m b msg out ≡ closes sh b out (done (next false) (sent-vote ∷ []))
       after = by-rule (done (next false) (sent-vote ∷ [])) (follows sh st w (role-is false z) ∙ ap (λ (x : State). done x (sendLeader sh x 8 (st .site .group) (st .view .normal ∷ st .logged .sync ∷ []) (st .logged .log) ∷ [])) (next-is false z))
 
@@ -118,9 +118,9 @@ module _ (sh : Shape) (b msg out : List ℕ) (m : Message) (h : Header) (r : Rea
 
         module _ (need : ℕ) (n : need ≡ lengthFor (sh .s) 8 count) (k : need ≤ length out) (b′ : List ℕ) (i : b′ ≡ image sh (next false)) where
           -- the vote may be told
-          pub change-tells : (num b′ 0 1 < sh .s) × (num b′ (startOf sh 3) 4 ≤ sh .c) × (40 + 4 * sh .s + 24 * num b′ (startOf sh 3) 4 ≤ length out)
+          pub change-tells : (num b′ 0 1 < sh .s) × (num b′ (startOf sh atLog) 4 ≤ sh .c) × (40 + 4 * sh .s + 24 * num b′ (startOf sh atLog) 4 ≤ length out)
           change-tells =
-              let x : num b′ (startOf sh 3) 4 ≡ length (st .logged .log) = log-counted (next-laid b′ i) table in
+              let x : num b′ (startOf sh atLog) 4 ≡ length (st .logged .log) = log-counted (next-laid b′ i) table in
               let g : num b′ 0 1 ≡ st .site .group = own-group (next-laid b′ i) next-sender in
               let y : need ≡ 40 + 4 * sh .s + 24 * count = n ∙ vote-room (sh .s) count in
               (omega (arith, group-below (r .stands)), omega (arith, table .room), omega (arith, count-is))

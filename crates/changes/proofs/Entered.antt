@@ -14,7 +14,7 @@ use Rattle.rules.specs.Kind.{rowOf}
 use Rattle.rules.specs.Choice.{pick}
 use Rattle.rules.specs.Wire.{Wire}
 use Rattle.rules.specs.State.{State}
-use Rattle.rules.specs.Image.{voteLength, voteBytes, image}
+use Rattle.rules.specs.Image.{voteLength, voteBytes, image, atEarly, atVotes}
 use Rattle.rules.specs.Step.{entered}
 use Rattle.rules.specs.declared.Shape.{Shape}
 use Rattle.places.specs.Layout.{startOf, ownBytes, Laid, Stands}
@@ -42,7 +42,7 @@ even-none c zero = tt
 even-none c (suc n) = (length-replicate {A = ℕ} (voteLength c) 0, even-none c n)
 
 module _ {sh : Shape} {st : State} {b : List ℕ} (s : Stands sh st b) (view : ℕ) (msg : List ℕ) (bs : Bytes msg) (h : 16 + 4 * sh .s ≤ length msg) {b₁ b₂ b₃ b₄ : List ℕ}
-    (w₁ : b₁ ≡ takenIn sh b view msg) (w₂ : b₂ ≡ splice b₁ 2 (le 1 2)) (w₃ : b₃ ≡ splice b₂ 40 (le 8 0)) (w₄ : b₄ ≡ splice b₃ (startOf sh 4) (replicate (tablesLength sh) 0)) where
+    (w₁ : b₁ ≡ takenIn sh b view msg) (w₂ : b₂ ≡ splice b₁ 2 (le 1 2)) (w₃ : b₃ ≡ splice b₂ 40 (le 8 0)) (w₄ : b₄ ≡ splice b₃ (startOf sh atEarly) (replicate (tablesLength sh) 0)) where
   -- without a vote
   pub entered-follows : Laid sh (enteredBy sh st view (viewsOf sh msg) false) b₄
   unfolding pick
@@ -59,7 +59,7 @@ module _ {sh : Shape} {st : State} {b : List ℕ} (s : Stands sh st b) (view : �
       omega (arith, replica-below s)
 
   -- and is kept
-  pub entered-leader : {b₅ : List ℕ} (leads : Bool) → leads ≡ true → b₅ ≡ splice b₄ (startOf sh 7 + voteLength (sh .c) * num b₄ 1 1) (ownBytes sh b₄) → b₅ ≡ image sh (enteredBy sh st view (viewsOf sh msg) leads)
+  pub entered-leader : {b₅ : List ℕ} (leads : Bool) → leads ≡ true → b₅ ≡ splice b₄ (startOf sh atVotes + voteLength (sh .c) * num b₄ 1 1) (ownBytes sh b₄) → b₅ ≡ image sh (enteredBy sh st view (viewsOf sh msg) leads)
   unfolding pick rowOf
   entered-leader leads e w =
       let f = stands-fits s in

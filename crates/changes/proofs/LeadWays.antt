@@ -10,7 +10,7 @@ use Rattle.octets.proofs.Laws.{Bytes}
 use Rattle.rules.specs.Wire.{Wire, wireBytes}
 use Rattle.rules.specs.Read.{lengthFor, entryAt}
 use Rattle.rules.specs.State.{State}
-use Rattle.rules.specs.Image.{tableAt, image}
+use Rattle.rules.specs.Image.{tableAt, image, atLog}
 use Rattle.rules.specs.Step.{sendFollowers, started}
 use Rattle.rules.specs.Bytes.{Left, leaves, closes}
 use Rattle.rules.specs.declared.Entry.{Entry}
@@ -64,9 +64,9 @@ module _ {sh : Shape} {st : State} {b : List ℕ} (s : Stands sh st b) (view : �
     begun-is = w ∙ ap (λ (es : List Entry). image sh (started sh st view (viewsOf sh msg) es)) (table-row (sh .c) draft number t n)
 
     -- the log may be told
-    pub lead-tells : (num b′ 1 1 < sh .n) × (num b′ (startOf sh 3) 4 ≤ sh .c) × (24 + 4 * sh .s + 24 * num b′ (startOf sh 3) 4 ≤ length out)
+    pub lead-tells : (num b′ 1 1 < sh .n) × (num b′ (startOf sh atLog) 4 ≤ sh .c) × (24 + 4 * sh .s + 24 * num b′ (startOf sh atLog) 4 ≤ length out)
     lead-tells =
-        let x : num b′ (startOf sh 3) 4 ≡ length log = log-counted (next-laid b′ begun-is) table in
+        let x : num b′ (startOf sh atLog) 4 ≡ length log = log-counted (next-laid b′ begun-is) table in
         let g : num b′ 1 1 ≡ st .site .replica = own-replica (next-laid b′ begun-is) next-sender in
         let y : need ≡ 24 + 4 * sh .s + 24 * number = e ∙ start-room (sh .s) number in
         (omega (arith, replica-below s), omega (arith, table .room), omega (arith, number-is))

@@ -15,7 +15,7 @@ use Rattle.rules.specs.Group.{only, others, leader}
 use Rattle.rules.specs.Wire.{entryBytes, wireBytes}
 use Rattle.rules.specs.Read.{lengthFor}
 use Rattle.rules.specs.State.{State}
-use Rattle.rules.specs.Image.{zeroBytes, tableBytes}
+use Rattle.rules.specs.Image.{zeroBytes, tableBytes, atGVec, atLog}
 use Rattle.rules.specs.Step.{sendLeader, sendFollowers}
 use Rattle.rules.specs.declared.Header.{Header}
 use Rattle.rules.specs.declared.Shape.{Shape}
@@ -30,14 +30,14 @@ use Rattle.handler.proofs.Sends.{Sender, sent-length, own-group, own-replica, v
 use Rattle.changes.specs.Changes.{logIn, voteIn, startIn}
 
 -- the log as it is lent
-pub log-lent : (sh : Shape) (b : List ℕ) (start count end : ℕ) → start ≡ startOf sh 3 + 4 → count ≡ num b (startOf sh 3) 4 → end ≡ start + 24 * count → take (end - start) (drop start b) ≡ logIn sh b
+pub log-lent : (sh : Shape) (b : List ℕ) (start count end : ℕ) → start ≡ startOf sh atLog + 4 → count ≡ num b (startOf sh atLog) 4 → end ≡ start + 24 * count → take (end - start) (drop start b) ≡ logIn sh b
 unfolding part
 log-lent sh b start count end e q h =
     let n : end - start ≡ 24 * count = omega arith in
     rw (n, e, q)
 
 -- the cases from what is read
-pub vote-case : (sh : Shape) (b : List ℕ) (own view mask normal sync : ℕ) (h : Header) → own ≡ num b 0 1 → view ≡ num b (startOf sh 1 + 4 * own) 4 → mask ≡ only (view % sh .n) → h ≡ headedIn b 8 own mask → normal ≡ num b 12 4 → sync ≡ num b 24 8 → Vote h normal sync ≡ voteIn sh b
+pub vote-case : (sh : Shape) (b : List ℕ) (own view mask normal sync : ℕ) (h : Header) → own ≡ num b 0 1 → view ≡ num b (startOf sh atGVec + 4 * own) 4 → mask ≡ only (view % sh .n) → h ≡ headedIn b 8 own mask → normal ≡ num b 12 4 → sync ≡ num b 24 8 → Vote h normal sync ≡ voteIn sh b
 vote-case sh b own view mask normal sync h o v t e n y = rw (e, t, v, o, n, y)
 
 pub start-case : (sh : Shape) (b : List ℕ) (own replica mask : ℕ) (h : Header) → own ≡ num b 0 1 → replica ≡ num b 1 1 → mask ≡ others (sh .n) replica → h ≡ headedIn b 9 own mask → StartView h ≡ startIn sh b
@@ -53,11 +53,11 @@ unfolding pick rowOf
 start-room s k = omega arith
 
 module _ {sh : Shape} {st : State} {b : List ℕ} (l : Laid sh st b) (t : TableFits (sh .c) (st .logged .log)) where
-  pub log-counted : num b (startOf sh 3) 4 ≡ length (st .logged .log)
+  pub log-counted : num b (startOf sh atLog) 4 ≡ length (st .logged .log)
   unfolding tableBytes
   log-counted =
-      back-number 4 b (startOf sh 3) (length (st .logged .log)) _ (omega (arith, t .room, t .counted))
-      (drop-all l 3 (startOf sh 3) (lit< tt) refl ∙ append-assoc (le 4 (length (st .logged .log))) (flat entryBytes (st .logged .log) ++ zeroBytes (24 * (sh .c - length (st .logged .log)))) _)
+      back-number 4 b (startOf sh atLog) (length (st .logged .log)) _ (omega (arith, t .room, t .counted))
+      (drop-all l 3 (startOf sh atLog) (lit< tt) refl ∙ append-assoc (le 4 (length (st .logged .log))) (flat entryBytes (st .logged .log) ++ zeroBytes (24 * (sh .c - length (st .logged .log)))) _)
 
   log-block : logIn sh b ≡ flat entryBytes (st .logged .log)
   unfolding tableBytes
@@ -66,8 +66,8 @@ module _ {sh : Shape} {st : State} {b : List ℕ} (l : Laid sh st b) (t : TableF
       let x = flat entryBytes (st .logged .log) in
       let z = zeroBytes (24 * (sh .c - length (st .logged .log))) in
       let m : length x ≡ n = flat-long entryBytes 24 long-entry (st .logged .log) in
-      ap (λ (k : ℕ). part b (startOf sh 3 + 4) (24 * k)) log-counted
-      ∙ get-in l 3 4 (startOf sh 3 + 4) n (lit< tt) refl (omega (arith, t .room))
+      ap (λ (k : ℕ). part b (startOf sh atLog + 4) (24 * k)) log-counted
+      ∙ get-in l 3 4 (startOf sh atLog + 4) n (lit< tt) refl (omega (arith, t .room))
       ∙ part-past (le 4 (length (st .logged .log))) (x ++ z) 4 4 n (length-le 4 (length (st .logged .log))) (lit≤ tt)
       ∙ part-front x z 0 n (omega arith)
       ∙ part-whole x n (omega arith)

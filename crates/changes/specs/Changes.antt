@@ -16,6 +16,7 @@ use Rattle.rules.specs.declared.Message.{Message}
 use Rattle.rules.specs.declared.Message.the-variants as cases
 use Rattle.places.specs.Layout.{startOf}
 use Rattle.handler.specs.Sending.{headedIn, leaderIn}
+use Rattle.rules.specs.Image.{atLog}
 
 -- ---- states
 
@@ -42,7 +43,7 @@ ledBy sh st view gVec draft = done (started sh st view gVec draft) (sendFollower
 
 -- the entries of the log, as they stand
 abbrev pub logIn : Shape → List ℕ → List ℕ
-logIn sh b = part b (startOf sh 3 + 4) (24 * num b (startOf sh 3) 4)
+logIn sh b = part b (startOf sh atLog + 4) (24 * num b (startOf sh atLog) 4)
 
 -- ---- what is sent
 

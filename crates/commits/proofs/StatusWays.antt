@@ -17,7 +17,7 @@ use Rattle.rules.specs.Kind.{known, fromOutside, rowOf}
 use Rattle.rules.specs.Wire as wires
 use Rattle.rules.specs.Read.{wireIn, lengthFor}
 use Rattle.rules.specs.State.{State}
-use Rattle.rules.specs.Image.{pointAt, tableBytes, image, stateOf}
+use Rattle.rules.specs.Image.{pointAt, tableBytes, image, stateOf, atHeard, atLog}
 use Rattle.rules.specs.Commit.{commitPoint}
 use Rattle.rules.specs.Step.{Outcome, refused, done, send, stale, committed, onSyncStatus}
 use Rattle.rules.specs.Bytes.{Left, leaves, closes}
@@ -47,7 +47,7 @@ stale-read b a p v f e q = rw (e, q) (go (eqb (num b a 1) 0))
     go false = refl
 
 module _ {sh : Shape} {st : State} {b : List ℕ} (s : Stands sh st b) where
-  pub log-counted : (at : ℕ) → at ≡ startOf sh 3 → num b at 4 ≡ length (st .logged .log)
+  pub log-counted : (at : ℕ) → at ≡ startOf sh atLog → num b at 4 ≡ length (st .logged .log)
   unfolding tableBytes
   log-counted at e =
       let t = stands-fits s .log in
@@ -123,13 +123,13 @@ module _ (sh : Shape) (b msg out : List ℕ) (m : Message) (h : Header) (p : ℕ
   by-rule : (o : Outcome) → onSyncStatus sh st (wireIn (sh .s) msg) ≡ o → handled 10 onSyncStatus sh m b msg out ≡ closes sh b out o
   by-rule o q = handled-own 10 onSyncStatus sh m b msg out (ap tagOf e) ∙ ap (closes sh b out) q
 
-  stale-is : (t v : Bool) → t ≡ stale p (pointAt b (startOf sh 2 + 9 * from)) → t ≡ v → stale p (getD (st .heard) from none) ≡ v
+  stale-is : (t v : Bool) → t ≡ stale p (pointAt b (startOf sh atHeard + 9 * from)) → t ≡ v → stale p (getD (st .heard) from none) ≡ v
   stale-is t v q z = ap (stale p) (sym (heard-at (r .stands) from from-below)) ∙ sym q ∙ z
 
-  pub not-news : (t : Bool) → t ≡ stale p (pointAt b (startOf sh 2 + 9 * from)) → t ≡ true → leaves 7 b out ≡ handled 10 onSyncStatus sh m b msg out
+  pub not-news : (t : Bool) → t ≡ stale p (pointAt b (startOf sh atHeard + 9 * from)) → t ≡ true → leaves 7 b out ≡ handled 10 onSyncStatus sh m b msg out
   not-news t q z = sym (by-rule (refused 7) (old sh st _ from p from-is point-is (stale-is t true q z)) ∙ closes-refused sh b out 7)
 
-  module _ (t : Bool) (q : t ≡ stale p (pointAt b (startOf sh 2 + 9 * from))) (z : t ≡ false) (len : ℕ) (d : len ≡ length (st .logged .log)) where
+  module _ (t : Bool) (q : t ≡ stale p (pointAt b (startOf sh atHeard + 9 * from))) (z : t ≡ false) (len : ℕ) (d : len ≡ length (st .logged .log)) where
     pub past-log : len < p → leaves 7 b out ≡ handled 10 onSyncStatus sh m b msg out
     past-log g = sym (by-rule (refused 7) (past sh st _ from p from-is point-is (stale-is t false q z) (rw d at g)) ∙ closes-refused sh b out 7)
 

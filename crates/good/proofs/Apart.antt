@@ -16,7 +16,7 @@ use Rattle.rules.specs.Log.{followsLast, lastStamp}
 use Rattle.rules.specs.Log.{goodLog, allHold, distinct}
 use Rattle.rules.specs.State.{Note, State, leads, noted, notedTo, greatestTo, buffersGood, earlyGood, notesDistinct}
 use Rattle.rules.specs.State as rule
-use Rattle.rules.specs.Image.{noteLength, stateLength, tableAt, stateOf}
+use Rattle.rules.specs.Image.{noteLength, stateLength, tableAt, stateOf, atEarly, atLate, atLog, atNotes}
 use Rattle.rules.specs.declared.Entry.{Entry}
 use Rattle.rules.specs.declared.Shape.{Shape}
 use Rattle.rules.proofs.Choice.{or-left, any-append}
@@ -228,7 +228,7 @@ module _ (sh : Shape) (st : State) (last : ℕ) (log early late apart : Bool) (e
   entries-test = truth _ _ to-entries from-entries
 
 module _ (sh : Shape) (b : List ℕ) (z : length b ≡ stateLength sh) where
-  pub entries-are : (l3 l4 l5 group last : ℕ) (log early late apart : Bool) → l3 ≡ startOf sh 3 → l4 ≡ startOf sh 4 → l5 ≡ startOf sh 5 → group ≡ num b 0 1 → last ≡ lastStamp (tableAt (sh .c) b l3)
+  pub entries-are : (l3 l4 l5 group last : ℕ) (log early late apart : Bool) → l3 ≡ startOf sh atLog → l4 ≡ startOf sh atEarly → l5 ≡ startOf sh atLate → group ≡ num b 0 1 → last ≡ lastStamp (tableAt (sh .c) b l3)
       → (log && distinct (tableAt (sh .c) b l3)) ≡ goodLog (sh .s) group (tableAt (sh .c) b l3) → early ≡ every (fits (sh .s) group group last) (tableAt (sh .c) b l4) → late ≡ every (fits (sh .s) group group 0) (tableAt (sh .c) b l5)
       → apart ≡ distinct (tableAt (sh .c) b l3 ++ (tableAt (sh .c) b l4 ++ tableAt (sh .c) b l5)) → (log && (early && (late && apart))) ≡ entriesGood sh (stateOf sh b)
   entries-are l3 l4 l5 group last log early late apart p3 p4 p5 g e1 a1 a2 a3 a4 =
@@ -240,11 +240,11 @@ module _ (sh : Shape) (b : List ℕ) (z : length b ≡ stateLength sh) where
       let k : group ≡ st .site .group = g ∙ sym (f .group) in
       entries-test sh st last log early late apart (rw (t3, k) at a1) (rw t3 at e1) (rw (t4, k) at a2) (rw (t5, k) at a3) (rw (t3, t4, t5) at a4)
 
-  module _ (t : List ℕ) (u : t ≡ part b (startOf sh 6) (4 + noteLength (sh .s) * sh .c)) where
+  module _ (t : List ℕ) (u : t ≡ part b (startOf sh atNotes) (4 + noteLength (sh .s) * sh .c)) where
     pub notes-are : notesAt (sh .c) (sh .s) t ≡ stateOf sh b .waiting .notes
     notes-are = ap (notesAt (sh .c) (sh .s)) u ∙ sym (fields sh b z .notes)
 
-    pub early-is : (at k : ℕ) (r : Bool) → at ≡ startOf sh 4 → k ≡ num b 0 1 → r ≡ every (notedRight (sh .s) (notesAt (sh .c) (sh .s) t) k) (tableAt (sh .c) b at) → r ≡ every (earlyGood sh (stateOf sh b)) (stateOf sh b .waiting .early)
+    pub early-is : (at k : ℕ) (r : Bool) → at ≡ startOf sh atEarly → k ≡ num b 0 1 → r ≡ every (notedRight (sh .s) (notesAt (sh .c) (sh .s) t) k) (tableAt (sh .c) b at) → r ≡ every (earlyGood sh (stateOf sh b)) (stateOf sh b .waiting .early)
     unfolding notedRight earlyGood
     early-is at k r p g h =
         let f = fields sh b z in

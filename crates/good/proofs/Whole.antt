@@ -14,7 +14,7 @@ use Rattle.rules.specs.Group.{shapeFits}
 use Rattle.rules.specs.Entry.{entryFits}
 use Rattle.rules.specs.Log.{goodLog}
 use Rattle.rules.specs.State.{State, viewGood, heardGood, keptGood, countsGood, buffersGood, noteFits, notesDistinct, rangesGood, placesGood, good}
-use Rattle.rules.specs.Image.{tableLength, noteLength, stateLength, tableBytes, notesSection, image, tableAt, stateIn, stateOf, goodBytes}
+use Rattle.rules.specs.Image.{tableLength, noteLength, stateLength, tableBytes, notesSection, image, tableAt, stateIn, stateOf, goodBytes, atDraft, atEarly, atLate, atLog, atNotes, atVotes}
 use Rattle.rules.specs.declared.Shape.{Shape}
 use Rattle.rules.proofs.Tests.{and-l, and-r, and-both, split, join, _also_, same-true}
 use Rattle.entries.proofs.Table.{count-table}
@@ -76,31 +76,31 @@ module _ (sh : Shape) (b : List ℕ) (s : Sized sh b) (bs : Bytes b) (e : tables
       let t : ℕ = tableLength (sh .c) in
       let a3 : ℕ = 0 + 48 + 4 * sh .s + 9 * sh .n in
       let a6 : ℕ = a3 + t + t + t in
-      let q : a6 ≡ startOf sh 6 = omega arith in
+      let q : a6 ≡ startOf sh atNotes = omega arith in
       let g : stateOf sh b .site .group < sh .s = ltb-true _ _ (split _ h 0) in
       let k : stateOf sh b .site .group ≡ num b 0 1 = fields sh b z .group in
       record {
         known = record { sized = s; group = omega arith };
-        log = room-at (sh .c) b a3 (startOf sh 3) (omega arith) m (omega arith) log-form;
-        early = room-at (sh .c) b (a3 + t) (startOf sh 4) (omega arith) m (omega arith) early-form;
-        late = room-at (sh .c) b (a3 + t + t) (startOf sh 5) (omega arith) m (omega arith) late-form;
+        log = room-at (sh .c) b a3 (startOf sh atLog) (omega arith) m (omega arith) log-form;
+        early = room-at (sh .c) b (a3 + t) (startOf sh atEarly) (omega arith) m (omega arith) early-form;
+        late = room-at (sh .c) b (a3 + t + t) (startOf sh atLate) (omega arith) m (omega arith) late-form;
         notes = subst (λ (a : ℕ). Notes (sh .c) (sh .s) (notesPart a)) q (notes-form a6 (omega arith) ne);
       }
 
 -- ---- the notes lent as a slice of their own
 
 module _ (sh : Shape) (b : List ℕ) (from upto : ℕ) where
-  pub notes-lent : from ≡ startOf sh 6 → upto ≡ startOf sh 7 → take (upto - from) (drop from b) ≡ part b (startOf sh 6) (4 + noteLength (sh .s) * sh .c)
+  pub notes-lent : from ≡ startOf sh atNotes → upto ≡ startOf sh atVotes → take (upto - from) (drop from b) ≡ part b (startOf sh atNotes) (4 + noteLength (sh .s) * sh .c)
   unfolding part
   notes-lent e f =
       let m : upto - from ≡ 4 + noteLength (sh .s) * sh .c = omega arith in
       ap₂ (λ (x y : ℕ). take x (drop y b)) m e
 
-  pub lent-notes : Notes (sh .c) (sh .s) (part b (startOf sh 6) (4 + noteLength (sh .s) * sh .c)) → from ≡ startOf sh 6 → upto ≡ startOf sh 7 → Lent sh b (take (upto - from) (drop from b))
+  pub lent-notes : Notes (sh .c) (sh .s) (part b (startOf sh atNotes) (4 + noteLength (sh .s) * sh .c)) → from ≡ startOf sh atNotes → upto ≡ startOf sh atVotes → Lent sh b (take (upto - from) (drop from b))
   lent-notes h e f = record { notes = subst (λ (t : List ℕ). Notes (sh .c) (sh .s) t) (sym (notes-lent e f)) h; is = notes-lent e f }
 
   -- what is found of them, said of the section
-  pub section-fits : length b ≡ stateLength sh → (r : Bool) → from ≡ startOf sh 6 → upto ≡ startOf sh 7
+  pub section-fits : length b ≡ stateLength sh → (r : Bool) → from ≡ startOf sh atNotes → upto ≡ startOf sh atVotes
       → r ≡ (same (notesSection (sized (sh .c) (sh .s)) (notesAt (sh .c) (sh .s) (take (upto - from) (drop from b)))) (take (upto - from) (drop from b)) && every noteFits (notesAt (sh .c) (sh .s) (take (upto - from) (drop from b))))
       → r ≡ (sectionForm sh b 6 && every noteFits (stateOf sh b .waiting .notes))
   unfolding sectionForm
@@ -108,7 +108,7 @@ module _ (sh : Shape) (b : List ℕ) (from upto : ℕ) where
       let t : List ℕ = take (upto - from) (drop from b) in
       let xs : notesAt (sh .c) (sh .s) t ≡ stateOf sh b .waiting .notes = notes-are sh b z t (notes-lent e f) in
       let k : ℕ = tableLength (sh .c) in
-      let q : startOf sh 6 ≡ 0 + 48 + 4 * sh .s + 9 * sh .n + k + k + k = omega arith in
+      let q : startOf sh atNotes ≡ 0 + 48 + 4 * sh .s + 9 * sh .n + k + k + k = omega arith in
       let y : t ≡ part b (0 + 48 + 4 * sh .s + 9 * sh .n + k + k + k) (4 + noteLength (sh .s) * sh .c) = notes-lent e f ∙ ap (λ (j : ℕ). part b j (4 + noteLength (sh .s) * sh .c)) q in
       h ∙ ap₂ _&&_ (ap₂ same (ap (notesSection (sized (sh .c) (sh .s))) xs ∙ sym (section-of sh (stateOf sh b .waiting .notes))) y) (ap (every noteFits) xs)
 
@@ -198,7 +198,7 @@ module _ (sh : Shape) (b : List ℕ) where
           simp (g1, eq-eqb (length b) (stateLength sh) z, k, m) e5
 
     -- what the tests after those say, taken together
-    pub rest-is : (k l8 : ℕ) (heard draft points view kept entries noting : Bool) → k ≡ num b 0 1 → l8 ≡ startOf sh 8
+    pub rest-is : (k l8 : ℕ) (heard draft points view kept entries noting : Bool) → k ≡ num b 0 1 → l8 ≡ startOf sh atDraft
         → heard ≡ (sectionForm sh b 2 && heardGood sh (stateOf sh b)) → draft ≡ goodLog (sh .s) k (tableAt (sh .c) b l8) → points ≡ pointsGood (stateOf sh b) → view ≡ viewGood sh (stateOf sh b) → kept ≡ keptGood sh (stateOf sh b) → entries ≡ entriesGood sh (stateOf sh b) → noting ≡ notesRight sh (stateOf sh b)
         → (heard && (draft && (points && (view && (kept && (entries && noting)))))) ≡ (sectionForm sh b 2 && restGood sh (stateOf sh b))
     unfolding restGood allOf

@@ -10,7 +10,7 @@ use Rattle.rules.specs.Choice.{pick, when, allOf, every, isSome}
 use Rattle.rules.specs.Entry.{latest, entryFits}
 use Rattle.rules.specs.Log.{goodLog}
 use Rattle.rules.specs.State.{Note, State, leads, noted, stampsOf, notedTo, greatestTo, valueOf, viewGood, heardGood, keptGood, buffersGood, earlyGood, notesDistinct}
-use Rattle.rules.specs.Image.{noteLength}
+use Rattle.rules.specs.Image.{noteLength, atEarly, atLate, atLog, atNotes}
 use Rattle.rules.specs.declared.Entry.{Entry}
 use Rattle.rules.specs.declared.Shape.{Shape}
 use Rattle.logs.specs.Place.{Within}
@@ -59,15 +59,15 @@ pub record Known (sh : Shape) (b : List ℕ) : Type 0 where
 -- and which are the form of the state in them: of that, what the tests need
 pub record Formed (sh : Shape) (b : List ℕ) : Type 0 where
   pub known : Known sh b
-  pub log : Within (sh .c) b (startOf sh 3)
-  pub early : Within (sh .c) b (startOf sh 4)
-  pub late : Within (sh .c) b (startOf sh 5)
-  pub notes : Notes (sh .c) (sh .s) (part b (startOf sh 6) (4 + noteLength (sh .s) * sh .c))
+  pub log : Within (sh .c) b (startOf sh atLog)
+  pub early : Within (sh .c) b (startOf sh atEarly)
+  pub late : Within (sh .c) b (startOf sh atLate)
+  pub notes : Notes (sh .c) (sh .s) (part b (startOf sh atNotes) (4 + noteLength (sh .s) * sh .c))
 
 -- t is the notes of the state in b
 pub record Lent (sh : Shape) (b t : List ℕ) : Type 0 where
   pub notes : Notes (sh .c) (sh .s) t
-  pub is : t ≡ part b (startOf sh 6) (4 + noteLength (sh .s) * sh .c)
+  pub is : t ≡ part b (startOf sh atNotes) (4 + noteLength (sh .s) * sh .c)
 
 -- what is left of a good state where head and notes are in range
 unfoldable pub restGood : Shape → State → Bool

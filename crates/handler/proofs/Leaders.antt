@@ -29,6 +29,7 @@ use Rattle.places.specs.Layout.{startOf, Laid}
 use Rattle.handler.specs.Sending.{messageBytes, headedIn, leaderIn, othersIn, askedOf, Asks, leaderBytes}
 use Rattle.handler.proofs.Rows.{all-below, flat-snoc, flat-ext, keep-ext, kept-more, kept-same, kept-within, sends-flat}
 use Rattle.handler.proofs.Sends.{Sender, own-group, view-in, message-sent}
+use Rattle.rules.specs.Image.{atGVec}
 
 -- the mask of all groups holds each
 full-table : every (λ s. every (λ j. holds (2 ^ s - 1) j) (below s)) (below 9) ≡ true
@@ -94,7 +95,7 @@ pub asked-long : (m : Message) (kind number : ℕ) (h : Header) → m ≡ askedO
 asked-long m kind number h e = ap (λ (x : Message). length (numbersOf x)) e ∙ asked-numbers (eqb kind 3) h number
 
 -- the bytes of what is asked
-pub asked-is : (sh : Shape) (b : List ℕ) (kind number : ℕ) (entries : List ℕ) (j view t : ℕ) (h : Header) (m : Message) → view ≡ num b (startOf sh 1 + 4 * j) 4 → t ≡ only (view % sh .n) → h ≡ headedIn b kind j t → m ≡ askedOf kind number h → messageBytes sh b m entries ≡ leaderBytes sh b kind number entries j
+pub asked-is : (sh : Shape) (b : List ℕ) (kind number : ℕ) (entries : List ℕ) (j view t : ℕ) (h : Header) (m : Message) → view ≡ num b (startOf sh atGVec + 4 * j) 4 → t ≡ only (view % sh .n) → h ≡ headedIn b kind j t → m ≡ askedOf kind number h → messageBytes sh b m entries ≡ leaderBytes sh b kind number entries j
 unfolding leaderBytes
 asked-is sh b kind number entries j view t h m e q g d = rw (d, g, q, e)
 

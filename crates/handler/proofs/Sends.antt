@@ -32,6 +32,7 @@ use Rattle.places.proofs.Head.{get-head}
 use Rattle.places.proofs.Rows.{row-at}
 use Rattle.writer.proofs.Writer.{length-bytes}
 use Rattle.handler.specs.Sending.{messageBytes, headedIn}
+use Rattle.rules.specs.Image.{atGVec}
 
 -- the header of what a site sends
 abbrev pub headed : State → ℕ → ℕ → ℕ → Header
@@ -46,22 +47,22 @@ unfolding wireFrom
 sent-case st m views entries k g t xs es fv fe h q v e = rw (v, e) (simp (h, q, in-block (number 4) (lit< tt) (st .view .gVec) fv, in-block entry (lit< tt) es fe))
 
 -- the gVec section as it is lent to the writer
-pub views-lent : {sh : Shape} {st : State} {b : List ℕ} (at n : ℕ) → Laid sh st b → at ≡ startOf sh 1 → n ≡ 4 * sh .s → take n (drop at b) ≡ flat (le 4) (st .view .gVec)
+pub views-lent : {sh : Shape} {st : State} {b : List ℕ} (at n : ℕ) → Laid sh st b → at ≡ startOf sh atGVec → n ≡ 4 * sh .s → take n (drop at b) ≡ flat (le 4) (st .view .gVec)
 views-lent at n l e r = lent l 1 at n (lit< tt) e r
 
 -- the bytes that are written, from those of the gVec as they are lent
-pub message-is : (sh : Shape) (b : List ℕ) (m : Message) (entries : List ℕ) (at n : ℕ) → at ≡ startOf sh 1 → n ≡ 4 * sh .s → wireBytes (wireFrom m (take n (drop at b)) entries) ≡ messageBytes sh b m entries
+pub message-is : (sh : Shape) (b : List ℕ) (m : Message) (entries : List ℕ) (at n : ℕ) → at ≡ startOf sh atGVec → n ≡ 4 * sh .s → wireBytes (wireFrom m (take n (drop at b)) entries) ≡ messageBytes sh b m entries
 unfolding messageBytes part
 message-is sh b m entries at n e r = rw (e, r)
 
 -- and how long they are
-pub message-length : (sh : Shape) (b : List ℕ) (m : Message) (entries : List ℕ) → startOf sh 1 + 4 * sh .s ≤ length b → Bytes b → Bytes entries → 24 * (length entries / 24) ≡ length entries → length (messageBytes sh b m entries) ≡ 24 + 4 * sh .s + 8 * length (numbersOf m) + length entries
+pub message-length : (sh : Shape) (b : List ℕ) (m : Message) (entries : List ℕ) → startOf sh atGVec + 4 * sh .s ≤ length b → Bytes b → Bytes entries → 24 * (length entries / 24) ≡ length entries → length (messageBytes sh b m entries) ≡ 24 + 4 * sh .s + 8 * length (numbersOf m) + length entries
 unfolding messageBytes
 message-length sh b m entries r bb be w =
-    let v = part b (startOf sh 1) (4 * sh .s) in
-    let n : length v ≡ 4 * sh .s = length-part b (startOf sh 1) (4 * sh .s) r in
+    let v = part b (startOf sh atGVec) (4 * sh .s) in
+    let n : length v ≡ 4 * sh .s = length-part b (startOf sh atGVec) (4 * sh .s) r in
     let q : 4 * (length v / 4) ≡ length v = omega arith in
-    length-bytes m v entries q w (bytes-part b (startOf sh 1) (4 * sh .s) bb) be ∙ rw n
+    length-bytes m v entries q w (bytes-part b (startOf sh atGVec) (4 * sh .s) bb) be ∙ rw n
 
 -- what of a state stands in every message that it sends fits its bytes
 pub record Sender (sh : Shape) (st : State) : Type 0 where
@@ -91,8 +92,8 @@ module _ {sh : Shape} {st : State} {b : List ℕ} (l : Laid sh st b) (f : Sender
   pub own-view : num b 8 4 ≡ st .view .gView
   own-view = get-head l 4 8 4 (st .view .gView) (lit< tt) (simp length-le) (lit≤ tt) refl (f .view)
 
-  pub view-in : (j : ℕ) → j < sh .s → num b (startOf sh 1 + 4 * j) 4 ≡ getD (st .view .gVec) j 0
-  view-in j h = row-at (number 4) b (startOf sh 1) (st .view .gVec) _ 0 j (f .gVec) (drop-all l 1 (startOf sh 1) (lit< tt) refl) (omega (arith, f .places))
+  pub view-in : (j : ℕ) → j < sh .s → num b (startOf sh atGVec + 4 * j) 4 ≡ getD (st .view .gVec) j 0
+  view-in j h = row-at (number 4) b (startOf sh atGVec) (st .view .gVec) _ 0 j (f .gVec) (drop-all l 1 (startOf sh atGVec) (lit< tt) refl) (omega (arith, f .places))
 
   -- the header of what it sends
   pub headed-is : (k g t : ℕ) → headedIn b k g t ≡ headed st k g t
@@ -102,4 +103,4 @@ module _ {sh : Shape} {st : State} {b : List ℕ} (l : Laid sh st b) (f : Sender
   pub message-sent : (m : Message) (entries : List ℕ) (k g t : ℕ) (xs : List ℕ) (es : List Entry) → headerIn m ≡ headedIn b k g t → numbersOf m ≡ xs → entries ≡ flat entryBytes es → All EntryFits es → messageBytes sh b m entries ≡ wireBytes (send st k g t xs es)
   unfolding messageBytes part
   message-sent m entries k g t xs es h q e fe =
-      ap wireBytes (sent-case st m _ entries k g t xs es (f .gVec) fe (h ∙ headed-is k g t) q (views-lent (startOf sh 1) (4 * sh .s) l refl refl) e)
+      ap wireBytes (sent-case st m _ entries k g t xs es (f .gVec) fe (h ∙ headed-is k g t) q (views-lent (startOf sh atGVec) (4 * sh .s) l refl refl) e)

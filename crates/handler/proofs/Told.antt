@@ -1,21 +1,21 @@
 -- What a case says of the message in the bytes. Assumes nothing.
 use Prim.Native.Nat.{ℕ, _+_, _*_, _^_, _<_}
 use mathlib.Core.Path.{_≡_, refl, sym, ap, subst, _∙_}
-use mathlib.Core.Bool.{Bool, true, false, not, true≢false}
-use mathlib.Core.List.{List, [], _∷_}
+use mathlib.Core.Bool.{Bool, true, false, true≢false}
+use mathlib.Core.List.{List}
 use native.Mathlib.Omega.{arith}
 use lib.ListN.{length, getD}
 use lib.Dec.{eqb, ltb}
-use borrow.Author.Tests.{eqb-true, ltb-true, not-true}
+use borrow.Author.Tests.{eqb-true, ltb-true}
 use Rattle.octets.specs.Bytes.{num, items}
 use Rattle.octets.proofs.Laws.{Bytes}
 use Rattle.octets.proofs.Codecs.{All, length-items, getD-items}
-use Rattle.rules.specs.Choice.{pick, any, every, when}
+use Rattle.rules.specs.Choice.{pick, any}
 use Rattle.rules.specs.Group.{sizesFit}
 use Rattle.rules.specs.Entry.{noEntry, entryOf}
 use Rattle.rules.specs.Log.{goodLog}
 use Rattle.rules.specs.Wire.{Wire, firstEntry, headerOf, caseOf, tagOf, headerIn, numbersOf}
-use Rattle.rules.specs.Kind.{Kind, kinds, noKind, rowIn, rowOf, fromOutside, bare, withOne, withLog, known, viewsIn, numbersIn}
+use Rattle.rules.specs.Kind.{fromOutside, bare, withOne, withLog, known, viewsIn, numbersIn}
 use Rattle.rules.specs.Wire as wires
 use Rattle.rules.specs.Read.{Read, malformed, message, read, wireIn, fieldsOf, entriesAt, lengthFor, entryAt, caseRead, decoded, formed}
 use Rattle.rules.specs.Image.{stateOf}
@@ -24,9 +24,8 @@ use Rattle.rules.specs.declared.Header.{Header}
 use Rattle.rules.specs.declared.Shape.{Shape}
 use Rattle.rules.specs.declared.Message.{Message}
 use Rattle.rules.specs.declared.Message.the-variants.{WrongSizes, Malformed}
-use Rattle.rules.proofs.Choice.{and-left, pick-false, any-none}
-use Rattle.rules.proofs.Tests.{so-when}
-use Rattle.rules.proofs.EachKind.{by-test}
+use Rattle.rules.proofs.Choice.{and-left, pick-false}
+use Rattle.rules.proofs.EachKind.{one-known, log-known, log-later}
 use Rattle.rules.proofs.Entries.{EntryFits}
 use Rattle.rules.proofs.Verdicts.{Rights, message-right}
 use Rattle.rules.proofs.Messages.{Whole, read-whole, read-formed, formed-fits}
@@ -49,36 +48,6 @@ whole-known n s b w q = message-right n s (fieldsOf w) (length (w .entries)) (le
 whole-numbers : (n s : ℕ) (b : List ℕ) (w : Wire) → Whole n s b w → length (w .numbers) ≡ numbersIn (w .kind)
 unfolding fieldsOf
 whole-numbers n s b w q = eqb-true _ _ (message-right n s (fieldsOf w) (length (w .entries)) (length (w .entries)) (q .fine) .count)
-
-rows-none : (rs : List Kind) (k : ℕ) → All (λ r. eqb k (r .kind) ≡ false) rs → rowIn rs k ≡ noKind
-unfolding rowIn pick
-rows-none [] k h = refl
-rows-none (r ∷ rs) k h = rw (h .0) (rows-none rs k (h .1))
-
--- a number that is no kind has no row
-no-row : (k : ℕ) → known k ≡ false → rowOf k ≡ noKind
-unfolding rowOf
-no-row k e = rows-none kinds k (any-none (λ r. eqb k (r .kind)) kinds e)
-
--- a kind with one entry, or with a log, is known
-one-known : (k : ℕ) → withOne k ≡ true → known k ≡ true
-one-known k e = go (known k) refl
-  where
-    go : (t : Bool) → known k ≡ t → t ≡ true
-    go true h = refl
-    go false h = absurd (true≢false (sym e ∙ rw (no-row k h)))
-
-log-known : (k : ℕ) → withLog k ≡ true → known k ≡ true
-log-known k e = go (known k) refl
-  where
-    go : (t : Bool) → known k ≡ t → t ≡ true
-    go true h = refl
-    go false h = absurd (true≢false (sym e ∙ rw (no-row k h)))
-
--- a transaction has no log
-no-one : (k : ℕ) → withLog k ≡ true → eqb k 1 ≡ false
-unfolding every rowOf
-no-one k e = not-true (eqb k 1) (so-when (withLog k) (not (eqb k 1)) (by-test (λ k. when (withLog k) (not (eqb k 1))) refl k (log-known k e)) e)
 
 module _ (n s : ℕ) (m : Message) (msg : List ℕ) where
   told-whole : (w : Wire) → sizesFit n s ≡ true → read n s msg ≡ message w → m ≡ caseOf w → Told n s m msg
@@ -183,7 +152,7 @@ module _ (n s : ℕ) (m : Message) (msg : List ℕ) where
 
     -- a log is good for its destination group
     pub told-log : Bytes msg → withLog k ≡ true → goodLog s (headerIn m .«to_group») (w .entries) ≡ true
-    told-log bs e = ap (λ (h : Header). goodLog s (h .«to_group») (w .entries)) (sym (t .header)) ∙ log-good n s w (told-formed t bs) k (t .kind) e (no-one k e)
+    told-log bs e = ap (λ (h : Header). goodLog s (h .«to_group») (w .entries)) (sym (t .header)) ∙ log-good n s w (told-formed t bs) k (t .kind) e (log-later k e)
 
 -- ---- of what a handler is given
 

@@ -58,4 +58,3 @@ withReplies st x = withChange (record { votes = st .change .votes; draft = st .c
 
 abbrev pub withHeard : State → List (Option ℕ) → State
 withHeard st x = record { site = st .site; view = st .view; clock = st .clock; logged = st .logged; heard = x; waiting = st .waiting; change = st .change }
-

@@ -8,14 +8,11 @@ use lib.ListN.{length, take, drop}
 use Rattle.rules.specs.Choice.{keep, leading}
 use Rattle.rules.specs.Entry.{without}
 use Rattle.rules.specs.Log.{distinct}
-use Rattle.rules.specs.State.{Note, State, agreed, buffersGood, good}
+use Rattle.rules.specs.State.{Note, State, agreed}
 use Rattle.rules.specs.Image.{tableLength, noteLength, tableAt, stateOf}
 use Rattle.rules.specs.Early.{dueOf, notesWithout}
 use Rattle.rules.specs.declared.Entry.{Entry}
 use Rattle.rules.specs.declared.Shape.{Shape}
-use Rattle.rules.proofs.Tests.{split}
-use Rattle.rules.proofs.Choice.{pairs-front, pairs-back}
-use Rattle.rules.proofs.Logs.{Apart, distinct-pairs, pairs-distinct}
 use Rattle.rules.proofs.Tables.{TableFits, NotesFit}
 use Rattle.rules.proofs.Image.{StateFits, state-back}
 use Rattle.entries.specs.Table.{Holds, Table}
@@ -30,24 +27,15 @@ use Rattle.places.specs.declared.Places.{Places}
 use Rattle.places.specs.With.{withLog, withEarly, withNotes}
 use Rattle.places.proofs.Sections.{stands-fits, stands-laid}
 use Rattle.places.proofs.Lent.{holds-fits, log-lent, early-lent, log-home, early-home}
-use Rattle.handler.proofs.Own.{group-below, replica-below}
+use Rattle.handler.proofs.Own.{group-below, replica-below, early-once}
 use Rattle.handler.proofs.NotesLent.{notes-lent, notes-home}
 use Rattle.releases.specs.Midway.{Midway, Reaches}
 use Rattle.releases.specs.Waiting.{Waiting, runIn}
 
 -- ---- a good state is on the way
 
-early-once : (st : State) → buffersGood st ≡ true → distinct (st .waiting .early) ≡ true
-unfolding buffersGood
-early-once st g =
-    pairs-distinct (st .waiting .early)
-    (pairs-front Apart (st .waiting .early) (st .waiting .late) (pairs-back Apart (st .logged .log) (st .waiting .early ++ st .waiting .late) (distinct-pairs (st .logged .log ++ (st .waiting .early ++ st .waiting .late)) (split _ g 0))))
-
 pub on-way : {sh : Shape} {b : List ℕ} → Stands sh (stateOf sh b) b → Midway sh b
-unfolding good
-on-way {sh} {b} s =
-    let h = split _ (s .good) in
-    record { fits = s .fits; laid = stands-laid s; size = s .size; state = stands-fits s; group = group-below s; replica = replica-below s; early = early-once (stateOf sh b) (h 8) }
+on-way s = record { fits = s .fits; laid = stands-laid s; size = s .size; state = stands-fits s; group = group-below s; replica = replica-below s; early = early-once s }
 
 -- ---- a state that is reached
 

@@ -10,7 +10,7 @@ ghost use lib.ListN.{length, take, drop};
 ghost use Rattle.octets.specs.Bytes.{items};
 ghost use Rattle.rules.specs.Choice.{leading};
 ghost use Rattle.rules.specs.State.{agreed};
-ghost use Rattle.rules.specs.Image.{stateLength, stateOf};
+ghost use Rattle.rules.specs.Image.{stateLength, stateOf, atEarly, atLog};
 ghost use Rattle.rules.specs.Digest.{digest};
 ghost use Rattle.rules.specs.Early.{dueOf, notesWithout};
 ghost use Rattle.rules.specs.Entry.{entryOf, without};
@@ -370,7 +370,7 @@ pub fn log_length(shape: Shape, state: &[u8]) -> usize
 // Where entry i of the log stands.
 pub fn log_place(shape: Shape, i: usize) -> usize
     requires { ⌜ Fits shape × (i < shape .c) ⌝ }
-    ensures { λ r. ⌜ (r ≡ startOf shape 3 + (4 + 24 * i)) × (r + 24 ≤ stateLength shape) × (r ≤ 2187586) ⌝ }
+    ensures { λ r. ⌜ (r ≡ startOf shape atLog + (4 + 24 * i)) × (r + 24 ≤ stateLength shape) × (r ≤ 2187586) ⌝ }
 {
     places::places_of(shape).log + (4 + 24 * i)
 }
@@ -378,7 +378,7 @@ pub fn log_place(shape: Shape, i: usize) -> usize
 // Where entry i of early stands.
 pub fn early_place(shape: Shape, i: usize) -> usize
     requires { ⌜ Fits shape × (i < shape .c) ⌝ }
-    ensures { λ r. ⌜ (r ≡ startOf shape 4 + (4 + 24 * i)) × (r + 24 ≤ stateLength shape) × (r ≤ 2187586) ⌝ }
+    ensures { λ r. ⌜ (r ≡ startOf shape atEarly + (4 + 24 * i)) × (r + 24 ≤ stateLength shape) × (r ≤ 2187586) ⌝ }
 {
     places::places_of(shape).early + (4 + 24 * i)
 }

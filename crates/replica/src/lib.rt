@@ -4,6 +4,7 @@ use rules::Answer;
 use rules::Header;
 use rules::Message;
 use rules::Shape;
+use rules::refusal;
 ghost use mathlib.Core.Path.{_≡_};
 ghost use mathlib.Core.List.{[], _∷_};
 ghost use Rattle.rules.specs.Choice.{pick};
@@ -20,7 +21,7 @@ pub fn step(shape: Shape, state: &mut [u8], message: &[u8], out: &mut [u8]) -> A
     ensures { λ r. ⌜ left r (now (state .exit)) (now (out .exit)) ≡ stepBytes shape (now (state .entry)) (now (message .entry)) (now (out .entry)) ⌝ }
 {
     if !good::good(shape, state) {
-        return Answer::Refused(1);
+        return Answer::Refused(refusal::WRONG_STATE);
     }
     let m = wire::read(shape.n, shape.s, message);
     let number = admit::refusal(shape, state, m, message);

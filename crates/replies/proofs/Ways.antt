@@ -16,7 +16,7 @@ use Rattle.rules.specs.Kind.{bare, known, fromOutside, rowOf}
 use Rattle.rules.specs.Wire as wires
 use Rattle.rules.specs.Read.{wireIn, entriesAt, lengthFor, entryAt}
 use Rattle.rules.specs.State.{State, held}
-use Rattle.rules.specs.Image.{replyLength, replyBytes, replyAt, tableAt, image, stateOf}
+use Rattle.rules.specs.Image.{replyLength, replyBytes, replyAt, tableAt, image, stateOf, atReplies}
 use Rattle.rules.specs.Merge.{merged}
 use Rattle.rules.specs.Step.{Outcome, refused, done, within, viewRight, statusRight, changing, starts, onVerifyReply}
 use Rattle.rules.specs.Bytes.{Left, leaves, closes}
@@ -141,7 +141,7 @@ module _ (sh : Shape) (b msg out : List ℕ) (m : Message) (h : Header) (r : Rea
   by-rule : (o : Outcome) → onVerifyReply sh st w ≡ o → handled 19 onVerifyReply sh m b msg out ≡ closes sh b out o
   by-rule o q = handled-own 19 onVerifyReply sh m b msg out kind-is ∙ ap (closes sh b out) q
 
-  module _ (f : Bool) (q : f ≡ isSome (replyAt (sh .c) b (startOf sh 9 + replyLength (sh .c) * from))) where
+  module _ (f : Bool) (q : f ≡ isSome (replyAt (sh .c) b (startOf sh atReplies + replyLength (sh .c) * from))) where
     flag-is : (v : Bool) → f ≡ v → isSome (getD (st .change .replies) from none) ≡ v
     flag-is v z = ap isSome (sym (reply-at (r .stands) from from-below)) ∙ sym q ∙ z
 
@@ -174,14 +174,14 @@ module _ (sh : Shape) (b msg out : List ℕ) (m : Message) (h : Header) (r : Rea
       pub reply-stands : at + 4 + 24 * number ≤ length msg
       reply-stands = omega (arith, whole)
 
-      module _ (f : Bool) (q : f ≡ isSome (replyAt (sh .c) b (startOf sh 9 + replyLength (sh .c) * from))) (z : f ≡ false) where
+      module _ (f : Bool) (q : f ≡ isSome (replyAt (sh .c) b (startOf sh atReplies + replyLength (sh .c) * from))) (z : f ≡ false) where
         new : isSome (getD (st .change .replies) from none) ≡ false
         new = flag-is f q false z
 
         pub reply-past : sh .c < number → leaves 8 b out ≡ handled 19 onVerifyReply sh m b msg out
         reply-past k = sym (by-rule (refused 8) (many sh st w from es from-is entries-are new (rw entries-long k)) ∙ closes-refused sh b out 8)
 
-        module _ (g : number ≤ sh .c) (k : ℕ) (c : k ≡ count (λ j. isSome (replyAt (sh .c) b (startOf sh 9 + replyLength (sh .c) * j))) (sh .s)) where
+        module _ (g : number ≤ sh .c) (k : ℕ) (c : k ≡ count (λ j. isSome (replyAt (sh .c) b (startOf sh atReplies + replyLength (sh .c) * j))) (sh .s)) where
           abbrev with : List (Option (List Entry))
           with = set (st .change .replies) from (some es)
 
@@ -191,7 +191,7 @@ module _ (sh : Shape) (b msg out : List ℕ) (m : Message) (h : Header) (r : Rea
           held-with : held with ≡ k + 1
           held-with = held-more (st .change .replies) from es (omega (arith, from-below, stands-fits (r .stands) .replyPlaces)) (none-is (getD (st .change .replies) from none) new) ∙ ap (λ (x : ℕ). x + 1) (sym (held-counted (r .stands) k c))
 
-          pub reply-kept : (b′ : List ℕ) → k + 1 < sh .s - 1 → b′ ≡ splice b (startOf sh 9 + replyLength (sh .c) * from) (replyBytes (sh .c) (some es)) → quiet b′ out ≡ handled 19 onVerifyReply sh m b msg out
+          pub reply-kept : (b′ : List ℕ) → k + 1 < sh .s - 1 → b′ ≡ splice b (startOf sh atReplies + replyLength (sh .c) * from) (replyBytes (sh .c) (some es)) → quiet b′ out ≡ handled 19 onVerifyReply sh m b msg out
           reply-kept b′ l x =
               let y = put-reply (stands-laid (r .stands)) from es (even-replies (r .stands)) fits from-below x in
               let d : withReplies st with ≡ changing st 3 (st .change .votes) (st .change .draft) (st .change .boundary) with = ap (λ (v : ℕ). changing st v (st .change .votes) (st .change .draft) (st .change .boundary) with) status-is in

@@ -15,16 +15,15 @@ use Rattle.octets.proofs.Codecs.{next, number, back-number}
 use Rattle.rules.specs.Choice.{isSome}
 use Rattle.rules.specs.Entry.{noEntry, entryOf, sameTxn, stamped, among}
 use Rattle.rules.specs.Log.{distinct}
-use Rattle.rules.specs.State.{Note, State, buffersGood, good, noted, agreed, greatest}
+use Rattle.rules.specs.State.{Note, State, noted, agreed, greatest}
 use Rattle.rules.specs.Read.{entryAt}
-use Rattle.rules.specs.Image.{zeroBytes, tableBytes, tableAt, sections, image, stateOf}
+use Rattle.rules.specs.Image.{zeroBytes, tableBytes, tableAt, sections, image, stateOf, atEarly, atLate, atLog, atNotes, atVotes}
 use Rattle.rules.specs.Early.{lifted}
 use Rattle.rules.specs.Step.{buffered}
 use Rattle.rules.specs.declared.Entry.{Entry}
 use Rattle.rules.specs.declared.Shape.{Shape}
-use Rattle.rules.proofs.Choice.{all-map, any-none, pairs-front, pairs-back, pairs-append}
+use Rattle.rules.proofs.Choice.{all-map, any-none, pairs-append}
 use Rattle.rules.proofs.Order.{txn-turns}
-use Rattle.rules.proofs.Tests.{split}
 use Rattle.rules.proofs.Entries.{entry}
 use Rattle.rules.proofs.Tables.{TableFits, NotesFit}
 use Rattle.rules.proofs.Logs.{Apart, distinct-pairs, pairs-distinct}
@@ -52,13 +51,6 @@ use Rattle.stamps.proofs.Lifted.{lifted-absent, lifted-waits, lifted-he
 module _ {sh : Shape} {st : State} {b : List ℕ} (s : Stands sh st b) where
   pub stands-midway : Midway sh st b
   stands-midway = record { fits = s .fits; holds = stands-fits s; laid = stands-laid s; size = s .size }
-
-  pub stands-once : distinct (st .logged .log ++ (st .waiting .early ++ st .waiting .late)) ≡ true
-  unfolding good buffersGood
-  stands-once = split _ (split _ (s .good) 8) 0
-
-  pub early-once : distinct (st .waiting .early) ≡ true
-  early-once = pairs-distinct (st .waiting .early) (pairs-front Apart (st .waiting .early) (st .waiting .late) (pairs-back Apart (st .logged .log) (st .waiting .early ++ st .waiting .late) (distinct-pairs (st .logged .log ++ (st .waiting .early ++ st .waiting .late)) stands-once)))
 
 fits-buffered : {sh : Shape} {st : State} (early late : List Entry) (notes : List Note) → StateFits sh st → TableFits (sh .c) early → TableFits (sh .c) late → NotesFit sh notes → StateFits sh (buffered st early late notes)
 fits-buffered early late notes f e l n =
@@ -99,59 +91,59 @@ module _ {sh : Shape} {st : State} {b : List ℕ} (m : Midway sh st b) where
   midway-here = subst (λ (x : State). Midway sh x b) (sym midway-as) m
 
   -- ---- its tables, lent from one section's start to the next one's
-  pub log-here : (at end : ℕ) → at ≡ startOf sh 3 → end ≡ startOf sh 4 → Holds (sh .c) (st .logged .log) (take (end - at) (drop at b))
+  pub log-here : (at end : ℕ) → at ≡ startOf sh atLog → end ≡ startOf sh atEarly → Holds (sh .c) (st .logged .log) (take (end - at) (drop at b))
   log-here at end e f = log-lent (m .laid) at (end - at) (m .fits) (m .holds .log) e (omega arith)
 
-  pub early-here : (at end : ℕ) → at ≡ startOf sh 4 → end ≡ startOf sh 5 → Holds (sh .c) (st .waiting .early) (take (end - at) (drop at b))
+  pub early-here : (at end : ℕ) → at ≡ startOf sh atEarly → end ≡ startOf sh atLate → Holds (sh .c) (st .waiting .early) (take (end - at) (drop at b))
   early-here at end e f = early-lent (m .laid) at (end - at) (m .fits) (m .holds .early) e (omega arith)
 
-  pub late-here : (at end : ℕ) → at ≡ startOf sh 5 → end ≡ startOf sh 6 → Holds (sh .c) (st .waiting .late) (take (end - at) (drop at b))
+  pub late-here : (at end : ℕ) → at ≡ startOf sh atLate → end ≡ startOf sh atNotes → Holds (sh .c) (st .waiting .late) (take (end - at) (drop at b))
   late-here at end e f = late-lent (m .laid) at (end - at) (m .fits) (m .holds .late) e (omega arith)
 
-  pub notes-here : (at end : ℕ) → at ≡ startOf sh 6 → end ≡ startOf sh 7 → NotesHold (sh .c) (sh .s) (st .waiting .notes) (take (end - at) (drop at b))
+  pub notes-here : (at end : ℕ) → at ≡ startOf sh atNotes → end ≡ startOf sh atVotes → NotesHold (sh .c) (sh .s) (st .waiting .notes) (take (end - at) (drop at b))
   notes-here at end e f = notes-lent (m .laid) at (end - at) (m .fits) (m .holds .notes) e (omega arith)
 
   -- what is asked of the notes as they are lent
-  pub notes-read : {A : Type 0} (op : List Note → A) (r : A) (at end : ℕ) → at ≡ startOf sh 6 → end ≡ startOf sh 7 → r ≡ op (notesAt (sh .c) (sh .s) (take (end - at) (drop at b))) → r ≡ op (st .waiting .notes)
+  pub notes-read : {A : Type 0} (op : List Note → A) (r : A) (at end : ℕ) → at ≡ startOf sh atNotes → end ≡ startOf sh atVotes → r ≡ op (notesAt (sh .c) (sh .s) (take (end - at) (drop at b))) → r ≡ op (st .waiting .notes)
   notes-read op r at end e f q = q ∙ ap op (held.decoded (sh .c) (sh .s) (st .waiting .notes) _ (notes-here at end e f))
 
-  module _ (x : Entry) (j at end : ℕ) (e : at ≡ startOf sh 6) (f : end ≡ startOf sh 7) (p : Point) (q : said p ≡ noted (notesAt (sh .c) (sh .s) (take (end - at) (drop at b))) x j) where
+  module _ (x : Entry) (j at end : ℕ) (e : at ≡ startOf sh atNotes) (f : end ≡ startOf sh atVotes) (p : Point) (q : said p ≡ noted (notesAt (sh .c) (sh .s) (take (end - at) (drop at b))) x j) where
     pub not-noted : p ≡ Unheard → false ≡ isSome (noted (st .waiting .notes) x j)
     not-noted w = ap (λ (y : Option ℕ). isSome y) (sym (ap said w) ∙ notes-read (λ xs. noted xs x j) (said p) at end e f q)
 
     pub was-noted : (t : ℕ) → p ≡ Heard t → true ≡ isSome (noted (st .waiting .notes) x j)
     was-noted t w = ap (λ (y : Option ℕ). isSome y) (sym (ap said w) ∙ notes-read (λ xs. noted xs x j) (said p) at end e f q)
 
-  pub log-read : {A : Type 0} (op : List Entry → A) (r : A) (at end : ℕ) → at ≡ startOf sh 3 → end ≡ startOf sh 4 → r ≡ op (tableAt (sh .c) (take (end - at) (drop at b)) 0) → r ≡ op (st .logged .log)
+  pub log-read : {A : Type 0} (op : List Entry → A) (r : A) (at end : ℕ) → at ≡ startOf sh atLog → end ≡ startOf sh atEarly → r ≡ op (tableAt (sh .c) (take (end - at) (drop at b)) 0) → r ≡ op (st .logged .log)
   log-read op r at end e f q = q ∙ ap op (decoded (sh .c) (st .logged .log) _ (log-here at end e f))
 
-  pub log-among : (x : Entry) (r : Bool) (at end : ℕ) → at ≡ startOf sh 3 → end ≡ startOf sh 4 → r ≡ among (tableAt (sh .c) (take (end - at) (drop at b)) 0) x → r ≡ among (st .logged .log) x
+  pub log-among : (x : Entry) (r : Bool) (at end : ℕ) → at ≡ startOf sh atLog → end ≡ startOf sh atEarly → r ≡ among (tableAt (sh .c) (take (end - at) (drop at b)) 0) x → r ≡ among (st .logged .log) x
   log-among x = log-read (λ es. among es x)
 
-  pub early-among : (x : Entry) (r : Bool) (at end : ℕ) → at ≡ startOf sh 4 → end ≡ startOf sh 5 → r ≡ among (tableAt (sh .c) (take (end - at) (drop at b)) 0) x → r ≡ among (st .waiting .early) x
+  pub early-among : (x : Entry) (r : Bool) (at end : ℕ) → at ≡ startOf sh atEarly → end ≡ startOf sh atLate → r ≡ among (tableAt (sh .c) (take (end - at) (drop at b)) 0) x → r ≡ among (st .waiting .early) x
   early-among x r at end e f q = q ∙ ap (λ (es : List Entry). among es x) (decoded (sh .c) (st .waiting .early) _ (early-here at end e f))
 
-  pub late-among : (x : Entry) (r : Bool) (at end : ℕ) → at ≡ startOf sh 5 → end ≡ startOf sh 6 → r ≡ among (tableAt (sh .c) (take (end - at) (drop at b)) 0) x → r ≡ among (st .waiting .late) x
+  pub late-among : (x : Entry) (r : Bool) (at end : ℕ) → at ≡ startOf sh atLate → end ≡ startOf sh atNotes → r ≡ among (tableAt (sh .c) (take (end - at) (drop at b)) 0) x → r ≡ among (st .waiting .late) x
   late-among x r at end e f q = q ∙ ap (λ (es : List Entry). among es x) (decoded (sh .c) (st .waiting .late) _ (late-here at end e f))
 
   -- ---- and come home
-  pub early-comes : {b′ x : List ℕ} (at end : ℕ) (es : List Entry) → Holds (sh .c) es x → at ≡ startOf sh 4 → end ≡ startOf sh 5 → b′ ≡ take at b ++ (x ++ drop (end - at) (drop at b)) → Midway sh (withEarly st es) b′
+  pub early-comes : {b′ x : List ℕ} (at end : ℕ) (es : List Entry) → Holds (sh .c) es x → at ≡ startOf sh atEarly → end ≡ startOf sh atLate → b′ ≡ take at b ++ (x ++ drop (end - at) (drop at b)) → Midway sh (withEarly st es) b′
   early-comes at end es h e f w =
       let l = early-home (m .laid) at (end - at) es h e (omega arith) w in
       record { fits = m .fits; holds = fits-buffered es (st .waiting .late) (st .waiting .notes) (m .holds) (holds-fits h) (m .holds .late) (m .holds .notes); laid = l; size = l .size }
 
-  pub late-comes : {b′ x : List ℕ} (at end : ℕ) (es : List Entry) → Holds (sh .c) es x → at ≡ startOf sh 5 → end ≡ startOf sh 6 → b′ ≡ take at b ++ (x ++ drop (end - at) (drop at b)) → Midway sh (withLate st es) b′
+  pub late-comes : {b′ x : List ℕ} (at end : ℕ) (es : List Entry) → Holds (sh .c) es x → at ≡ startOf sh atLate → end ≡ startOf sh atNotes → b′ ≡ take at b ++ (x ++ drop (end - at) (drop at b)) → Midway sh (withLate st es) b′
   late-comes at end es h e f w =
       let l = late-home (m .laid) at (end - at) es h e (omega arith) w in
       record { fits = m .fits; holds = fits-buffered (st .waiting .early) es (st .waiting .notes) (m .holds) (m .holds .early) (holds-fits h) (m .holds .notes); laid = l; size = l .size }
 
-  pub notes-come : {b′ x : List ℕ} (at end : ℕ) (xs : List Note) → NotesHold (sh .c) (sh .s) xs x → at ≡ startOf sh 6 → end ≡ startOf sh 7 → b′ ≡ take at b ++ (x ++ drop (end - at) (drop at b)) → Midway sh (withNotes st xs) b′
+  pub notes-come : {b′ x : List ℕ} (at end : ℕ) (xs : List Note) → NotesHold (sh .c) (sh .s) xs x → at ≡ startOf sh atNotes → end ≡ startOf sh atVotes → b′ ≡ take at b ++ (x ++ drop (end - at) (drop at b)) → Midway sh (withNotes st xs) b′
   notes-come at end xs h e f w =
       let l = notes-home (m .laid) at (end - at) xs h e (omega arith) w in
       record { fits = m .fits; holds = fits-buffered (st .waiting .early) (st .waiting .late) xs (m .holds) (m .holds .early) (m .holds .late) (notes-fit sh h); laid = l; size = l .size }
 
   -- ---- the early entries where they stand
-  module _ (at : ℕ) (e : at ≡ startOf sh 4) where
+  module _ (at : ℕ) (e : at ≡ startOf sh atEarly) where
     abbrev after : List ℕ
     after = zeroBytes (24 * (sh .c - length (st .waiting .early))) ++ concat (drop 5 (sections sh st))
 

@@ -16,7 +16,7 @@ use Rattle.rules.specs.Entry.{noEntry, entryOf}
 use Rattle.rules.specs.Kind.{bare, numbersIn, rowOf}
 use Rattle.rules.specs.Wire.{entryBytes, wireBytes, headerIn, numbersOf}
 use Rattle.rules.specs.Read.{lengthFor}
-use Rattle.rules.specs.Image.{stateOf}
+use Rattle.rules.specs.Image.{stateOf, atEarly, atGVec, atLog}
 use Rattle.rules.specs.Digest.{digest}
 use Rattle.rules.specs.Step.{send, sendOut, sendLeader, sendFollowers, unplacedReply}
 use Rattle.rules.specs.Early.{dueOf}
@@ -75,7 +75,7 @@ module _ {sh : Shape} {b : List ℕ} (m : Midway sh b) where
       (w .0 ∙ ap (λ (n : ℕ). at + n) l, w .1 ∙ ap (splice out at) q)
 
   -- ---- an entry that is placed
-  module _ (from end n : ℕ) (hf : from ≡ startOf sh 3 + (4 + 24 * n)) (he : end ≡ from + 24) (hn : n < length (stateOf sh b .logged .log)) where
+  module _ (from end n : ℕ) (hf : from ≡ startOf sh atLog + (4 + 24 * n)) (he : end ≡ from + 24) (hn : n < length (stateOf sh b .logged .log)) where
     placed-bytes : take (end - from) (drop from b) ≡ entryBytes (entryOf (stateOf sh b .logged .log) n)
     placed-bytes = log-entry (m .laid) (m .state .log .room) from end n hf he hn
 
@@ -92,7 +92,7 @@ module _ {sh : Shape} {b : List ℕ} (m : Midway sh b) where
         said out out′ (take (end - from) (drop from b)) at r 5 255 1 (FastReply h 1 (n + 1) sum) (1 ∷ (n + 1) ∷ sum ∷ []) (e ∷ []) hh refl (placed-bytes ∙ one-flat e) (all-at EntryFits noEntry (stateOf sh b .logged .log) (m .state .log .each) n hn, tt) refl refl w
 
   -- ---- one that is not
-  module _ (from end i time : ℕ) (hf : from ≡ startOf sh 4 + (4 + 24 * i)) (he : end ≡ from + 24) (hi : i < length (stateOf sh b .waiting .early)) where
+  module _ (from end i time : ℕ) (hf : from ≡ startOf sh atEarly + (4 + 24 * i)) (he : end ≡ from + 24) (hi : i < length (stateOf sh b .waiting .early)) where
     unplaced-bytes : take (end - from) (drop from b) ≡ entryBytes (entryOf (stateOf sh b .waiting .early) i)
     unplaced-bytes = early-entry (m .laid) (m .state .early .room) from end i hf he hi
 
@@ -110,7 +110,7 @@ module _ {sh : Shape} {b : List ℕ} (m : Midway sh b) where
         (omega (arith, s .0), s .1 ∙ rw (hs, hd))
 
   -- ---- the log, to all followers
-  module _ (from end : ℕ) (hf : from ≡ startOf sh 3 + 4) (he : end ≡ from + 24 * length (stateOf sh b .logged .log)) where
+  module _ (from end : ℕ) (hf : from ≡ startOf sh atLog + 4) (he : end ≡ from + 24 * length (stateOf sh b .logged .log)) where
     whole-bytes : take (end - from) (drop from b) ≡ flat entryBytes (stateOf sh b .logged .log)
     whole-bytes = log-rest (m .laid) (m .state .log .room) 0 (length (stateOf sh b .logged .log)) from (end - from) (omega arith) (omega arith) (omega arith)
 
@@ -137,14 +137,14 @@ module _ {sh : Shape} {b : List ℕ} (m : Midway sh b) where
       → Sized sh b × (24 * (length (take (0 - 0) (drop 0 b)) / 24) ≡ length (take (0 - 0) (drop 0 b))) × (length (take (0 - 0) (drop 0 b)) ≤ 98304) × (at + (24 + 4 * sh .s + 8 * 1 + length (take (0 - 0) (drop 0 b))) ≤ L)
   status-room at L h = room at 1 0 L (take (0 - 0) (drop 0 b)) refl (omega arith) (omega (arith, status-long (sh .s)))
 
-  pub status-told : (out out′ : List ℕ) (at r g own view t sync : ℕ) (h : Header) → g ≡ num b 0 1 → own ≡ num b 0 1 → view ≡ num b (startOf sh 1 + 4 * own) 4 → t ≡ only (view % sh .n) → sync ≡ num b 24 8 → h ≡ headedIn b 10 g t
+  pub status-told : (out out′ : List ℕ) (at r g own view t sync : ℕ) (h : Header) → g ≡ num b 0 1 → own ≡ num b 0 1 → view ≡ num b (startOf sh atGVec + 4 * own) 4 → t ≡ only (view % sh .n) → sync ≡ num b 24 8 → h ≡ headedIn b 10 g t
       → (r ≡ at + length (messageBytes sh b (SyncStatus h sync) (take (0 - 0) (drop 0 b)))) × (out′ ≡ splice out at (messageBytes sh b (SyncStatus h sync) (take (0 - 0) (drop 0 b))))
       → (r ≡ at + lengthFor (sh .s) 10 0) × (out′ ≡ splice out at (wireBytes (sendLeader sh (stateOf sh b) 10 (stateOf sh b .site .group) (stateOf sh b .logged .sync ∷ []) [])))
   unfolding pick flat rowOf
   status-told out out′ at r g own view t sync h hg ho hv ht hs hh w =
       let st = stateOf sh b in
       let a : own ≡ st .site .group = ho ∙ own-group (m .laid) (sender (m .state)) in
-      let v : view ≡ getD (st .view .gVec) (st .site .group) 0 = hv ∙ ap (λ (j : ℕ). num b (startOf sh 1 + 4 * j) 4) a ∙ view-in (m .laid) (sender (m .state)) (st .site .group) (m .group) in
+      let v : view ≡ getD (st .view .gVec) (st .site .group) 0 = hv ∙ ap (λ (j : ℕ). num b (startOf sh atGVec + 4 * j) 4) a ∙ view-in (m .laid) (sender (m .state)) (st .site .group) (m .group) in
       let y : headedIn b 10 g t ≡ headedIn b 10 (st .site .group) (only (getD (st .view .gVec) (st .site .group) 0 % sh .n)) = rw (hg ∙ own-group (m .laid) (sender (m .state)), ht ∙ ap (λ (x : ℕ). only (x % sh .n)) v) in
       let n : sync ≡ st .logged .sync = hs ∙ sync-in in
       said out out′ (take (0 - 0) (drop 0 b)) at r 10 (st .site .group) (only (getD (st .view .gVec) (st .site .group) 0 % sh .n)) (SyncStatus h sync) (st .logged .sync ∷ []) [] (hh ∙ y) (ap (λ (x : ℕ). x ∷ []) n) refl tt refl refl w

@@ -2,6 +2,8 @@
 use rules::Answer;
 use rules::Message;
 use rules::Shape;
+use rules::kind;
+use rules::refusal;
 ghost use mathlib.Core.Path.{_≡_};
 ghost use mathlib.Core.List.{[], _∷_};
 ghost use Prim.Native.Nat.{_+_, _-_, _*_, _<_, _≤_, min};
@@ -30,7 +32,12 @@ fn tell_placed(shape: Shape, state: &[u8], out: &mut [u8], at: usize, n: usize, 
 {
     let from = releases::log_place(shape, n);
     let end = from + 24;
-    let m = Message::FastReply(handler::headed(state, 5, 255, 1), 1, (n + 1) as u64, sum);
+    let m = Message::FastReply(
+        handler::headed(state, kind::FAST_REPLY, rules::OUTSIDE, 1),
+        1,
+        (n + 1) as u64,
+        sum,
+    );
     handler::tell(shape, state, out, at, m, &state[from..end])
 }
 
@@ -42,7 +49,12 @@ fn tell_unplaced(shape: Shape, state: &[u8], out: &mut [u8], time: u64) -> usize
     let from = releases::early_place(shape, releases::first_due(shape, state, time));
     let end = from + 24;
     let sum = releases::log_digest(shape, state);
-    let m = Message::FastReply(handler::headed(state, 5, 255, 1), 0, 0, sum);
+    let m = Message::FastReply(
+        handler::headed(state, kind::FAST_REPLY, rules::OUTSIDE, 1),
+        0,
+        0,
+        sum,
+    );
     handler::tell(shape, state, out, 0, m, &state[from..end])
 }
 
@@ -54,7 +66,12 @@ fn tell_log(shape: Shape, state: &[u8], out: &mut [u8], at: usize) -> usize
     let from = places::places_of(shape).log + 4;
     let end = from + 24 * releases::log_length(shape, state);
     let others = group::others(shape.n, places::get_replica(state));
-    let m = Message::ReplicaSync(handler::headed(state, 4, octets::get8(state, 0), others));
+    let m = Message::ReplicaSync(handler::headed(
+        state,
+        kind::REPLICA_SYNC,
+        octets::get8(state, 0),
+        others,
+    ));
     handler::tell(shape, state, out, at, m, &state[from..end])
 }
 
@@ -65,7 +82,7 @@ fn tell_status(shape: Shape, state: &[u8], out: &mut [u8], at: usize) -> usize
 {
     let view = places::view_at(shape, state, places::get_group(state));
     let leader = group::only(view as u64 % shape.n);
-    let header = handler::headed(state, 10, octets::get8(state, 0), leader);
+    let header = handler::headed(state, kind::SYNC_STATUS, octets::get8(state, 0), leader);
     let m = Message::SyncStatus(header, places::get_sync(state));
     handler::tell(shape, state, out, at, m, &state[0..0])
 }
@@ -108,7 +125,7 @@ fn replies_length(s: u64, k: usize) -> usize
     requires { ⌜ (s ≤ 8) × (k ≤ 4096) ⌝ }
     ensures { λ r. ⌜ (r ≡ lengthFor s 5 1 * k) × (r ≤ 425984) ⌝ }
 {
-    kinds::length_for(s, 5, 1) * k
+    kinds::length_for(s, kind::FAST_REPLY, 1) * k
 }
 
 // Puts the clock and the sync point.
@@ -138,8 +155,8 @@ fn leader_waits(
         settle(shape, state, time, n as u64);
         return Answer::Done(0);
     }
-    if out.len() < kinds::length_for(shape.s, 5, 1) {
-        return Answer::Refused(9);
+    if out.len() < kinds::length_for(shape.s, kind::FAST_REPLY, 1) {
+        return Answer::Refused(refusal::NO_ROOM);
     }
     let end = tell_unplaced(shape, state, out, time);
     settle(shape, state, time, n as u64);
@@ -158,11 +175,13 @@ fn leader_releases(shape: Shape, state: &mut [u8], out: &mut [u8], time: u64) ->
         return leader_waits(shape, state, out, time, n, due);
     }
     if shape.c as usize <= n {
-        return Answer::Refused(8);
+        return Answer::Refused(refusal::FULL);
     }
     let k = fitting(shape.c as usize, n, run);
-    if out.len() < replies_length(shape.s, k) + kinds::length_for(shape.s, 4, n + k) {
-        return Answer::Refused(9);
+    if out.len()
+        < replies_length(shape.s, k) + kinds::length_for(shape.s, kind::REPLICA_SYNC, n + k)
+    {
+        return Answer::Refused(refusal::NO_ROOM);
     }
     let at = release(shape, state, out, time, n, k);
     let end = tell_log(shape, state, out, at);
@@ -178,11 +197,11 @@ fn follower_releases(shape: Shape, state: &mut [u8], out: &mut [u8], time: u64) 
     let n = releases::log_length(shape, state);
     let due = releases::due_count(shape, state, time);
     if (shape.c as usize <= n) & (due != 0) {
-        return Answer::Refused(8);
+        return Answer::Refused(refusal::FULL);
     }
     let k = fitting(shape.c as usize, n, due);
-    if out.len() < replies_length(shape.s, k) + kinds::length_for(shape.s, 10, 0) {
-        return Answer::Refused(9);
+    if out.len() < replies_length(shape.s, k) + kinds::length_for(shape.s, kind::SYNC_STATUS, 0) {
+        return Answer::Refused(refusal::NO_ROOM);
     }
     let at = release(shape, state, out, time, n, k);
     let end = tell_status(shape, state, out, at);
@@ -197,10 +216,10 @@ pub fn on_tick(shape: Shape, state: &mut [u8], m: Message, message: &[u8], out: 
     ensures { λ r. ⌜ left r (now (state .exit)) (now (out .exit)) ≡ handled 23 onTick shape m (now (state .entry)) (now (message .entry)) (now (out .entry)) ⌝ }
 {
     let Message::Tick(_, time) = m else {
-        return Answer::Refused(2);
+        return Answer::Refused(refusal::MALFORMED);
     };
     if time < places::get_clock(state) {
-        return Answer::Refused(7);
+        return Answer::Refused(refusal::NOTHING_TO_DO);
     }
     if handler::leads(shape, state) {
         return leader_releases(shape, state, out, time);

@@ -18,7 +18,7 @@ use Rattle.rules.specs.Entry.{ordered}
 use Rattle.rules.specs.Wire.{entryBytes}
 use Rattle.rules.specs.Read.{entryAt}
 use Rattle.rules.specs.State.{State}
-use Rattle.rules.specs.Image.{zeroBytes, tableLength, tableBytes, tableAt}
+use Rattle.rules.specs.Image.{zeroBytes, tableLength, tableBytes, tableAt, atDraft, atLog}
 use Rattle.rules.specs.Step.{source, asked}
 use Rattle.rules.specs.declared.Entry.{Entry}
 use Rattle.rules.specs.declared.Shape.{Shape}
@@ -60,7 +60,7 @@ module _ {sh : Shape} {st : State} {b : List ℕ} (s : Stands sh st b) where
   pub source-fits : TableFits (sh .c) (source st)
   source-fits = by-test (TableFits (sh .c)) (eqb (st .view .status) 3) (λ t. stands-fits s .draft) (λ f. stands-fits s .log)
 
-  module _ (d n l k : ℕ) (hd : d ≡ startOf sh 8) (hn : n ≡ tableLength (sh .c)) (hl : l ≡ startOf sh 3) (hk : k ≡ tableLength (sh .c)) where
+  module _ (d n l k : ℕ) (hd : d ≡ startOf sh atDraft) (hn : n ≡ tableLength (sh .c)) (hl : l ≡ startOf sh atLog) (hk : k ≡ tableLength (sh .c)) where
     pub draft-held : Holds (sh .c) (st .change .draft) (take n (drop d b))
     draft-held = draft-lent (stands-laid s) d n (s .fits) (stands-fits s .draft) hd hn
 

@@ -6,7 +6,7 @@ use lib.ListN.{drop, replicate}
 use Rattle.octets.specs.Bytes.{le, num, part, splice, items}
 use Rattle.octets.specs.Sections.{total}
 use Rattle.rules.specs.State.{withWaiting, withChange, noneWait, State}
-use Rattle.rules.specs.Image.{lengths}
+use Rattle.rules.specs.Image.{lengths, atGVec}
 use Rattle.rules.specs.declared.Shape.{Shape}
 use Rattle.places.specs.Layout.{startOf}
 
@@ -26,7 +26,7 @@ tablesLength sh = total (drop 4 (lengths sh))
 
 -- the gView and the gVec of a message written
 abbrev pub takenIn : Shape → List ℕ → ℕ → List ℕ → List ℕ
-takenIn sh b view msg = splice (splice b 8 (le 4 view)) (startOf sh 1) (part msg 16 (4 * sh .s))
+takenIn sh b view msg = splice (splice b 8 (le 4 view)) (startOf sh atGVec) (part msg 16 (4 * sh .s))
 
 -- the numbers of a view that starts with a log of this length written
 abbrev pub begunIn : List ℕ → ℕ → ℕ → List ℕ

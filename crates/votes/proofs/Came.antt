@@ -14,7 +14,7 @@ use Rattle.rules.specs.Kind.{rowOf}
 use Rattle.rules.specs.Choice.{pick}
 use Rattle.rules.specs.Read.{entryAt}
 use Rattle.rules.specs.State.{Vote, State}
-use Rattle.rules.specs.Image.{voteLength, tableBytes, voteBytes, tableAt, image, stateOf}
+use Rattle.rules.specs.Image.{voteLength, tableBytes, voteBytes, tableAt, image, stateOf, atDraft, atVotes}
 use Rattle.rules.specs.Step.{ownVote, started}
 use Rattle.rules.specs.declared.Entry.{Entry}
 use Rattle.rules.specs.declared.Shape.{Shape}
@@ -120,11 +120,11 @@ module _ (sh : Shape) (b msg : List ℕ) (view : ℕ) (k : Cast) (g : Brought sh
     -- ---- the vote kept
 
     pub kept : (b₁ b₂ : List ℕ) (at number normal : ℕ) → b₁ ≡ image sh (cameTo sh b msg view (k .entering)) → at ≡ k .at → number ≡ num msg at 4 → normal ≡ k .normal
-        → b₂ ≡ splice b₁ (startOf sh 7 + voteLength (sh .c) * k .sender) (voteBytes (sh .c) (some (record { normal = normal; sync = k .sync; log = items (entryAt msg) 24 (at + 4) number }))) → Laid sh (keptIn sh b msg view k) b₂
+        → b₂ ≡ splice b₁ (startOf sh atVotes + voteLength (sh .c) * k .sender) (voteBytes (sh .c) (some (record { normal = normal; sync = k .sync; log = items (entryAt msg) 24 (at + 4) number }))) → Laid sh (keptIn sh b msg view k) b₂
     kept b₁ b₂ at number normal i a n m w =
         let q = comes in
         let r : length (sentLog msg (k .at)) ≤ sh .c = omega (arith, g .given .room, length-items (entryAt msg) 24 (k .at + 4) (num msg (k .at) 4)) in
-        let w′ : b₂ ≡ splice b₁ (startOf sh 7 + voteLength (sh .c) * k .sender) (voteBytes (sh .c) (some (said msg k))) = w ∙ rw (n, a, m) in
+        let w′ : b₂ ≡ splice b₁ (startOf sh atVotes + voteLength (sh .c) * k .sender) (voteBytes (sh .c) (some (said msg k))) = w ∙ rw (n, a, m) in
         subst (λ (vs : List (Option Vote)). Laid sh (withVotes (cameTo sh b msg view (k .entering)) vs) b₂) (q .votes)
         (put-vote (q .laid b₁ i) (k .sender) (said msg k) (q .even) r (g .given .sent .sender) w′)
 
@@ -141,7 +141,7 @@ module _ (sh : Shape) (b msg : List ℕ) (view : ℕ) (entering : Bool) where
 
 -- ---- the draft
 
-pub draft-taken : (sh : Shape) (b b₁ b₂ b₃ t : List ℕ) (draft number boundary : ℕ) → Table (sh .c) t → draft ≡ startOf sh 8 → number ≡ num t 0 4 → b₁ ≡ splice b draft (tableBytes (sh .c) (items (entryAt t) 24 4 number)) → b₂ ≡ splice b₁ 40 (le 8 boundary) → b₃ ≡ splice b₂ 2 (le 1 3) → b₃ ≡ draftedIn sh b (tableAt (sh .c) t 0) boundary
+pub draft-taken : (sh : Shape) (b b₁ b₂ b₃ t : List ℕ) (draft number boundary : ℕ) → Table (sh .c) t → draft ≡ startOf sh atDraft → number ≡ num t 0 4 → b₁ ≡ splice b draft (tableBytes (sh .c) (items (entryAt t) 24 4 number)) → b₂ ≡ splice b₁ 40 (le 8 boundary) → b₃ ≡ splice b₂ 2 (le 1 3) → b₃ ≡ draftedIn sh b (tableAt (sh .c) t 0) boundary
 draft-taken sh b b₁ b₂ b₃ t draft number boundary h d n w₁ w₂ w₃ = rw (w₃, w₂, w₁, d, table-row (sh .c) t number h n)
 
 module _ {sh : Shape} {st : State} {b : List ℕ} (l : Laid sh st b) where

@@ -9,7 +9,7 @@ use lib.Dec.{eqb}
 use Rattle.octets.specs.Bytes.{le, splice}
 use Rattle.rules.specs.Choice.{pick, isSome}
 use Rattle.rules.specs.State.{Vote, State, held}
-use Rattle.rules.specs.Image.{tableBytes, stateOf}
+use Rattle.rules.specs.Image.{tableBytes, stateOf, atDraft}
 use Rattle.rules.specs.Rebuild.{rebuilt}
 use Rattle.rules.specs.Step.{Outcome, done, sends, sendLeader, otherGroups, starts, changing, verifies}
 use Rattle.rules.specs.declared.Entry.{Entry}
@@ -48,7 +48,7 @@ keptIn sh b msg view k = withVotes (cameTo sh b msg view (k .entering)) (votesIn
 
 -- a draft, its boundary and status 3 written
 abbrev pub draftedIn : Shape → List ℕ → List Entry → ℕ → List ℕ
-draftedIn sh b draft boundary = splice (splice (splice b (startOf sh 8) (tableBytes (sh .c) draft)) 40 (le 8 boundary)) 2 (le 1 3)
+draftedIn sh b draft boundary = splice (splice (splice b (startOf sh atDraft) (tableBytes (sh .c) draft)) 40 (le 8 boundary)) 2 (le 1 3)
 
 -- with a draft at hand, the leaders of all other groups are asked
 abbrev pub asksAll : Shape → State → List (Option Vote) → List Entry → ℕ → Outcome

@@ -7,7 +7,8 @@ use Rattle.rules.specs.Kind.{rowOf}
 use Rattle.rules.specs.Step.{onNote}
 use Rattle.handler.proofs.Closes.{handled-other}
 use Rattle.handler.proofs.OtherKind.{not-tag}
-use Rattle.stamps.proofs.Midway.{stands-midway, early-once}
+use Rattle.handler.proofs.Own.{early-once}
+use Rattle.stamps.proofs.Midway.{stands-midway}
 use Rattle.arrivals.proofs.NoteWays.{from-below, in-log-way, noted-way, full-way, kept-way, room-below}
 
 enum-known-m : tie.Need-enum-known-m

@@ -68,4 +68,3 @@ returns-4 c = (c .before .before .before .before .follower-takes .ensures) ∙ f
 
 pub on-transaction-spec : {M : Type 1} → statement M
 on-transaction-spec = tie.close (tie.spec enum-known-m returns first-entry-requires known-requires same-length returns-2 add-stamped stamped-requires leads-requires raised-requires leader-takes-requires same-length-2 same-length-3 returns-3 follower-takes-requires same-length-4 same-length-5 returns-4)
-

@@ -10,7 +10,8 @@ use Rattle.rules.specs.Image.{stateOf}
 use Rattle.notes.specs.Notes.{row}
 use Rattle.places.proofs.Head.{group-of}
 use Rattle.handler.proofs.Own.{own-below}
-use Rattle.stamps.proofs.Midway.{stands-midway, early-once, midway-here, added-once, added-row}
+use Rattle.handler.proofs.Own.{early-once}
+use Rattle.stamps.proofs.Midway.{stands-midway, midway-here, added-once, added-row}
 use Rattle.arrivals.proofs.TakeWays.{taken-is}
 
 get-group-requires : tie.Need-get-group-requires

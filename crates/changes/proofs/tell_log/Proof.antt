@@ -8,6 +8,7 @@ use Rattle.changes.proofs.Logged.{log-lent}
 use borrow.Author.Needs.{needs}
 use Rattle.changes.proofs.tell_log.Statement.{statement}
 use Rattle.changes.proofs.tell_log.Tie as tie
+use Rattle.rules.specs.Image.{atLog}
 
 places-of-requires : tie.Need-places-of-requires
 places-of-requires c κs = search needs
@@ -44,7 +45,7 @@ returns c =
     let a = (c .before .before .before .before .before .before .before .before .before .before .args) in
     let p = (c .before .before .before .before .before .before .before .places-of) in
     let k = (c .before .before .before .before .before .log-count) in
-    let q : p .result .log + 4 ≡ startOf (a .shape) 3 + 4 = omega (arith, p .ensures .log) in
+    let q : p .result .log + 4 ≡ startOf (a .shape) atLog + 4 = omega (arith, p .ensures .log) in
     let e = log-lent (a .shape) (a .state .now) (p .result .log + 4) (k .result) (p .result .log + 4 + 24 * k .result) q (k .ensures) refl in
     rw (e, zero-add) at (c .before .before .tell .ensures)
 

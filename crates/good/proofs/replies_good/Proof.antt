@@ -5,14 +5,14 @@ use mathlib.Core.Path.{_≡_}
 use native.Mathlib.Omega.{arith}
 use Rattle.rules.specs.Choice.{every, passes, below}
 use Rattle.rules.specs.State.{replyGood}
-use Rattle.rules.specs.Image.{replyLength, replyAt, stateOf}
+use Rattle.rules.specs.Image.{replyLength, replyAt, stateOf, atReplies}
 use Rattle.places.specs.Layout.{startOf}
 use Rattle.good.proofs.Tables.{below-none, below-next, below-end}
 use Rattle.good.proofs.replies_good.Statement.{statement}
 use Rattle.good.proofs.replies_good.Tie as tie
 
 abbrev Inv-loop : tie.InvT-loop
-Inv-loop shape state fine₀ j₀ fine j = (j ≤ shape .s) × (fine ≡ every (λ j. passes (replyGood shape (stateOf shape state) j) (replyAt (shape .c) state (startOf shape 9 + replyLength (shape .c) * j))) (below j))
+Inv-loop shape state fine₀ j₀ fine j = (j ≤ shape .s) × (fine ≡ every (λ j. passes (replyGood shape (stateOf shape state) j) (replyAt (shape .c) state (startOf shape atReplies + replyLength (shape .c) * j))) (below j))
 
 abbrev μ-loop : tie.MeasureT-loop
 μ-loop shape state fine₀ j₀ fine j = shape .s - j

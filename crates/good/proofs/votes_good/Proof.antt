@@ -6,14 +6,14 @@ use native.Mathlib.Omega.{arith}
 use Rattle.octets.specs.Bytes.{items}
 use Rattle.rules.specs.Choice.{every, passes}
 use Rattle.rules.specs.State.{voteGood}
-use Rattle.rules.specs.Image.{voteLength, voteAt, stateOf}
+use Rattle.rules.specs.Image.{voteLength, voteAt, stateOf, atVotes}
 use Rattle.places.specs.Layout.{startOf}
 use Rattle.good.proofs.Tables.{row-none, row-next, row-end}
 use Rattle.good.proofs.votes_good.Statement.{statement}
 use Rattle.good.proofs.votes_good.Tie as tie
 
 abbrev Inv-loop : tie.InvT-loop
-Inv-loop shape state fine₀ r₀ fine r = (r ≤ shape .n) × (fine ≡ every (passes (voteGood shape (stateOf shape state))) (items (voteAt (shape .c) state) (voteLength (shape .c)) (startOf shape 7) r))
+Inv-loop shape state fine₀ r₀ fine r = (r ≤ shape .n) × (fine ≡ every (passes (voteGood shape (stateOf shape state))) (items (voteAt (shape .c) state) (voteLength (shape .c)) (startOf shape atVotes) r))
 
 abbrev μ-loop : tie.MeasureT-loop
 μ-loop shape state fine₀ r₀ fine r = shape .n - r
