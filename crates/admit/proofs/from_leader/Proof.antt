@@ -1,4 +1,5 @@
 -- `admit::from_leader` meets its contract. Assumes nothing.
+-- Made by tools/answers from the file `answers` beside it: change that one.
 use Rattle.admit.proofs.Ways.{sender-below, from-leader-is}
 use borrow.Author.Needs.{needs}
 use Rattle.admit.proofs.from_leader.Statement.{statement}

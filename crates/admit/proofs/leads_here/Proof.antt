@@ -1,4 +1,5 @@
 -- `admit::leads_here` meets its contract. Assumes nothing.
+-- Made by tools/answers from the file `answers` beside it: change that one.
 use Rattle.admit.proofs.Ways.{own-role, leads-is}
 use borrow.Author.Needs.{needs}
 use Rattle.admit.proofs.leads_here.Statement.{statement}
@@ -17,5 +18,4 @@ returns : tie.Need-returns
 returns c = search leads-is
 
 pub leads-here-spec : {M : Type 1} → statement M
-leads-here-spec =
-    tie.close (tie.spec get-group-requires get-replica-requires leads-in-requires returns)
+leads-here-spec = tie.close (tie.spec get-group-requires get-replica-requires leads-in-requires returns)

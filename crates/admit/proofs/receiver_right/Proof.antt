@@ -1,4 +1,5 @@
 -- `admit::receiver_right` meets its contract: one law for each way through it. Assumes nothing.
+-- Made by tools/answers from the file `answers` beside it: change that one.
 use Rattle.admit.proofs.Ways.{to-leader, to-follower, to-anyone, to-outsiders}
 use Rattle.admit.proofs.Cells.{leader-viewed, follower-viewed}
 use borrow.Author.Needs.{needs}

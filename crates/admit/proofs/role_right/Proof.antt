@@ -1,4 +1,5 @@
 -- `admit::role_right` meets its contract. Assumes nothing.
+-- Made by tools/answers from the file `answers` beside it: change that one.
 use Rattle.admit.proofs.Ways.{roles-are}
 use borrow.Author.Needs.{needs}
 use Rattle.admit.proofs.role_right.Statement.{statement}

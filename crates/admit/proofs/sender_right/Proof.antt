@@ -1,4 +1,5 @@
 -- `admit::sender_right` meets its contract: one law for each way through it. Assumes nothing.
+-- Made by tools/answers from the file `answers` beside it: change that one.
 use Rattle.admit.proofs.Ways.{by-outsider, by-leader, by-member, by-other, by-any}
 use Rattle.admit.proofs.Cells.{leader-inside, other-inside}
 use borrow.Author.Needs.{needs}

@@ -1,4 +1,5 @@
 -- `admit::status_right` meets its contract: one law for each way through it. Assumes nothing.
+-- Made by tools/answers from the file `answers` beside it: change that one.
 use Rattle.admit.proofs.Ways.{status-if-equal, status-always}
 use borrow.Author.Needs.{needs}
 use Rattle.admit.proofs.status_right.Statement.{statement}

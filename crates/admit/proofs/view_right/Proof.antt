@@ -1,4 +1,5 @@
 -- `admit::view_right` meets its contract: one law for each way through it. Assumes nothing.
+-- Made by tools/answers from the file `answers` beside it: change that one.
 use Rattle.admit.proofs.Ways.{view-any, view-greater, view-either, view-equal}
 use Rattle.admit.proofs.Cells.{either-viewed, equal-viewed}
 use borrow.Author.Needs.{needs}

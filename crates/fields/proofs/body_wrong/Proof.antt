@@ -1,9 +1,10 @@
 -- `fields::body_wrong` meets its contract. Assumes nothing.
+-- Made by tools/answers from the file `answers` beside it: change that one.
+use Rattle.fields.specs.Parts.{fieldsOf}
+use Rattle.fields.proofs.Rows.{body-rows}
 use borrow.Author.Needs.{needs}
 use Rattle.fields.proofs.body_wrong.Statement.{statement}
 use Rattle.fields.proofs.body_wrong.Tie as tie
-use Rattle.fields.specs.Parts.{fieldsOf}
-use Rattle.fields.proofs.Rows.{body-rows}
 
 numbers-in-requires : tie.Need-numbers-in-requires
 numbers-in-requires c κs = search needs
@@ -60,7 +61,7 @@ field-requires-5 : tie.Need-field-requires-5
 field-requires-5 c κs = search needs
 
 returns : tie.Need-returns
-returns c = simp (body-rows (c .before .before .before .before .before .before .before .before .before .before .before .before .before .before .before .args .s) (fieldsOf (c .before .before .before .before .before .before .before .before .before .before .before .before .before .before .before .args .p)), (c .field5 .ensures), (c .before .field4 .ensures), (c .before .before .field3 .ensures), (c .before .before .before .field2 .ensures), (c .before .before .before .before .field .ensures), (c .before .before .before .before .before .before .before .first-fits .ensures), (c .before .before .before .before .before .before .second-fits .ensures), (c .before .before .before .before .before .entries-fit .ensures), (c .before .before .before .before .before .before .before .before .before .before .views-in .ensures .0), (c .before .before .before .before .before .before .before .before .before .before .before .entries-at .ensures .0), (c .before .before .before .before .before .before .before .before .before .before .before .before .numbers-at .ensures .0), (c .before .before .before .before .before .before .before .before .before .before .before .before .before .numbers-in .ensures .0))
+returns c = simp (body-rows (c .before .before .before .before .before .before .before .before .before .before .before .before .before .before .before .args .s) (fieldsOf (c .before .before .before .before .before .before .before .before .before .before .before .before .before .before .before .args .p)), c .field5 .ensures, c .before .field4 .ensures, c .before .before .field3 .ensures, c .before .before .before .field2 .ensures, c .before .before .before .before .field .ensures, c .before .before .before .before .before .before .before .first-fits .ensures, c .before .before .before .before .before .before .second-fits .ensures, c .before .before .before .before .before .entries-fit .ensures, c .before .before .before .before .before .before .before .before .before .before .views-in .ensures .0, c .before .before .before .before .before .before .before .before .before .before .before .entries-at .ensures .0, c .before .before .before .before .before .before .before .before .before .before .before .before .numbers-at .ensures .0, c .before .before .before .before .before .before .before .before .before .before .before .before .before .numbers-in .ensures .0)
 
 pub body-wrong-spec : {M : Type 1} → statement M
 body-wrong-spec =

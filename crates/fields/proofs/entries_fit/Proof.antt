@@ -1,4 +1,5 @@
 -- `fields::entries_fit` meets its contract. Assumes nothing.
+-- Made by tools/answers from the file `answers` beside it: change that one.
 use borrow.Author.Needs.{needs}
 use Rattle.fields.proofs.entries_fit.Statement.{statement}
 use Rattle.fields.proofs.entries_fit.Tie as tie
@@ -21,4 +22,9 @@ returns c = simp (c .either2 .ensures, c .before .either .ensures, c .before .be
 pub entries-fit-spec : {M : Type 1} → statement M
 entries-fit-spec =
     tie.close
-    (tie.spec with-one-requires with-log-requires either-requires either-requires-2 returns)
+    (tie.spec
+    with-one-requires
+    with-log-requires
+    either-requires
+    either-requires-2
+    returns)

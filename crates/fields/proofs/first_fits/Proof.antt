@@ -1,8 +1,9 @@
 -- `fields::first_fits` meets its contract. Assumes nothing.
+-- Made by tools/answers from the file `answers` beside it: change that one.
+use Rattle.fields.proofs.Rows.{all-three}
 use borrow.Author.Needs.{needs}
 use Rattle.fields.proofs.first_fits.Statement.{statement}
 use Rattle.fields.proofs.first_fits.Tie as tie
-use Rattle.fields.proofs.Rows.{all-three}
 
 cast-normal : tie.Need-cast-normal
 cast-normal c = search needs

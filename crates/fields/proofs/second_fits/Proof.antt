@@ -1,8 +1,9 @@
 -- `fields::second_fits` meets its contract. Assumes nothing.
+-- Made by tools/answers from the file `answers` beside it: change that one.
+use Rattle.fields.proofs.Rows.{all-two}
 use borrow.Author.Needs.{needs}
 use Rattle.fields.proofs.second_fits.Statement.{statement}
 use Rattle.fields.proofs.second_fits.Tie as tie
-use Rattle.fields.proofs.Rows.{all-two}
 
 sum-fits-requires : tie.Need-sum-fits-requires
 sum-fits-requires c κs = search needs

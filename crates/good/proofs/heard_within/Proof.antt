@@ -1,5 +1,5 @@
 -- `good::heard_within` meets its contract. The invariant: `formed` and `within` say so of the points passed. Assumes nothing.
-use borrow.Author.Needs.{needs}
+-- Made by tools/answers from the file `answers` beside it: change that one.
 use Prim.Native.Nat.{_-_, _≤_}
 use mathlib.Core.Path.{_≡_}
 use mathlib.Core.Bool.{_&&_, _||_, not}
@@ -11,6 +11,7 @@ use Rattle.rules.specs.Image.{pointAt, atHeard}
 use Rattle.places.specs.Layout.{startOf}
 use Rattle.good.proofs.Tables.{row-none}
 use Rattle.good.proofs.Heads.{heard-turn, pointsForm, form-none, form-turn, points-end}
+use borrow.Author.Needs.{needs}
 use Rattle.good.proofs.heard_within.Statement.{statement}
 use Rattle.good.proofs.heard_within.Tie as tie
 

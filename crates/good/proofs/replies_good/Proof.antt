@@ -1,5 +1,5 @@
 -- `good::replies_good` meets its contract. The invariant: `fine` says so of the replies passed. Assumes nothing.
-use borrow.Author.Needs.{needs}
+-- Made by tools/answers from the file `answers` beside it: change that one.
 use Prim.Native.Nat.{_+_, _-_, _*_, _≤_}
 use mathlib.Core.Path.{_≡_}
 use native.Mathlib.Omega.{arith}
@@ -8,6 +8,7 @@ use Rattle.rules.specs.State.{replyGood}
 use Rattle.rules.specs.Image.{replyLength, replyAt, stateOf, atReplies}
 use Rattle.places.specs.Layout.{startOf}
 use Rattle.good.proofs.Tables.{below-none, below-next, below-end}
+use borrow.Author.Needs.{needs}
 use Rattle.good.proofs.replies_good.Statement.{statement}
 use Rattle.good.proofs.replies_good.Tie as tie
 
@@ -38,4 +39,12 @@ returns c = below-end _ (c .before .before .loop .j) _ _ (c .before .before .loo
 pub replies-good-spec : {M : Type 1} → statement M
 replies-good-spec =
     tie.close
-    (tie.spec Inv-loop μ-loop loop-holds reply-good-requires add-j loop-less loop-again returns)
+    (tie.spec
+    Inv-loop
+    μ-loop
+    loop-holds
+    reply-good-requires
+    add-j
+    loop-less
+    loop-again
+    returns)

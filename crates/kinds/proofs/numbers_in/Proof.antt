@@ -1,4 +1,5 @@
 -- `kinds::numbers_in` meets its contract. Assumes nothing.
+-- Made by tools/answers from the file `answers` beside it: change that one.
 use Prim.Native.Nat.{_≤_, ℕ}
 use mathlib.Core.Path.{_≡_, ap}
 use Rattle.rules.specs.Kind.{numbersIn}
@@ -12,9 +13,7 @@ row-of-requires : tie.Need-row-of-requires
 row-of-requires c κs = search needs
 
 returns : tie.Need-returns
-returns c =
-    let e : c .row-of .result .numbers ≡ numbersIn (c .before .args .kind) = ap (λ (r : Row). r .numbers) (c .row-of .ensures) in
-    (e, rw e (few-numbers (c .before .args .kind)))
+returns c = let e : (c .row-of .result .numbers) ≡ numbersIn (c .before .args .kind) = ap (λ (r : Row). r .numbers) (c .row-of .ensures) in (e, rw e (few-numbers (c .before .args .kind)))
 
 pub numbers-in-spec : {M : Type 1} → statement M
 numbers-in-spec = tie.close (tie.spec row-of-requires returns)

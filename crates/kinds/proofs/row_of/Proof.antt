@@ -1,4 +1,5 @@
 -- `kinds::row_of` meets its contract, row by row. Assumes nothing.
+-- Made by tools/answers from the file `answers` beside it: change that one.
 use mathlib.Core.Path.{sym, ap, _∙_}
 use borrow.Author.Tests.{ne-eqb}
 use Rattle.rules.specs.Choice.{any}

@@ -1,4 +1,5 @@
 -- `kinds::to_outside` meets its contract. Assumes nothing.
+-- Made by tools/answers from the file `answers` beside it: change that one.
 use mathlib.Core.Path.{ap}
 use Rattle.kinds.specs.declared.Row.{Row}
 use Rattle.kinds.proofs.Readings.{to-outsiders, to-other}

@@ -1,5 +1,5 @@
 -- `logs::first_unfit` meets its contract. The invariant: every entry passed fits, and `last` is the timestamp of the last of them. Assumes nothing.
-use borrow.Author.Needs.{needs}
+-- Made by tools/answers from the file `answers` beside it: change that one.
 use Prim.Native.Nat.{_≤_, _-_}
 use mathlib.Core.Path.{_≡_}
 use native.Mathlib.Omega.{arith}
@@ -8,6 +8,7 @@ use Rattle.repeats.specs.Repeat.{firstTo}
 use Rattle.repeats.proofs.Laws.{first-start, first-pass, first-stop, first-end}
 use Rattle.logs.specs.Place.{rowAt, unfitAt}
 use Rattle.logs.proofs.Place.{unfit-row, stamp-start, stamp-next}
+use borrow.Author.Needs.{needs}
 use Rattle.logs.proofs.first_unfit.Statement.{statement}
 use Rattle.logs.proofs.first_unfit.Tie as tie
 

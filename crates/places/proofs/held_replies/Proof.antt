@@ -1,4 +1,5 @@
 -- `places::held_replies` meets its contract. Assumes nothing.
+-- Made by tools/answers from the file `answers` beside it: change that one.
 use mathlib.Core.Path.{_≡_, ap}
 use Prim.Native.Nat.{_+_, _*_}
 use native.Mathlib.Omega.{arith}
@@ -10,8 +11,8 @@ use borrow.Author.Needs.{needs}
 use Rattle.places.proofs.held_replies.Statement.{statement}
 use Rattle.places.proofs.held_replies.Tie as tie
 
-row-is : (s : tie.After-places-of) → s .places-of .result .replies + s .places-of .result .reply * s .before .before .args .shape .s ≡ startOf (s .before .before .args .shape) atReplies + replyLength (s .before .before .args .shape .c) * s .before .before .args .shape .s
-row-is s = ap (λ (p : Places). p .replies + p .reply * s .before .before .args .shape .s) (s .places-of .ensures .all)
+row-is : (s : tie.After-places-of) → (s .places-of .result .replies) + (s .places-of .result .reply) * (s .before .before .args .shape .s) ≡ startOf (s .before .before .args .shape) atReplies + replyLength (s .before .before .args .shape .c) * (s .before .before .args .shape .s)
+row-is s = ap (λ (p : Places). p .replies + p .reply * (s .before .before .args .shape .s)) (s .places-of .ensures .all)
 
 places-of-requires : tie.Need-places-of-requires
 places-of-requires c κs = search needs

@@ -1,9 +1,10 @@
 -- `stamps::may_follow` meets its contract. Assumes nothing.
+-- Made by tools/answers from the file `answers` beside it: change that one.
+use Rattle.rules.specs.Image.{stateOf}
+use Rattle.stamps.proofs.Stamps.{follows-is}
 use borrow.Author.Needs.{needs}
 use Rattle.stamps.proofs.may_follow.Statement.{statement}
 use Rattle.stamps.proofs.may_follow.Tie as tie
-use Rattle.rules.specs.Image.{stateOf}
-use Rattle.stamps.proofs.Stamps.{follows-is}
 
 last-stamp-requires : tie.Need-last-stamp-requires
 last-stamp-requires c κs = search needs

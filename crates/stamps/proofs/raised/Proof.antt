@@ -1,8 +1,9 @@
 -- `stamps::raised` meets its contract. Assumes nothing.
+-- Made by tools/answers from the file `answers` beside it: change that one.
+use Rattle.stamps.proofs.Stamps.{raised-last, raised-due}
 use borrow.Author.Needs.{needs}
 use Rattle.stamps.proofs.raised.Statement.{statement}
 use Rattle.stamps.proofs.raised.Tie as tie
-use Rattle.stamps.proofs.Stamps.{raised-last, raised-due}
 
 last-stamp-requires : tie.Need-last-stamp-requires
 last-stamp-requires c κs = search needs

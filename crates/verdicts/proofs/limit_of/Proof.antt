@@ -1,11 +1,12 @@
 -- `verdicts::limit_of` meets its contract. Assumes nothing.
-use borrow.Author.Needs.{needs}
-use Rattle.verdicts.proofs.limit_of.Statement.{statement}
-use Rattle.verdicts.proofs.limit_of.Tie as tie
+-- Made by tools/answers from the file `answers` beside it: change that one.
 use native.Mathlib.Omega.{arith}
 use Rattle.verdicts.specs.Rows.{rowIn}
 use Rattle.verdicts.proofs.Fresh.{limit-off, limit-past, limit-none, limit-here}
 use borrow.Author.Tests.{not-true, not-false}
+use borrow.Author.Needs.{needs}
+use Rattle.verdicts.proofs.limit_of.Statement.{statement}
+use Rattle.verdicts.proofs.limit_of.Tie as tie
 
 returns : tie.Need-returns
 returns c = limit-off (c .before .before .args .log) (rowIn (c .before .before .args .b .now) (c .before .before .args .at)) (c .before .before .args .whole) (c .before .before .args .seen) (not-true _ (c .if1 .taken))
@@ -27,4 +28,11 @@ returns-4 c = limit-past (c .before .before .before .before .before .before .arg
 
 pub limit-of-spec : {M : Type 1} → statement M
 limit-of-spec =
-    tie.close (tie.spec returns smaller-requires returns-2 repeat-of-requires returns-3 returns-4)
+    tie.close
+    (tie.spec
+    returns
+    smaller-requires
+    returns-2
+    repeat-of-requires
+    returns-3
+    returns-4)

@@ -1,9 +1,10 @@
 -- `verdicts::message_wrong` meets its contract. Assumes nothing.
+-- Made by tools/answers from the file `answers` beside it: change that one.
+use Rattle.verdicts.specs.Rows.{rowIn}
+use Rattle.verdicts.proofs.Entries.{head-wrong, body-wrong, rest-wrong}
 use borrow.Author.Needs.{needs}
 use Rattle.verdicts.proofs.message_wrong.Statement.{statement}
 use Rattle.verdicts.proofs.message_wrong.Tie as tie
-use Rattle.verdicts.specs.Rows.{rowIn}
-use Rattle.verdicts.proofs.Entries.{head-wrong, body-wrong, rest-wrong}
 
 head-wrong-requires : tie.Need-head-wrong-requires
 head-wrong-requires c κs = search needs

@@ -1,8 +1,9 @@
 -- `verify::is_past` meets its contract: the one place that says how an entry is past a boundary. Assumes nothing.
-use Rattle.verify.proofs.is_past.Statement.{statement}
-use Rattle.verify.proofs.is_past.Tie as tie
+-- Made by tools/answers from the file `answers` beside it: change that one.
 use mathlib.Core.Path.{refl}
 use Rattle.rules.specs.Entry.{pastAsked}
+use Rattle.verify.proofs.is_past.Statement.{statement}
+use Rattle.verify.proofs.is_past.Tie as tie
 
 returns : tie.Need-returns
 unfolding pastAsked

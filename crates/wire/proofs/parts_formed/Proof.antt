@@ -1,10 +1,11 @@
 -- `wire::parts_formed` meets its contract. Assumes nothing.
-use borrow.Author.Needs.{needs}
-use Rattle.wire.proofs.parts_formed.Statement.{statement}
-use Rattle.wire.proofs.parts_formed.Tie as tie
+-- Made by tools/answers from the file `answers` beside it: change that one.
 use native.Mathlib.Omega.{arith}
 use Rattle.octets.proofs.Laws.{bytes-known}
 use Rattle.wire.proofs.Formed.{tag-off, views-off, entries-off, count-off, wrong-off, formed-on}
+use borrow.Author.Needs.{needs}
+use Rattle.wire.proofs.parts_formed.Statement.{statement}
+use Rattle.wire.proofs.parts_formed.Tie as tie
 
 said-of-requires : tie.Need-said-of-requires
 said-of-requires c κs = search needs
@@ -37,10 +38,7 @@ enum-told-2 : tie.Need-enum-told-2
 enum-told-2 c = search needs
 
 returns-5 : tie.Need-returns-5
-returns-5 c =
-    formed-on (c .before .before .before .before .before .before .before .before .before .before .before .before .before .args .n) (c .before .before .before .before .before .before .before .before .before .before .before .before .before .args .s) (c .before .before .before .before .before .before .before .before .before .before .before .before .before .args .m) (c .before .before .before .before .before .before .before .before .before .before .before .before .before .args .views .now) (c .before .before .before .before .before .before .before .before .before .before .before .before .before .args .entries .now) (c .before .before .before .before .before .before .before .before .before .before .said-of .result) (c .before .before .before .before .before .before .before .before .before .before .said-of .ensures .0) (c .before .before .message-wrong .result) (c .before .before .message-wrong .ensures)
-    (bytes-known (c .before .before .before .before .before .before .before .before .before .before .before .before .before .args .views .now) (λ i. (c .before .before .before .before .before .before .before .before .before .before .before .before .shared-slice-known .given) i .fits)) (bytes-known (c .before .before .before .before .before .before .before .before .before .before .before .before .before .args .entries .now) (λ i. (c .before .before .before .before .before .before .before .before .before .before .before .shared-slice-known2 .given) i .fits)) (c .before .before .before .before .before .if2 .left) (c .before .before .before .before .if3 .left) (c .before .before .before .if4 .left) (c .before .before .before .before .before .before .before .before .before .before .said-of .ensures .2)
-    (omega (arith, (c .before .before .before .before .before .before .before .before .struct-known .given), (c .before .before .before .before .before .before .before .struct-known2 .given))) (omega (arith, (c .before .before .before .before .before .before .before .before .struct-known .given), (c .before .before .before .before .before .before .before .struct-known2 .given))) (omega (arith, (c .before .before .before .before .before .before .before .before .struct-known .given), (c .before .before .before .before .before .before .before .struct-known2 .given))) (omega (arith, (c .before .before .before .before .before .before .before .before .struct-known .given), (c .before .before .before .before .before .before .before .struct-known2 .given))) (c .before .before .before .before .before .before .if1 .left) (c .enum-told .given .1)
+returns-5 c = formed-on (c .before .before .before .before .before .before .before .before .before .before .before .before .before .args .n) (c .before .before .before .before .before .before .before .before .before .before .before .before .before .args .s) (c .before .before .before .before .before .before .before .before .before .before .before .before .before .args .m) (c .before .before .before .before .before .before .before .before .before .before .before .before .before .args .views .now) (c .before .before .before .before .before .before .before .before .before .before .before .before .before .args .entries .now) (c .before .before .before .before .before .before .before .before .before .before .said-of .result) (c .before .before .before .before .before .before .before .before .before .before .said-of .ensures .0) (c .before .before .message-wrong .result) (c .before .before .message-wrong .ensures) (bytes-known (c .before .before .before .before .before .before .before .before .before .before .before .before .before .args .views .now) (λ i. (c .before .before .before .before .before .before .before .before .before .before .before .before .shared-slice-known .given) i .fits)) (bytes-known (c .before .before .before .before .before .before .before .before .before .before .before .before .before .args .entries .now) (λ i. (c .before .before .before .before .before .before .before .before .before .before .before .shared-slice-known2 .given) i .fits)) (c .before .before .before .before .before .if2 .left) (c .before .before .before .before .if3 .left) (c .before .before .before .if4 .left) (c .before .before .before .before .before .before .before .before .before .before .said-of .ensures .2) (omega (arith, c .before .before .before .before .before .before .before .before .struct-known .given, c .before .before .before .before .before .before .before .struct-known2 .given)) (omega (arith, c .before .before .before .before .before .before .before .before .struct-known .given, c .before .before .before .before .before .before .before .struct-known2 .given)) (omega (arith, c .before .before .before .before .before .before .before .before .struct-known .given, c .before .before .before .before .before .before .before .struct-known2 .given)) (omega (arith, c .before .before .before .before .before .before .before .before .struct-known .given, c .before .before .before .before .before .before .before .struct-known2 .given)) (c .before .before .before .before .before .before .if1 .left) (c .enum-told .given .1)
 
 returns-6 : tie.Need-returns-6
 returns-6 c = wrong-off (c .before .before .before .before .before .before .before .before .before .before .before .before .before .args .n) (c .before .before .before .before .before .before .before .before .before .before .before .before .before .args .s) (c .before .before .before .before .before .before .before .before .before .before .before .before .before .args .m) (c .before .before .before .before .before .before .before .before .before .before .before .before .before .args .views .now) (c .before .before .before .before .before .before .before .before .before .before .before .before .before .args .entries .now) (c .before .before .before .before .before .before .before .before .before .before .said-of .result) (c .before .before .before .before .before .before .before .before .before .before .said-of .ensures .0) (c .before .before .message-wrong .result) (c .before .before .message-wrong .ensures) _ _ (c .enum-told2 .given .1)

@@ -1,13 +1,14 @@
 -- `wire::read` meets its contract. Assumes nothing.
-use borrow.Author.Needs.{needs}
-use Rattle.wire.proofs.read.Statement.{statement}
-use Rattle.wire.proofs.read.Tie as tie
+-- Made by tools/answers from the file `answers` beside it: change that one.
 use native.Mathlib.Omega.{arith}
 use native.Mathlib.Numerals.{add-one}
 use Rattle.rules.specs.Choice.{pick}
 use Rattle.rules.specs.Read.{decoded}
 use Rattle.wire.proofs.Reader.{fits, groups, read-is, in-bytes}
 use borrow.Author.Tests.{not-true}
+use borrow.Author.Needs.{needs}
+use Rattle.wire.proofs.read.Statement.{statement}
+use Rattle.wire.proofs.read.Tie as tie
 
 sizes-fit-requires : tie.Need-sizes-fit-requires
 sizes-fit-requires c κs = search needs
@@ -35,10 +36,10 @@ smaller-requires : tie.Need-smaller-requires
 smaller-requires c κs = search needs
 
 message-wrong-requires : tie.Need-message-wrong-requires
-message-wrong-requires c κs = record { groups = groups (c .before .before .before .before .before .before .before .before .args .n) (c .before .before .before .before .before .before .before .before .args .s) (c .before .before .before .before .before .before .sizes-fit .result) (c .before .before .before .before .before .before .sizes-fit .ensures) (c .before .before .before .before .before .if1 .left); near = omega (arith, (c .before .before .entries-at .ensures .1)); few = omega (arith, (c .before .before .before .before .parts-at .ensures .1), (c .smaller .ensures)); inside = in-bytes _ _ _ (c .before .whole-in .ensures) }
+message-wrong-requires c κs = record { groups = groups (c .before .before .before .before .before .before .before .before .args .n) (c .before .before .before .before .before .before .before .before .args .s) (c .before .before .before .before .before .before .sizes-fit .result) (c .before .before .before .before .before .before .sizes-fit .ensures) (c .before .before .before .before .before .if1 .left); near = omega (arith, c .before .before .entries-at .ensures .1); few = omega (arith, c .before .before .before .before .parts-at .ensures .1, c .smaller .ensures); inside = in-bytes _ _ _ (c .before .whole-in .ensures) }
 
 length-for-requires : tie.Need-length-for-requires
-length-for-requires c κs = (groups (c .before .before .before .before .before .before .before .before .before .args .n) (c .before .before .before .before .before .before .before .before .before .args .s) (c .before .before .before .before .before .before .before .sizes-fit .result) (c .before .before .before .before .before .before .before .sizes-fit .ensures) (c .before .before .before .before .before .before .if1 .left), (c .before .before .before .before .before .parts-at .ensures .1))
+length-for-requires c κs = (groups (c .before .before .before .before .before .before .before .before .before .args .n) (c .before .before .before .before .before .before .before .before .before .args .s) (c .before .before .before .before .before .before .before .sizes-fit .result) (c .before .before .before .before .before .before .before .sizes-fit .ensures) (c .before .before .before .before .before .before .if1 .left), c .before .before .before .before .before .parts-at .ensures .1)
 
 case-with-requires : tie.Need-case-with-requires
 case-with-requires c κs = search needs
@@ -47,7 +48,7 @@ judged-requires : tie.Need-judged-requires
 judged-requires c κs = search needs
 
 returns-2 : tie.Need-returns-2
-returns-2 c = simp (read-is (c .before .before .before .before .before .before .before .before .before .before .before .before .args .s) (c .before .before .before .before .before .before .before .before .before .before .before .before .args .b .now) (c .before .before .before .before .before .before .before .before .before .before .before .before .args .n) (fits (c .before .before .before .before .before .before .before .before .before .before .before .before .args .n) (c .before .before .before .before .before .before .before .before .before .before .before .before .args .s) (c .before .before .before .before .before .before .before .before .before .before .sizes-fit .result) (c .before .before .before .before .before .before .before .before .before .before .sizes-fit .ensures) (c .before .before .before .before .before .before .before .before .before .if1 .left)), (c .judged .ensures), (c .before .case-with .ensures), (c .before .before .length-for .ensures), (c .before .before .before .message-wrong .ensures), (c .before .before .before .before .smaller .ensures), (c .before .before .before .before .before .whole-in .ensures), (c .before .before .before .before .before .before .entries-at .ensures .0), (c .before .before .before .before .before .before .before .before .parts-at .ensures .0))
+returns-2 c = simp (read-is (c .before .before .before .before .before .before .before .before .before .before .before .before .args .s) (c .before .before .before .before .before .before .before .before .before .before .before .before .args .b .now) (c .before .before .before .before .before .before .before .before .before .before .before .before .args .n) (fits (c .before .before .before .before .before .before .before .before .before .before .before .before .args .n) (c .before .before .before .before .before .before .before .before .before .before .before .before .args .s) (c .before .before .before .before .before .before .before .before .before .before .sizes-fit .result) (c .before .before .before .before .before .before .before .before .before .before .sizes-fit .ensures) (c .before .before .before .before .before .before .before .before .before .if1 .left)), c .judged .ensures, c .before .case-with .ensures, c .before .before .length-for .ensures, c .before .before .before .message-wrong .ensures, c .before .before .before .before .smaller .ensures, c .before .before .before .before .before .whole-in .ensures, c .before .before .before .before .before .before .entries-at .ensures .0, c .before .before .before .before .before .before .before .before .parts-at .ensures .0)
 
 pub read-spec : {M : Type 1} → statement M
 read-spec =

@@ -1,4 +1,5 @@
 -- `bases::written::put_table` is safe and ends: the state keeps its length, and the turns that are left grow fewer. Assumes nothing.
+-- Made by tools/answers from the file `answers` beside it: change that one.
 use mathlib.Core.Path.{_≡_}
 use Prim.Native.Nat.{_≤_, _-_}
 use lib.ListN.{length}

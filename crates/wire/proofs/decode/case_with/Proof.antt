@@ -1,9 +1,10 @@
 -- `wire::decode::case_with` meets its contract. Assumes nothing.
-use Rattle.wire.proofs.decode.case_with.Statement.{statement}
-use Rattle.wire.proofs.decode.case_with.Tie as tie
+-- Made by tools/answers from the file `answers` beside it: change that one.
 use borrow.Author.Tests.{ne-eqb}
 use Rattle.rules.specs.Choice.{pick}
 use Rattle.rules.specs.Wire.{caseWith}
+use Rattle.wire.proofs.decode.case_with.Statement.{statement}
+use Rattle.wire.proofs.decode.case_with.Tie as tie
 
 returns : tie.Need-returns
 unfolding caseWith pick

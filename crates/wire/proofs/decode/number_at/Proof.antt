@@ -1,12 +1,13 @@
 -- `wire::decode::number_at` meets its contract. Assumes nothing.
-use borrow.Author.Needs.{needs}
-use Rattle.wire.proofs.decode.number_at.Statement.{statement}
-use Rattle.wire.proofs.decode.number_at.Tie as tie
+-- Made by tools/answers from the file `answers` beside it: change that one.
 use mathlib.Core.Path.{sym, _∙_}
 use native.Mathlib.Omega.{arith}
 use lib.ListN.{List·getD-eq-default}
 use Rattle.octets.specs.Bytes.{num, items}
 use Rattle.octets.proofs.Codecs.{length-items, getD-items}
+use borrow.Author.Needs.{needs}
+use Rattle.wire.proofs.decode.number_at.Statement.{statement}
+use Rattle.wire.proofs.decode.number_at.Tie as tie
 
 mul-look64 : tie.Need-mul-look64
 mul-look64 c = search needs
@@ -18,7 +19,7 @@ look64-requires : tie.Need-look64-requires
 look64-requires c κs = search needs
 
 returns : tie.Need-returns
-returns c = (c .look64 .ensures) ∙ sym (getD-items _ 8 _ _ _ 0 (c .before .if1 .taken))
+returns c = c .look64 .ensures ∙ sym (getD-items _ 8 _ _ _ 0 (c .before .if1 .taken))
 
 returns-2 : tie.Need-returns-2
 returns-2 c = sym (List·getD-eq-default (items (λ a. num (c .before .before .args .b .now) a 8) 8 (c .before .before .args .at) (c .before .before .args .count)) 0 (omega (arith, length-items (λ a. num (c .before .before .args .b .now) a 8) 8 (c .before .before .args .at) (c .before .before .args .count))))

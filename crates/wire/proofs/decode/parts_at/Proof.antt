@@ -1,8 +1,9 @@
 -- `wire::decode::parts_at` meets its contract. Assumes nothing.
+-- Made by tools/answers from the file `answers` beside it: change that one.
+use native.Mathlib.Omega.{arith}
 use borrow.Author.Needs.{needs}
 use Rattle.wire.proofs.decode.parts_at.Statement.{statement}
 use Rattle.wire.proofs.decode.parts_at.Tie as tie
-use native.Mathlib.Omega.{arith}
 
 header-at-requires : tie.Need-header-at-requires
 header-at-requires c κs = search needs
@@ -56,7 +57,7 @@ cast-entries : tie.Need-cast-entries
 cast-entries c = search needs
 
 returns : tie.Need-returns
-returns c = (simp ((c .look323 .ensures), (c .before .entries-at .ensures .0), (c .before .before .number-at3 .ensures), (c .before .before .before .number-at2 .ensures), (c .before .before .before .before .number-at .ensures), (c .before .before .before .before .before .look322 .ensures), (c .before .before .before .before .before .before .numbers-in .ensures .0), (c .before .before .before .before .before .before .before .numbers-at .ensures .0), (c .before .before .before .before .before .before .before .before .look32 .ensures), (c .before .before .before .before .before .before .before .before .before .zeros-at .ensures), (c .before .before .before .before .before .before .before .before .before .before .header-at .ensures)), search needs)
+returns c = (simp (c .look323 .ensures, c .before .entries-at .ensures .0, c .before .before .number-at3 .ensures, c .before .before .before .number-at2 .ensures, c .before .before .before .before .number-at .ensures, c .before .before .before .before .before .look322 .ensures, c .before .before .before .before .before .before .numbers-in .ensures .0, c .before .before .before .before .before .before .before .numbers-at .ensures .0, c .before .before .before .before .before .before .before .before .look32 .ensures, c .before .before .before .before .before .before .before .before .before .zeros-at .ensures, c .before .before .before .before .before .before .before .before .before .before .header-at .ensures), search needs)
 
 pub parts-at-spec : {M : Type 1} → statement M
 parts-at-spec =
