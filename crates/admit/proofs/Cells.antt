@@ -19,7 +19,7 @@ use Rattle.rules.proofs.EachKind.{by-row}
 use Rattle.kinds.specs.Rows.{maskOf, onlyIfEqual, rowAs}
 use Rattle.kinds.specs.declared.Row.{Row}
 
--- ---- gVec: only what any view takes, from outside and to anyone, has none
+-- ---- the cells that are matched on
 
 module _ (k : ℕ) (r : Row) (e : r ≡ rowAs k) where
   pub views-cell : r .views ≡ rowOf k .views
@@ -30,6 +30,8 @@ module _ (k : ℕ) (r : Row) (e : r ≡ rowAs k) where
 
   pub sender-cell : r .sender ≡ rowOf k .sender
   sender-cell = ap (λ (x : Row). x .sender) e
+
+-- ---- gVec: only a kind that needs no view, from outside and to anyone, has none
 
 abbrev Viewed : Kind → Type 0
 Viewed r = (not (r .gVec) ≡ false) ⊎ ((r .views ≡ AnyView) × (r .sender ≡ Outsider) × (r .receiver ≡ Anyone))
