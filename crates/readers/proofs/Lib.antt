@@ -1,0 +1,3 @@
+-- Why the readers give what their statements say.
+mod Next
+mod Fields
