@@ -59,11 +59,11 @@ fn own_leader(shape: Shape, state: &[u8]) -> u64
     requires { ⌜ Sized shape (now state) ⌝ }
     ensures { λ r. ⌜ r ≡ rule.leader (shape .n) (stateOf shape (now (state .entry)) .gVec) (stateOf shape (now (state .entry)) .group) ⌝ }
 {
-    let group = places::get_group(state);
-    if shape.s <= group {
+    let own = places::get_group(state);
+    if shape.s <= own {
         return 0;
     }
-    places::view_at(shape, state, group) as u64 % shape.n
+    places::view_at(shape, state, own) as u64 % shape.n
 }
 
 // A field of a state by its number.
