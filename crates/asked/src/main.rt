@@ -16,7 +16,6 @@ fn core() -> u64 {
 fn main() {
     let mut failed = core();
     failed = lines::more(failed, views::check());
-    failed = lines::more(failed, logged::check());
-    failed = lines::more(failed, outgoing::check());
+    failed = lines::more(failed, steps::check());
     lines::total(failed);
 }

@@ -3,7 +3,7 @@ use lines::more;
 use lines::same;
 
 // What is said where there is nothing to say.
-const NOTHING: u64 = 0xffffffffffffffff;
+pub const NOTHING: u64 = 0xffffffffffffffff;
 
 // One field of the state.
 fn field(failed: u64, name: &[u8], number: u64, state: &[u8], want: u64) -> u64 {
