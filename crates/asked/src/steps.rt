@@ -67,5 +67,7 @@ pub fn check() -> u64 {
         ),
     );
     failed = more(failed, logged::check(&state));
-    more(failed, outgoing::check(&mut out))
+    failed = more(failed, outgoing::messages(&out));
+    octets::put8(&mut out, 0, 2);
+    more(failed, outgoing::unknown(&out))
 }

@@ -30,13 +30,8 @@ fn view(failed: u64, name: &[u8], group: u64, state: &[u8], want: u64) -> u64 {
 }
 
 // Fresh: the own numbers and status 1, all else 0, and replica 0 leads.
-fn fresh(state: &mut [u8]) -> u64 {
-    let mut failed = same(
-        b"start of replica 1 of group 1",
-        replica::jallumere_start(3, 2, 16, 1, 1, state),
-        0,
-    );
-    failed = field(failed, b"own group", 1, state, 1);
+fn fresh(state: &[u8]) -> u64 {
+    let mut failed = field(0, b"own group", 1, state, 1);
     failed = field(failed, b"own replica", 2, state, 1);
     failed = field(failed, b"status", 3, state, 1);
     failed = field(failed, b"gView", 4, state, 0);
@@ -78,9 +73,8 @@ fn enter(state: &mut [u8]) -> u64 {
 }
 
 // In view 4 it leads its group: 7 mod 3 is 1.
-fn later(state: &mut [u8]) -> u64 {
-    let mut failed = same(b"view 4 entered", enter(state), 0);
-    failed = field(failed, b"status", 3, state, 2);
+fn later(state: &[u8]) -> u64 {
+    let mut failed = field(0, b"status", 3, state, 2);
     failed = field(failed, b"gView", 4, state, 4);
     failed = field(failed, b"last normal gView", 5, state, 0);
     failed = field(failed, b"leader", 10, state, 1);
@@ -119,10 +113,8 @@ fn nothing(state: &[u8]) -> u64 {
     )
 }
 
-// Bytes of the right length that are no good state: what stands there, and no group that there is not.
-fn not_good(state: &mut [u8; 4004]) -> u64 {
-    octets::put8(state, 0, 200);
-    octets::put32(state, 83, 17);
+// Bytes of the right length that are no good state: what stands there, a count above C as C, and replica 0 as the leader of no group.
+fn not_good(state: &[u8]) -> u64 {
     let mut failed = same(
         b"not a good state",
         replica::jallumere_good(3, 2, 16, state),
@@ -133,19 +125,24 @@ fn not_good(state: &mut [u8; 4004]) -> u64 {
     field(failed, b"log length past C", 9, state, 16)
 }
 
-// All of these, on one state.
+// A state's length less one byte; then another own group, and 17 as the log's count.
+fn broken() -> u64 {
+    let mut state = [255u8; 4004];
+    let shorter = replica::jallumere_field(3, 2, 16, 1, &state[0..4003]);
+    let failed = same(b"one byte less", shorter, NOTHING);
+    octets::put8(&mut state, 0, 200);
+    octets::put32(&mut state, 83, 17);
+    more(failed, not_good(&state))
+}
+
+// Started, in view 4, and bytes that are no state.
 pub fn check() -> u64 {
     let mut state = [255u8; 4004];
-    let mut failed = fresh(&mut state);
-    failed = more(failed, later(&mut state));
+    let started = replica::jallumere_start(3, 2, 16, 1, 1, &mut state);
+    let mut failed = same(b"start of replica 1 of group 1", started, 0);
+    failed = more(failed, fresh(&state));
+    failed = more(failed, same(b"view 4 entered", enter(&mut state), 0));
+    failed = more(failed, later(&state));
     failed = more(failed, nothing(&state));
-    failed = more(
-        failed,
-        same(
-            b"one byte less",
-            replica::jallumere_field(3, 2, 16, 1, &state[0..4003]),
-            NOTHING,
-        ),
-    );
-    more(failed, not_good(&mut state))
+    more(failed, broken())
 }
