@@ -12,7 +12,7 @@ use Rattle.replica.specs.Face.{Gives, Puts}
 pub step-one : (sh : Shape) (b msg out : List ℕ) (x y : Answer) (c d o u : List ℕ) → left x c o ≡ stepBytes sh b msg out → left y d u ≡ stepBytes sh b msg out → left x c o ≡ left y d u
 step-one sh b msg out x y c d o u e f = e ∙ sym f
 
--- so do any two results where the statement is an equation of the result alone: sizes, lengths, digests, the answers of the reader and of the check of a state
+-- so do any two results where the statement is an equation of the result alone: sizes, lengths, digests, the answers of the reader and of the check of a state, what a state says
 pub result-one : {A : Type 0} (said x y : A) → x ≡ said → y ≡ said → x ≡ y
 result-one said x y e f = e ∙ sym f
 

@@ -14,6 +14,10 @@ use Rattle.rules.specs.declared.Header.{Header}
 use Rattle.rules.specs.declared.Answer.{Answer}
 use Rattle.rules.specs.declared.Answer.the-variants.{Done, Refused}
 
+-- the version of the interface, 1.0.0: major * 10000 + minor * 100 + patch
+abbrev pub version : ℕ
+version = 10000
+
 -- the number of the table, and 256 times the outgoing length in the bits above it
 abbrev pub coded : ℕ → ℕ → ℕ
 coded number sent = number + sent * 2 ^ 8 % 2 ^ 64

@@ -14,7 +14,8 @@ ghost use Rattle.rules.specs.Wire.{answerOf};
 ghost use Rattle.rules.specs.Image.{goodBytes};
 ghost use Rattle.rules.specs.Bytes.{left, stepBytes, startBytes};
 ghost use Rattle.places.specs.Layout.{lengthFor};
-ghost use Rattle.replica.specs.Face.{codeOf, Gives, Puts, narrow, writesFrom};
+ghost use Rattle.readers.specs.Said.{nextLength, fieldIn, groupViewIn, entryIn};
+ghost use Rattle.replica.specs.Face.{version, codeOf, Gives, Puts, narrow, writesFrom};
 
 // One step: the next state's bytes and the outgoing messages, or the lowest number of the table that applies and all as it came.
 pub fn step(shape: Shape, state: &mut [u8], message: &[u8], out: &mut [u8]) -> Answer
@@ -41,6 +42,22 @@ fn code(answer: Answer) -> u64
         Answer::Done(sent) => (sent as u64) << 8,
         Answer::Refused(number) => number as u64,
     }
+}
+
+// The version of the interface: major * 10000 + minor * 100 + patch.
+#[no_mangle]
+pub extern "C" fn jallumere_version() -> u64
+    ensures { λ r. ⌜ r ≡ version ⌝ }
+{
+    10000
+}
+
+// 0: this is the proved core, and not the implementation that it is compared with.
+#[no_mangle]
+pub extern "C" fn jallumere_is_model() -> u64
+    ensures { λ r. ⌜ r ≡ 0 ⌝ }
+{
+    0
 }
 
 // The state's length, 0 for wrong sizes.
@@ -115,6 +132,45 @@ pub extern "C" fn jallumere_read(n: u64, s: u64, message: &[u8]) -> u64
         Message::VerifyReply(_) => 0,
         Message::Tick(_, _) => 0,
     }
+}
+
+// The length of the message that the bytes begin with, 0 where they begin with none.
+#[no_mangle]
+pub extern "C" fn jallumere_message_length(n: u64, s: u64, bytes: &[u8]) -> u64
+    ensures { λ r. ⌜ r ≡ nextLength n s (now (bytes .entry)) ⌝ }
+{
+    readers::message_length(n, s, bytes)
+}
+
+// A field of the state by its number, or nothing.
+#[no_mangle]
+pub extern "C" fn jallumere_field(n: u64, s: u64, c: u64, field: u64, state: &[u8]) -> u64
+    ensures { λ r. ⌜ r ≡ fieldIn (record { n = n; s = s; c = c }) (now (state .entry)) field ⌝ }
+{
+    readers::field(Shape { n, s, c }, field, state)
+}
+
+// The view of a group in the state's gVec, or nothing.
+#[no_mangle]
+pub extern "C" fn jallumere_group_view(n: u64, s: u64, c: u64, group: u64, state: &[u8]) -> u64
+    ensures { λ r. ⌜ r ≡ groupViewIn (record { n = n; s = s; c = c }) (now (state .entry)) group ⌝ }
+{
+    readers::group_view(Shape { n, s, c }, group, state)
+}
+
+// A field of the log's entry at a position, from 1 on, or nothing.
+#[no_mangle]
+pub extern "C" fn jallumere_entry(
+    n: u64,
+    s: u64,
+    c: u64,
+    position: u64,
+    field: u64,
+    state: &[u8],
+) -> u64
+    ensures { λ r. ⌜ r ≡ entryIn (record { n = n; s = s; c = c }) (now (state .entry)) position field ⌝ }
+{
+    readers::entry(Shape { n, s, c }, position, field, state)
 }
 
 // FNV-1a run on from `start`.
