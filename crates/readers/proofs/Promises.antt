@@ -33,16 +33,16 @@ module _ (sh : Shape) (fits : shapeFits sh ≡ true) (st : State) (g : good sh s
   pub view-image : (group : ℕ) → group < sh .s → groupViewIn sh (image sh st) group ≡ getD (st .view .gVec) group 0
   unfolding groupViewIn
   view-image group l =
-      pick-true (isSized sh (image sh st) && ltb group (sh .s)) (getD (stateOf sh (image sh st) .gVec) group 0) nothing
+      pick-true (isSized sh (image sh st) && ltb group (sh .s)) (getD (stateOf sh (image sh st) .view .gVec) group 0) nothing
       (and-both (isSized sh (image sh st)) (ltb group (sh .s)) right-size (lt-ltb group (sh .s) l))
-      ∙ ap (λ (x : State). getD (x .gVec) group 0) back
+      ∙ ap (λ (x : State). getD (x .view .gVec) group 0) back
 
   -- every entry of the log
   pub entry-image : (position field : ℕ) → 1 ≤ position → position ≤ length (st .logged .log) → entryIn sh (image sh st) position field ≡ entryFieldOf (entryOf (st .logged .log) (position - 1)) field
   unfolding entryIn
   entry-image position field first last =
       let b : List ℕ = image sh st in
-      let l : leb position (length (stateOf sh b .logged .log)) ≡ true = ap (λ (x : State). leb position (length (x .log))) back ∙ le-leb position (length (st .logged .log)) last in
+      let l : leb position (length (stateOf sh b .logged .log)) ≡ true = ap (λ (x : State). leb position (length (x .logged .log))) back ∙ le-leb position (length (st .logged .log)) last in
       pick-true (isSized sh b && (leb 1 position && leb position (length (stateOf sh b .logged .log)))) (entryFieldOf (entryOf (stateOf sh b .logged .log) (position - 1)) field) nothing
       (and-both (isSized sh b) _ right-size (and-both (leb 1 position) _ (le-leb 1 position first) l))
-      ∙ ap (λ (x : State). entryFieldOf (entryOf (x .log) (position - 1)) field) back
+      ∙ ap (λ (x : State). entryFieldOf (entryOf (x .logged .log) (position - 1)) field) back

@@ -46,7 +46,7 @@ add-at-2 : tie.Need-add-at-2
 add-at-2 c = omega (arith, ends c)
 
 entry-at-requires : tie.Need-entry-at-requires
-entry-at-requires c κs = ends $0
+entry-at-requires c κs = ends c .0
 
 entry-field-requires : tie.Need-entry-field-requires
 entry-field-requires c κs = search needs
