@@ -119,7 +119,7 @@ fn sum_fits(t: u64, bound: u64) -> bool
 }
 
 // Number i, or 0 where there is none.
-fn number_of(numbers: &[u64], i: usize) -> u64
+pub fn number_of(numbers: &[u64], i: usize) -> u64
     ensures { λ r. ⌜ r ≡ getD (now (numbers .entry)) i 0 ⌝ }
 {
     if i < numbers.len() {
