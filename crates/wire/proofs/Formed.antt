@@ -96,7 +96,8 @@ module _ (n s : ℕ) (m : Message) (views entries : List ℕ) where
             let same : getD (numbersOf m) i 0 ≡ getD (saidOf m .numbers) i 0 =
             ap (λ (ys : List ℕ). getD ys i 0) (sym (numbers-said m)) ∙ getD-take (length (numbersOf m)) (saidOf m .numbers) i 0 h in
             let l : getD (saidOf m .numbers) i 0 < 18446744073709551616 = rw e at (each i) in
-            lt-ltb _ _ (rw same l)
+            let w : getD (numbersOf m) i 0 < 18446744073709551616 = rw same l in
+            lt-ltb _ _ w
 
         view-wide : (i : ℕ) → i < length views / 4 → ltb (num views (0 + 4 * i) 4) (2 ^ 32) ≡ true
         view-wide i h = lt-ltb _ _ (num-lt views (0 + 4 * i) 4 bv (omega arith))

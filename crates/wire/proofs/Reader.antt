@@ -24,6 +24,7 @@ use Rattle.rules.proofs.Tests.{sizes}
 use Rattle.rules.proofs.Verdicts.{verdict-ext}
 use Rattle.writer.specs.Said.{mostNumbers, padded}
 use Rattle.wire.specs.Parts.{headerIn, numbersFrom, kindNumbers, partsIn, judgedAs}
+use Rattle.fields.specs.declared.Parts.{Parts}
 use Rattle.verdicts.specs.declared.Look.{Look}
 use Rattle.verdicts.specs.Rows.{rowIn, wrongIn}
 
@@ -100,3 +101,19 @@ module _ (s : ℕ) (b : List ℕ) where
   pub read-is : (n : ℕ) → sizesFit n s ≡ true → decoded n s b ≡ judgedAs (length b) (lengthFor s k count) (caseWith (headerIn b) (kindNumbers s b)) (wrongIn n s (partsIn s b) (kindNumbers s b) b look)
   unfolding decoded read pick fieldsAt
   read-is n e = rw e (case-judged (length b) (lengthFor s k count) (wireIn s b) (verdictIn n s b) ∙ ap₂ (λ (m : Message) (v : Verdict). judgedAs (length b) (lengthFor s k count) m v) case-is (verdict-is n))
+
+  -- the answer from what the reader's functions give
+  module _ (n : ℕ) (fit : sizesFit n s ≡ true) (p : Parts) (isParts : p ≡ partsIn s b) (q c : ℕ) (isQ : q ≡ numbersAt s (p .header .kind)) (isC : c ≡ numbersIn (p .header .kind)) (xs : List ℕ) (isRoom : xs ≡ padded (numbersFrom b (q + 4) c)) where
+    lent-is : take (c - 0) xs ≡ kindNumbers s b
+    lent-is = let z : c - 0 ≡ c = omega arith in rw z (lent b xs (q + 4) c isRoom ∙ rw (isQ, isC, isParts) refl)
+
+    pub read-as : (from whole seen end : ℕ) (v : Verdict) (m r : Message)
+        → from ≡ entriesAt s (p .header .kind)
+        → whole ≡ wholeIn (length b) (from + 4)
+        → seen ≡ min (p .entries) (whole + 1)
+        → v ≡ wrongIn n s p (take (c - 0) xs) b (record { at = from + 4; whole = whole; seen = seen })
+        → end ≡ lengthFor s (p .header .kind) (p .entries)
+        → m ≡ caseWith (p .header) (take (c - 0) xs)
+        → r ≡ judgedAs (length b) end m v
+        → r ≡ decoded n s b
+    read-as from whole seen end v m r e₁ e₂ e₃ e₄ e₅ e₆ e₇ = rw (e₇, e₄, e₆, e₅, lent-is, e₃, e₂, e₁, isParts) (sym (read-is n fit))
