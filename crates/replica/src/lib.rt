@@ -1,13 +1,12 @@
 // The public face: a site's start and step on lent bytes, and the functions that hosts link.
-use fields::Parts;
 use rules::Answer;
 use rules::Header;
 use rules::Message;
 use rules::Shape;
 use rules::refusal;
 ghost use mathlib.Core.Path.{_≡_};
-ghost use mathlib.Core.List.{[], _∷_};
 ghost use Rattle.rules.specs.Choice.{pick};
+ghost use Rattle.rules.specs.Group.{sizesFit};
 ghost use Rattle.rules.specs.Digest.{digestFrom};
 ghost use Rattle.rules.specs.Read.{decoded};
 ghost use Rattle.rules.specs.Wire.{answerOf};
@@ -15,7 +14,7 @@ ghost use Rattle.rules.specs.Image.{goodBytes};
 ghost use Rattle.rules.specs.Bytes.{left, stepBytes, startBytes};
 ghost use Rattle.places.specs.Layout.{lengthFor};
 ghost use Rattle.readers.specs.Said.{nextLength, fieldIn, groupViewIn, entryIn};
-ghost use Rattle.replica.specs.Face.{version, codeOf, Gives, Puts, narrow, writesFrom};
+ghost use Rattle.replica.specs.Face.{version, codeOf, Gives, Puts, given, narrow, writesFrom};
 
 // One step: the next state's bytes and the outgoing messages, or the lowest number of the table that applies and all as it came.
 pub fn step(shape: Shape, state: &mut [u8], message: &[u8], out: &mut [u8]) -> Answer
@@ -190,13 +189,23 @@ fn is_narrow(
     from_replica: u64,
     view: u64,
 ) -> bool
-    ensures { λ r. ⌜ r ≡ narrow (record { kind = kind; toGroup = «to_group»; toMask = «to_mask»; fromGroup = «from_group»; fromReplica = «from_replica»; view = view }) ⌝ }
+    ensures { λ r. ⌜ r ≡ narrow (given kind «to_group» «to_mask» «from_group» «from_replica» view) ⌝ }
 {
     let groups = (from_group < 256) & ((from_replica < 256) & (view < 4294967296));
     (kind < 256) & ((to_group < 256) & ((to_mask < 256) & groups))
 }
 
-// Writes the message of these fields: 0, 1, 2 or 9, and 256 times its length. Numbers that the kind does not have are not looked at.
+// The answer where the fields are not those of a message: wrong sizes come before it.
+fn unfit(n: u64, s: u64) -> u64
+    ensures { λ r. ⌜ r ≡ pick (sizesFit n s) 2 1 ⌝ }
+{
+    if group::sizes_fit(n, s) {
+        return 2;
+    }
+    1
+}
+
+// Writes the message of these fields: 0, 1, 2 or 9, and 256 times its length. The numbers are all that the kind has.
 #[no_mangle]
 pub extern "C" fn jallumere_write(
     n: u64,
@@ -207,20 +216,16 @@ pub extern "C" fn jallumere_write(
     from_group: u64,
     from_replica: u64,
     view: u64,
-    first: u64,
-    second: u64,
-    third: u64,
+    numbers: &[u64],
     views: &[u8],
     entries: &[u8],
     out: &mut [u8],
 ) -> u64
-    ensures { λ r. ⌜ Puts (writesFrom n s (record { kind = kind; toGroup = «to_group»; toMask = «to_mask»; fromGroup = «from_group»; fromReplica = «from_replica»; view = view }) (first ∷ second ∷ third ∷ []) (now (views .entry)) (now (entries .entry)) (now (out .entry))) r (now (out .exit)) ⌝ }
+    ensures { λ r. ⌜ (let g = given kind «to_group» «to_mask» «from_group» «from_replica» view in
+    Puts (writesFrom n s g (now (numbers .entry)) (now (views .entry)) (now (entries .entry)) (now (out .entry))) r (now (out .exit))) ⌝ }
 {
     if !is_narrow(kind, to_group, to_mask, from_group, from_replica, view) {
-        if group::sizes_fit(n, s) {
-            return 2;
-        }
-        return 1;
+        return unfit(n, s);
     }
     let header = Header {
         kind: kind as u8,
@@ -230,16 +235,9 @@ pub extern "C" fn jallumere_write(
         from_replica: from_replica as u8,
         view: view as u32,
     };
-    let parts = Parts {
-        header,
-        zeros: 0,
-        views: 0,
-        numbers: 0,
-        first,
-        second,
-        third,
-        entries: 0,
-    };
-    let m = wire::decode::case_with(parts);
+    if numbers.len() as u64 != kinds::numbers_in(header.kind) {
+        return unfit(n, s);
+    }
+    let m = wire::decode::case_with(header, numbers);
     code(wire::write(n, s, m, views, entries, out))
 }

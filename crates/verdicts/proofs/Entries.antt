@@ -2,6 +2,7 @@
 use Prim.Native.Nat.{ℕ, zero, suc, _+_, _*_, _≤_, _<_}
 use mathlib.Core.Path.{_≡_, refl, sym, ap, ap₂, _∙_}
 use mathlib.Core.Bool.{Bool, true, false, _&&_, _||_, not}
+use mathlib.Core.List.{List, []}
 use native.Mathlib.Omega.{arith}
 use native.Mathlib.Decide.{decLe}
 use native.Mathlib.Numerals.{add-one}
@@ -10,8 +11,8 @@ use borrow.Author.Tests.{lt-ltb, ltb-true}
 use Rattle.rules.specs.Choice.{pick, when, allOf}
 use Rattle.rules.specs.Entry.{lastBefore, mayFollow}
 use Rattle.rules.specs.Log.{seenBefore, stands}
-use Rattle.rules.specs.Kind.{withLog}
-use Rattle.rules.specs.Read.{Fields, headRows, bodyRows, entryRows, entriesAt, firstWrong, andThen, entriesWrong, messageWrong}
+use Rattle.rules.specs.Kind.{numbersIn, withLog}
+use Rattle.rules.specs.Read.{Fields, headRows, bodyRows, numberRows, entryRows, entriesAt, firstWrong, andThen, entriesWrong, messageWrong}
 use Rattle.rules.specs.declared.Entry.{Entry}
 use Rattle.rules.specs.declared.Header.{Header}
 use Rattle.rules.specs.declared.Verdict.{Verdict}
@@ -19,7 +20,8 @@ use Rattle.rules.specs.declared.Verdict.the-variants.{Fine, Wrong}
 use Rattle.rules.proofs.Tests.{and-l, and-r}
 use Rattle.fields.specs.declared.Parts.{Parts}
 use Rattle.fields.specs.Parts.{fieldsFrom, fieldsOf, headed, rowsOf}
-use Rattle.verdicts.specs.Rows.{limitOf, standsAfter}
+use Rattle.verdicts.specs.Rows.{rowIn, limitOf, standsAfter, wrongIn}
+use Rattle.verdicts.specs.declared.Look.{Look}
 use Rattle.fields.proofs.Rows.{and-true, and-false}
 use Rattle.verdicts.proofs.Fresh.{Limit, limit-is}
 
@@ -38,7 +40,7 @@ stamp-next f i e q = rw (add-one, q)
 
 module _ (s : ℕ) (h : Header) (f : ℕ → Entry) (whole : ℕ) where
   abbrev m : Fields
-  m = fieldsFrom (headed h) f
+  m = fieldsFrom (headed h) [] f
 
   abbrev verdict : ℕ → Verdict
   verdict i = entriesWrong s m whole i
@@ -95,22 +97,35 @@ module _ (s : ℕ) (h : Header) (f : ℕ → Entry) (whole : ℕ) where
     all-fine i e a b c = let q : i ≡ seen = omega (arith, is .within) in rw q at (sym e)
 
 -- only the header counts
-pub entries-head : (s : ℕ) (p : Parts) (f : ℕ → Entry) (whole n : ℕ) → entriesWrong s (fieldsFrom p f) whole n ≡ entriesWrong s (fieldsFrom (headed (p .header)) f) whole n
+pub entries-head : (s : ℕ) (p : Parts) (xs : List ℕ) (f : ℕ → Entry) (whole n : ℕ) → entriesWrong s (fieldsFrom p xs f) whole n ≡ entriesWrong s (fieldsFrom (headed (p .header)) [] f) whole n
 unfolding entriesWrong
-entries-head s p f whole zero = refl
-entries-head s p f whole (suc n) = ap (λ (v : Verdict). andThen v (firstWrong (entryRows s (fieldsFrom p f) whole n))) (entries-head s p f whole n)
+entries-head s p xs f whole zero = refl
+entries-head s p xs f whole (suc n) = ap (λ (v : Verdict). andThen v (firstWrong (entryRows s (fieldsFrom p xs f) whole n))) (entries-head s p xs f whole n)
+
+-- no entry counts
+module _ (s : ℕ) (p : Parts) (xs : List ℕ) (f : ℕ → Entry) where
+  numbers-alone : (i : ℕ) → numberRows s (fieldsFrom p xs f) i ≡ numberRows s (fieldsOf p xs) i
+  unfolding numberRows
+  numbers-alone zero = refl
+  numbers-alone (suc i) = rw (numbers-alone i)
+
+  body-alone : firstWrong (bodyRows s (fieldsFrom p xs f)) ≡ firstWrong (bodyRows s (fieldsOf p xs))
+  body-alone = rw (numbers-alone (numbersIn (p .header .kind)))
 
 -- ---- the three runs of fields
-module _ (n s : ℕ) (p : Parts) (f : ℕ → Entry) (whole seen : ℕ) (head : Verdict) (isHead : head ≡ firstWrong (headRows n s (fieldsOf p))) where
-  pub head-wrong : (a u : ℕ) → head ≡ Wrong a u → Wrong a u ≡ messageWrong n s (fieldsFrom p f) whole seen
+module _ (n s : ℕ) (p : Parts) (xs b : List ℕ) (look : Look) (head : Verdict) (isHead : head ≡ firstWrong (headRows n s (fieldsOf p []))) where
+  pub head-wrong : (a u : ℕ) → head ≡ Wrong a u → Wrong a u ≡ wrongIn n s p xs b look
   unfolding messageWrong andThen
   head-wrong a u e = rw (sym isHead ∙ e)
 
-  module _ (fine : head ≡ Fine) (body : Verdict) (isBody : body ≡ firstWrong (bodyRows s (fieldsOf p))) where
-    pub body-wrong : (a u : ℕ) → body ≡ Wrong a u → Wrong a u ≡ messageWrong n s (fieldsFrom p f) whole seen
-    unfolding messageWrong andThen
-    body-wrong a u e = rw (sym isHead ∙ fine, sym isBody ∙ e)
+  module _ (fine : head ≡ Fine) (body : Verdict) (isBody : body ≡ firstWrong (bodyRows s (fieldsOf p xs))) where
+    is-body : firstWrong (bodyRows s (fieldsFrom p xs (rowIn b (look .at)))) ≡ firstWrong (bodyRows s (fieldsOf p xs))
+    is-body = body-alone s p xs (rowIn b (look .at))
 
-    pub rest-wrong : (v : Verdict) → body ≡ Fine → v ≡ entriesWrong s (fieldsFrom (headed (p .header)) f) whole seen → v ≡ messageWrong n s (fieldsFrom p f) whole seen
+    pub body-wrong : (a u : ℕ) → body ≡ Wrong a u → Wrong a u ≡ wrongIn n s p xs b look
     unfolding messageWrong andThen
-    rest-wrong v e q = rw (sym isHead ∙ fine, sym isBody ∙ e) (q ∙ sym (entries-head s p f whole seen))
+    body-wrong a u e = rw (sym isHead ∙ fine, is-body ∙ sym isBody ∙ e)
+
+    pub rest-wrong : (v : Verdict) → body ≡ Fine → v ≡ entriesWrong s (fieldsFrom (headed (p .header)) [] (rowIn b (look .at))) (look .whole) (look .seen) → v ≡ wrongIn n s p xs b look
+    unfolding messageWrong andThen
+    rest-wrong v e q = rw (sym isHead ∙ fine, is-body ∙ sym isBody ∙ e) (q ∙ sym (entries-head s p xs (rowIn b (look .at)) (look .whole) (look .seen)))
