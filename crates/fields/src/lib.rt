@@ -25,10 +25,15 @@ use rules::Verdict;
 
 // The kinds whose fields are limited each in its own way.
 const TRANSACTION: u8 = 1;
+
 const NOTE: u8 = 3;
+
 const FAST_REPLY: u8 = 5;
+
 const VOTE: u8 = 8;
+
 const VERIFY_REPLY: u8 = 19;
+
 const TICK: u8 = 23;
 
 // The greatest timestamp.

@@ -19,10 +19,11 @@ left-out (Refused number) c o = refl
 
 -- what is left says the answer itself, and every byte of state and buffer
 pub left-one : (x y : Answer) (c d o u : List ℕ) → left x c o ≡ left y d u → (x ≡ y) × (c ≡ d) × (o ≡ u)
-left-one x y c d o u e =
-    (left-answer x y c d o u e
-    , sym (left-state x c o) ∙ ap (λ (l : Left). l .state) e ∙ left-state y d u
-    , sym (left-out x c o) ∙ ap (λ (l : Left). l .out) e ∙ left-out y d u)
+left-one x y c d o u e = (
+  left-answer x y c d o u e,
+  sym (left-state x c o) ∙ ap (λ (l : Left). l .state) e ∙ left-state y d u,
+  sym (left-out x c o) ∙ ap (λ (l : Left). l .out) e ∙ left-out y d u,
+)
 
 -- a member is started in one way: one answer, and one memory
 pub start-one : (sh : Shape) (k r : ℕ) (b : List ℕ) (x y : Answer) (c d : List ℕ) → left x c [] ≡ startBytes sh k r b → left y d [] ≡ startBytes sh k r b → (x ≡ y) × (c ≡ d)

@@ -222,7 +222,7 @@ pub extern "C" fn jallumere_write(
     out: &mut [u8],
 ) -> u64
     ensures { λ r. ⌜ (let g = given kind «to_group» «to_mask» «from_group» «from_replica» view in
-    Puts (writesFrom n s g (now (numbers .entry)) (now (views .entry)) (now (entries .entry)) (now (out .entry))) r (now (out .exit))) ⌝ }
+        Puts (writesFrom n s g (now (numbers .entry)) (now (views .entry)) (now (entries .entry)) (now (out .entry))) r (now (out .exit))) ⌝ }
 {
     if !is_narrow(kind, to_group, to_mask, from_group, from_replica, view) {
         return unfit(n, s);

@@ -5,7 +5,6 @@ use mathlib.Core.Bool.{Bool, true, false, _&&_, not}
 use mathlib.Core.List.{List, [], _∷_}
 use native.Mathlib.Omega.{arith}
 use lib.ListN.{length, take, getD}
-use lib.Seq.{getD-take}
 use lib.Dec.{eqb, ltb, leb}
 use borrow.Author.Tests.{eq-eqb, lt-ltb, ltb-true, le-leb, lt-leb, not-true, not-false}
 use Rattle.octets.specs.Bytes.{num, items, splice}
@@ -90,13 +89,11 @@ module _ (n s : ℕ) (m : Message) (views entries : List ℕ) where
       unfolding formed
       wrong-off a u h = refuses (λ f. not-fine a u (sym h ∙ given ∙ is-fine _ (and-r (wide (wireFrom m views entries)) _ (parts-are n s m views entries f .right))))
 
-      module _ (bv : Bytes views) (be : Bytes entries) (wv : 4 * (length views / 4) ≡ length views) (we : 24 * count ≡ length entries) (few : count < 4294967296) (view : p .header .view < 4294967296) (each : (i : ℕ) → getD (p .numbers) i 0 < 18446744073709551616) where
+      module _ (bv : Bytes views) (be : Bytes entries) (wv : 4 * (length views / 4) ≡ length views) (we : 24 * count ≡ length entries) (few : count < 4294967296) (view : p .header .view < 4294967296) (each : (i : ℕ) → getD (take (p .count - 0) (p .numbers)) i 0 < 2 ^ 64) where
         number-wide : (i : ℕ) → i < length (numbersOf m) → ltb (getD (numbersOf m) i 0) (2 ^ 64) ≡ true
         number-wide i h =
-            let same : getD (numbersOf m) i 0 ≡ getD (saidOf m .numbers) i 0 =
-            ap (λ (ys : List ℕ). getD ys i 0) (sym (numbers-said m)) ∙ getD-take (length (numbersOf m)) (saidOf m .numbers) i 0 h in
-            let l : getD (saidOf m .numbers) i 0 < 18446744073709551616 = rw e at (each i) in
-            let w : getD (numbersOf m) i 0 < 18446744073709551616 = rw same l in
+            let whole : p .count - 0 ≡ p .count = omega arith in
+            let w : getD (numbersOf m) i 0 < 2 ^ 64 = rw (whole, e, numbers-said m) at (each i) in
             lt-ltb _ _ w
 
         view-wide : (i : ℕ) → i < length views / 4 → ltb (num views (0 + 4 * i) 4) (2 ^ 32) ≡ true

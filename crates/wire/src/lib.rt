@@ -3,7 +3,7 @@ pub mod decode;
 
 ghost use mathlib.Core.Path.{_≡_};
 ghost use Prim.Native.Nat.{ℕ, _+_, _*_, _^_, _≤_, _<_};
-ghost use lib.ListN.{length};
+ghost use lib.ListN.{length, getD};
 ghost use Rattle.rules.specs.Read as reading;
 ghost use Rattle.rules.specs.Wire as kinds;
 ghost use Rattle.rules.specs.Write as writing;
@@ -15,6 +15,7 @@ use kinds::numbers_in;
 use rules::Answer;
 use rules::Message;
 use rules::Verdict;
+use rules::refusal;
 use verdicts::Look;
 
 // How many entries from `from` on the bytes have room for.
@@ -48,6 +49,13 @@ pub fn read(n: u64, s: u64, b: &[u8]) -> Message
     decode::judged(b.len(), end, decode::case_with(h, numbers), v)
 }
 
+// That each number fits its 64 bits is known of a slice that is a parameter, and of an array in a struct it is not.
+fn known_wide(numbers: &[u64])
+    ensures { λ _. ⌜ ((i : ℕ) → getD (now (numbers .entry)) i 0 < 2 ^ 64) ⌝ }
+{
+    let _first = fields::number_of(numbers, 0);
+}
+
 // Whether the case is that of its header, the blocks are whole, and the message is well formed.
 fn parts_formed(n: u64, s: u64, m: Message, views: &[u8], entries: &[u8]) -> bool
     requires { ⌜ s ≤ 8 ⌝ }
@@ -78,7 +86,12 @@ fn parts_formed(n: u64, s: u64, m: Message, views: &[u8], entries: &[u8]) -> boo
     };
     let room = said.numbers;
     let most = said.count;
-    let look = Look { at: 0, whole: count, seen: count };
+    let look = Look {
+        at: 0,
+        whole: count,
+        seen: count,
+    };
+    known_wide(&room[0..most]);
     let v = verdicts::message_wrong(n, s, p, &room[0..most], entries, look);
     match v {
         Verdict::Fine => true,
@@ -100,13 +113,13 @@ pub fn write(n: u64, s: u64, m: Message, views: &[u8], entries: &[u8], out: &mut
     ensures { λ r. ⌜ writing.written r (now (out .exit)) ≡ writing.writes n s m (now (views .entry)) (now (entries .entry)) (now (out .entry)) ⌝ }
 {
     if !group::sizes_fit(n, s) {
-        return Answer::Refused(1);
+        return Answer::Refused(refusal::WRONG_STATE);
     }
     if !parts_formed(n, s, m, views, entries) {
-        return Answer::Refused(2);
+        return Answer::Refused(refusal::MALFORMED);
     }
     if out.len() < size_of(m, views.len(), entries.len()) {
-        return Answer::Refused(9);
+        return Answer::Refused(refusal::NO_ROOM);
     }
     let end = writer::put_message(out, 0, m, views, entries);
     Answer::Done(end)
