@@ -184,6 +184,41 @@ fn numbers_have_their_names() {
     assert_eq!(named(|number| Field::from_number(number).map(Field::number)), (1..=10).collect::<Vec<_>>());
 }
 
+/// `TimestampNote` of a kind with number 3 stands in the header as `JALLUMERE_TIMESTAMP_NOTE = 3`.
+fn stands_in_header(prefix: &str, name: String, number: u64) -> bool {
+    let mut line = format!("JALLUMERE{prefix}");
+    for letter in name.chars() {
+        if letter.is_uppercase() {
+            line.push('_');
+        }
+        line.extend(letter.to_uppercase());
+    }
+    line.push_str(&format!(" = {number}"));
+    let header = include_str!("../../../include/jallumere.h");
+    header
+        .lines()
+        .any(|stands| stands.trim().strip_prefix(&line).is_some_and(|rest| !rest.starts_with(|c: char| c.is_ascii_digit())))
+}
+
+#[test]
+fn names_are_those_of_the_header() {
+    for number in 0..=255 {
+        let named = [
+            Kind::from_number(number).map(|kind| ("", format!("{kind:?}"))),
+            Refusal::from_number(number).map(|refusal| ("", format!("{refusal:?}"))),
+            Status::from_number(number).map(|status| ("_STATUS", format!("{status:?}"))),
+            Field::from_number(number).map(|field| ("_FIELD", format!("{field:?}"))),
+        ];
+        for (prefix, name) in named.into_iter().flatten() {
+            assert!(stands_in_header(prefix, name.clone(), number), "{prefix} {name} {number}");
+        }
+    }
+    assert!(!stands_in_header("", "Tick".into(), 2));
+    let version: Vec<u64> = env!("CARGO_PKG_VERSION").split('.').map(|part| part.parse().unwrap()).collect();
+    assert_eq!(version[0] * 10_000 + version[1] * 100 + version[2], VERSION);
+    assert!(include_str!("../../../include/jallumere.h").contains(&format!("#define JALLUMERE_VERSION {VERSION}\n")));
+}
+
 #[test]
 fn an_answer_is_a_number_and_a_length() {
     let answer = Answer::from_code(36 * 256);
