@@ -185,8 +185,8 @@ uint64_t jallumere_message_length(uint64_t n, uint64_t s, const uint8_t *bytes, 
  * JALLUMERE_MALFORMED where the message would be malformed (a field that does not fit into its bytes is out of
  * range) and JALLUMERE_NO_ROOM where `out` is too short; the lowest that applies. `first`, `second`, `third` are
  * the kind's numbers in their order; those that the kind does not have are not looked at. `views` is the gVec, 4
- * bytes a group, `entries` the entries, 24 bytes each, both as they stand in a message and without their counts;
- * a length that is no multiple of 4 or 24 is malformed.
+ * bytes a group, `entries` the entries, 24 bytes each (timestamp 8, command 8, request 4, coordinator 2, mask 2),
+ * both as they stand in a message and without their counts; a length that is no multiple of 4 or 24 is malformed.
  */
 uint64_t jallumere_write(uint64_t n, uint64_t s, uint64_t kind, uint64_t to_group, uint64_t to_mask,
                          uint64_t from_group, uint64_t from_replica, uint64_t view, uint64_t first,

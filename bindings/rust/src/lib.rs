@@ -132,6 +132,19 @@ pub struct Entry {
     pub mask: u64,
 }
 
+impl Entry {
+    /// Its bytes as they stand in a message; none where a number does not fit into its bytes.
+    pub fn bytes(&self) -> Option<[u8; ENTRY_LENGTH]> {
+        let mut bytes = [0; ENTRY_LENGTH];
+        bytes[..8].copy_from_slice(&self.timestamp.to_le_bytes());
+        bytes[8..16].copy_from_slice(&self.command.to_le_bytes());
+        bytes[16..20].copy_from_slice(&u32::try_from(self.request).ok()?.to_le_bytes());
+        bytes[20..22].copy_from_slice(&u16::try_from(self.coordinator).ok()?.to_le_bytes());
+        bytes[22..].copy_from_slice(&u16::try_from(self.mask).ok()?.to_le_bytes());
+        Some(bytes)
+    }
+}
+
 /// Writes the fresh state of site `replica` of group `group` over all of `state`, whatever stood there. It is for a site's
 /// first start ever: one that has lost its state must not be started afresh, since it would forget what it promised.
 pub fn start(sizes: Sizes, group: u64, replica: u64, state: &mut [u8]) -> Result<(), Refusal> {

@@ -30,11 +30,8 @@ fn kinds(sent: &[u8]) -> Vec<u8> {
     messages(SIZES, sent).map(|message| message[0]).collect()
 }
 
-fn transaction(request: u32, to_mask: u64) -> Vec<u8> {
-    let mut entry = [0; 24];
-    entry[8..16].copy_from_slice(&77u64.to_le_bytes());
-    entry[16..20].copy_from_slice(&request.to_le_bytes());
-    entry[22] = 1;
+fn transaction(request: u64, to_mask: u64) -> Vec<u8> {
+    let entry = Entry { timestamp: 0, command: 77, request, coordinator: 0, mask: 1 }.bytes().unwrap();
     bytes_of(&Message { numbers: [10, 20, 0], entries: &entry, ..Message::from_outside(Kind::Transaction, 0, to_mask) })
 }
 
@@ -260,6 +257,17 @@ fn fields_say_what_steps_did() {
     assert_eq!(said(&leader), [0, 0, 2, 7, 0, 31, 1, 0, 1, 2]);
     assert_eq!(status(SIZES, &leader), Some(Status::ViewChange));
     assert_eq!((group_view(SIZES, 0, &leader), group_view(SIZES, 1, &leader)), (Some(5), None));
+}
+
+#[test]
+fn an_entry_has_its_bytes() {
+    let entry = Entry { timestamp: 1, command: u64::MAX, request: 0x0403_0201, coordinator: 0x0605, mask: 0x80 };
+    let bytes = entry.bytes().unwrap();
+    assert_eq!(bytes[..8], [1, 0, 0, 0, 0, 0, 0, 0]);
+    assert_eq!(bytes[8..], [255, 255, 255, 255, 255, 255, 255, 255, 1, 2, 3, 4, 5, 6, 0x80, 0]);
+    assert_eq!(Entry { request: 1 << 32, ..entry }.bytes(), None);
+    assert_eq!(Entry { coordinator: 1 << 16, ..entry }.bytes(), None);
+    assert_eq!(Entry { mask: 1 << 16, ..entry }.bytes(), None);
 }
 
 #[test]
