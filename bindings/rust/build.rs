@@ -1,4 +1,5 @@
-//! Links the core: the archive that `rt staticlib replica` writes, or the archive or object that JALLUMERE_CORE names.
+//! Links the core: the archive that `rt staticlib replica` writes, the archive or object that JALLUMERE_CORE names, or the
+//! C model where JALLUMERE_CORE is `model`.
 //!
 //! Checking and documenting need no core, and a build script cannot tell them from building. So where there is none it
 //! warns and goes on; the functions then have names that tell the linker's user what is missing (src/raw.rs).
@@ -22,10 +23,29 @@ fn go_without(why: &str, words: &str) {
     println!("cargo:rustc-cfg=jallumere_core=\"{why}\"");
 }
 
+/// The C model as an object.
+fn compile_model(root: &Path) -> PathBuf {
+    let object = PathBuf::from(variable("OUT_DIR")).join("model-core.o");
+    let (include, hosts) = (root.join("include"), root.join("hosts"));
+    for folder in [&include, &hosts.join("common"), &hosts.join("model")] {
+        println!("cargo:rerun-if-changed={}", folder.display());
+    }
+    let compiler = env::var_os("CC").unwrap_or_else(|| "cc".into());
+    let mut command = Command::new(compiler);
+    command.args(["-std=c11", "-O2", "-fPIC", "-c", "-I"]).arg(include).arg("-I").arg(hosts.join("common"));
+    match command.arg("-o").arg(&object).arg(hosts.join("model/core.c")).status() {
+        Ok(status) if status.success() => object,
+        _ => stop("the C model could not be compiled; CC names the compiler, 'cc' otherwise"),
+    }
+}
+
 /// The core that is to be linked. A relative JALLUMERE_CORE is meant from the repository's root, as `./jallumere` takes
 /// it when called there, and one that names nothing is a mistake, which is said at once.
 fn find_core(root: &Path) -> Option<PathBuf> {
     if let Some(named) = env::var_os("JALLUMERE_CORE").filter(|named| !named.is_empty()) {
+        if named == "model" {
+            return Some(compile_model(root));
+        }
         let path = root.join(named);
         if !path.is_file() {
             stop(&format!("missing: JALLUMERE_CORE names '{}', which is no file", path.display()));
