@@ -44,7 +44,7 @@ enum { STEPS_EACH = 250, FALLS = 20, COMES_BACK = 44, TAKEN_IN = 50, FILLS = 58,
 
 const char program_name[] = "simulate";
 
-static uint64_t seed = 1, sites_each = 3, groups = 1, capacity = 48, loss = 5, repeats = 5, steps_most;
+static uint64_t seed = 1, sites_each = 3, groups = 1, capacity = 32, loss = 5, repeats = 5, steps_most;
 static const char *page_path, *states_path;
 static bool quiet;
 
@@ -84,14 +84,10 @@ typedef struct {
     uint8_t *bytes;
     size_t length;
     message told;
-    int from; /* a site, or one of FROM_ */
+    int from;        /* a site, or one of FROM_ */
+    unsigned status; /* that the site had then */
+    bool answered;   /* of a transaction: the group has placed it */
 } letter;
-
-typedef struct {
-    unsigned send_time;
-    entry asked;
-    uint64_t unanswered; /* groups of its mask that are still to answer */
-} request;
 
 typedef struct event event;
 
@@ -99,8 +95,8 @@ struct event {
     unsigned at;
     void (*happen)(const event *);
     int site;     /* or -1 for a coordinator */
-    size_t which; /* letter, request or view */
-    unsigned count, sent_at;
+    size_t which; /* letter or view */
+    unsigned sent_at;
     bool again;
 };
 
@@ -108,13 +104,14 @@ static layout at;
 static site sites[SITES_MOST];
 static letter *letters;
 static event *events; /* the next one last */
-static request *requests;
-static size_t site_count, letter_count, event_count, request_count, outgoing_room;
+static size_t *asked; /* the letters that are transactions */
+static size_t site_count, letter_count, event_count, asked_count, outgoing_room;
 static uint8_t *before, *outgoing, *outgoing_before;
 static unsigned now, step_count, lost_count, again_count, sent_counts[KINDS], answers[ANSWERS];
 
-/* What the view manager has planned last. */
-static unsigned planned_view;
+/* How far the plot has come, and what the view manager has planned last. */
+static enum { CALM, SILENCE, RETURN, REUNITED, FILLING, STOPPED } scene;
+static unsigned act, acts, planned_view;
 static uint8_t planned_views[4 * GROUPS_MOST];
 
 /* Memory for one more of something; a list doubles when it is full. */
@@ -126,13 +123,6 @@ static void *grown(void *list, size_t count, size_t width)
     if (list == NULL)
         stop("out of memory");
     return list;
-}
-
-static uint8_t *copied(const uint8_t *bytes, size_t length)
-{
-    uint8_t *own = memory(length);
-    copy(own, bytes, length);
-    return own;
 }
 
 static int site_of(uint64_t group, uint64_t replica)
@@ -224,24 +214,6 @@ static const char *const page[] = {
 #include "page.h"
 };
 
-static void put_data(FILE *to)
-{
-    fprintf(to, "{\"n\":%u,\"s\":%u,\"c\":%u,\"seed\":%" PRIu64 ",\"loss\":%u,\"steps\":%u,\"end\":%u",
-            (unsigned)at.n, (unsigned)at.s, (unsigned)at.c, seed, (unsigned)loss, step_count, now);
-    for (int list = 0; list < LISTS; list++) {
-        fclose(lists[list].rows);
-        fprintf(to, ",\n\"%s\":[%s]", lists[list].name, lists[list].text);
-    }
-    for (size_t i = 0; i < site_count; i++) {
-        const standing *is = &sites[i].is;
-        fprintf(to, "%s[%zu,%u,%u,%d,%u,%u,[", i == 0 ? ",\n\"g\":[" : ",\n", i, is->status, is->view,
-                leads(&sites[i]), is->sync, is->commit);
-        put_entries(to, sites[i].state + at.log + 4, 0, is->logged);
-        fprintf(to, "]]");
-    }
-    fprintf(to, "]}\n");
-}
-
 /* ---- what is said ------------------------------------------------------------------------------------ */
 
 /* One line of the timeline, of a site or of none (-1). */
@@ -280,11 +252,12 @@ static void fails(int of, const char *format, ...)
 /* ---- the network ------------------------------------------------------------------------------------- */
 
 static void deliver(const event *of);
-static void send_again(const event *of);
 
 static size_t keep_letter(const uint8_t *bytes, size_t length, int from)
 {
-    letter made = {.bytes = copied(bytes, length), .length = length, .from = from};
+    letter made = {.bytes = memory(length), .length = length, .from = from};
+    made.status = from < 0 ? 0 : sites[from].is.status;
+    memcpy(made.bytes, bytes, length);
     if (!take_apart(made.bytes, length, &made.told))
         fails(from, "a message of kind %u has other counts than its length", bytes[0]);
     letters = grown(letters, letter_count, sizeof *letters);
@@ -312,20 +285,40 @@ static void send_to(size_t which, int to, bool again)
     }
 }
 
-/* To every site that the header names. Hosts send again what the protocol sends once and cannot do without. */
+/* To every site that the header names. */
 static void send_out(size_t which, bool again)
 {
     const message told = letters[which].told;
-    bool needed = told.kind == JALLUMERE_TIMESTAMP_NOTE || told.kind == JALLUMERE_CHANGE_VIEW ||
-                  told.kind == JALLUMERE_VOTE || told.kind == JALLUMERE_START_VIEW ||
-                  told.kind == JALLUMERE_VERIFY_REQUEST;
     if (told.to_group == JALLUMERE_OUTSIDE)
         send_to(which, -1, again);
     for (uint64_t replica = 0; told.to_group != JALLUMERE_OUTSIDE && replica < at.n; replica++)
         if ((told.to_mask >> replica & 1) == 1)
             send_to(which, site_of(told.to_group, replica), again);
-    for (unsigned i = 1; i <= RESENDS && needed; i++)
-        plan((event){.at = now + i * RESEND_TIME, .happen = send_again, .which = which});
+}
+
+/* A site sends again while it is in the view and the status in which it sent, the manager while no other view is
+ * planned, a coordinator until it is answered or gives up. */
+static void send_again(const event *of)
+{
+    const letter *again = &letters[of->which];
+    const standing *is = &sites[again->from < 0 ? 0 : again->from].is;
+    bool needed = again->from == FROM_COORDINATORS ? !again->answered && scene != STOPPED
+                  : again->from == FROM_MANAGER    ? again->told.view == planned_view
+                                                   : is->view == again->told.view && is->status == again->status;
+    if (needed && (again->from < 0 || !sites[again->from].silent))
+        send_out(of->which, true);
+}
+
+/* What the protocol sends once and cannot do without is sent again later. */
+static void send_first(size_t which)
+{
+    uint64_t kind = letters[which].told.kind;
+    bool asks = kind == JALLUMERE_TRANSACTION;
+    bool needed = asks || kind == JALLUMERE_TIMESTAMP_NOTE || kind == JALLUMERE_CHANGE_VIEW ||
+                  kind == JALLUMERE_VOTE || kind == JALLUMERE_START_VIEW || kind == JALLUMERE_VERIFY_REQUEST;
+    send_out(which, false);
+    for (unsigned i = 1; needed && i <= (asks ? RETRIES : RESENDS); i++)
+        plan((event){.at = now + i * (asks ? RETRY_TIME : RESEND_TIME), .happen = send_again, .which = which});
 }
 
 /* A message from outside to some replicas of a group, written by the core's writer. */
@@ -359,7 +352,7 @@ typedef struct {
 static history histories[GROUPS_MOST][VIEWS_MOST];
 static rebuilt *rebuilts;
 static size_t rebuilt_count;
-static unsigned checks_made;
+static unsigned checks_made, committed_most[GROUPS_MOST];
 
 static bool same_entries(const uint8_t *log, const uint8_t *other, unsigned count)
 {
@@ -389,7 +382,8 @@ static void keep_rebuilt(int of, const uint8_t *table, bool at_start)
         uint64_t last_normal = vote[0] == 1 ? load(vote + AT_VOTE_LAST_NORMAL, 4) : 0;
         made.base = last_normal > made.base ? (unsigned)last_normal : made.base;
     }
-    made.log = copied(table + 4, ENTRY_LENGTH * made.count);
+    made.log = memory(ENTRY_LENGTH * made.count);
+    copy(made.log, table + 4, ENTRY_LENGTH * made.count);
     rebuilts = grown(rebuilts, rebuilt_count, sizeof *rebuilts);
     rebuilts[rebuilt_count++] = made;
     for (unsigned base = 0; base < made.view; base++)
@@ -428,20 +422,9 @@ static void check_points(int of)
               reached_by(is->group, is->commit), (unsigned)at.n);
     if (is->commit > view->committed) {
         view->committed = is->commit;
+        if (is->commit > committed_most[is->group])
+            committed_most[is->group] = is->commit;
         check_rebuilts(of, is->group, is->last_normal);
-    }
-}
-
-/* Reads a state as a host does, by the core; and its readers against the model's, for a wrong number too. */
-static void look(int of)
-{
-    const site *own = &sites[of];
-    for (uint64_t field = 1; field <= JALLUMERE_FIELD_LEADER + 1; field++) {
-        uint64_t says = jallumere_field(at.n, at.s, at.c, field, own->state, at.length);
-        if (says != model_field(at.n, at.s, at.c, field, own->state, at.length))
-            fails(of, "the reader of field %u does not say what stands in its state", (unsigned)field);
-        if (field <= JALLUMERE_FIELD_LEADER)
-            sites[of].is.fields[field - 1] = (unsigned)says;
     }
 }
 
@@ -474,7 +457,7 @@ static void take_outgoing(int of, size_t length)
             fails(of, "it sent a message in another's name");
         if (told->kind == JALLUMERE_FAST_REPLY)
             check_digest(of, told);
-        send_out(which, false);
+        send_first(which);
     }
 }
 
@@ -510,23 +493,33 @@ static void check_refusal(int of, const message *told, unsigned refusal)
         fails(of, "refusal %u (%s) for a kind %u", refusal, answer_name(refusal), (unsigned)told->kind);
     if (memcmp(before, own->state, at.length) != 0)
         fails(of, "a refusal changed its state");
-    if (refusal != JALLUMERE_FULL || told->kind != JALLUMERE_TICK)
+    if (refusal != JALLUMERE_FULL)
         return;
-    if (load(own->state + at.log, 4) != at.c)
+    if (told->kind != JALLUMERE_TICK)
+        note(of, "has no room for what a %s brings: refusal 8", kind_name(told->kind));
+    else if (load(own->state + at.log, 4) != at.c)
         fails(of, "refusal 8 for a tick, with room in its log");
-    if (!own->full)
+    else if (!own->full)
         note(of, "is FULL: its log has %u entries, %u of them committed, and one more is due: refusal 8",
              own->is.logged, own->is.commit);
-    own->full = true;
+    own->full = own->full || told->kind == JALLUMERE_TICK;
 }
 
+/* Reads the state as a host does, by the core, and holds its readers against the model's; for a wrong number too.
+ */
 static void check_done(int of, const message *told)
 {
     site *own = &sites[of];
     own->was = own->is;
     if (jallumere_good(at.n, at.s, at.c, own->state, at.length) != 0)
         fails(of, "its state is not good after a kind %u", (unsigned)told->kind);
-    look(of);
+    for (uint64_t field = 1; field <= JALLUMERE_FIELD_LEADER + 1; field++) {
+        uint64_t says = jallumere_field(at.n, at.s, at.c, field, own->state, at.length);
+        if (says != model_field(at.n, at.s, at.c, field, own->state, at.length))
+            fails(of, "the reader of field %u does not say what stands in its state", (unsigned)field);
+        if (field <= JALLUMERE_FIELD_LEADER)
+            own->is.fields[field - 1] = (unsigned)says;
+    }
     check_points(of);
     if (own->is.status == JALLUMERE_STATUS_CROSS_SHARD && own->was.status != JALLUMERE_STATUS_CROSS_SHARD)
         keep_rebuilt(of, own->state + at.draft, false);
@@ -561,32 +554,9 @@ static unsigned take_step(int of, size_t which)
     return refusal;
 }
 
-/* ---- coordinators ------------------------------------------------------------------------------------ */
+/* ---- coordinators, clocks and the view manager ------------------------------------------------------- */
 
-static enum { CALM, SILENCE, RETURN, REUNITED, FILLING, STOPPED } scene;
-static unsigned act, acts, asked_of[GROUPS_MOST]; /* transactions sent to each group */
-
-static void send_request(const request *of, bool again)
-{
-    uint8_t written[ENTRY_LENGTH];
-    message made = message_of_kind(JALLUMERE_TRANSACTION, at.s);
-    write_entry(written, of->asked);
-    made.entries = written;
-    made.count = 1;
-    made.numbers[0] = of->send_time;
-    made.numbers[1] = BOUND;
-    for (uint64_t group = 0; group < at.s; group++)
-        if ((of->unanswered >> group & 1) == 1)
-            send_out(write_letter(&made, group, (UINT64_C(1) << at.n) - 1, FROM_COORDINATORS), again);
-}
-
-static void retry(const event *of)
-{
-    if (requests[of->which].unanswered == 0 || of->count > RETRIES || scene == STOPPED)
-        return;
-    send_request(&requests[of->which], true);
-    plan((event){.at = now + RETRY_TIME, .happen = retry, .which = of->which, .count = of->count + 1});
-}
+static unsigned transaction_count, asked_of[GROUPS_MOST]; /* transactions sent to each group */
 
 /* The groups that may still be asked; before the logs are filled a quarter of each is kept free. */
 static uint64_t open_groups(void)
@@ -598,53 +568,41 @@ static uint64_t open_groups(void)
     return scene == STOPPED ? 0 : open;
 }
 
-/* " 2" or " 0 1". */
-static const char *groups_named(uint64_t mask)
-{
-    static char text[2 * GROUPS_MOST + 1];
-    size_t length = 0;
-    for (unsigned group = 0; group < GROUPS_MOST; group++)
-        if ((mask >> group & 1) == 1)
-            length += (size_t)snprintf(text + length, sizeof text - length, " %u", group);
-    return text;
-}
-
 static void submit(const event *of)
 {
     static unsigned last[COORDINATORS];
-    request made = {.send_time = now, .asked = {.command = draw() >> 32, .coordinator = below(COORDINATORS)}};
-    uint64_t mask = 1 + below((UINT64_C(1) << at.s) - 1);
+    uint8_t written[ENTRY_LENGTH];
+    char named[4 * GROUPS_MOST] = "";
+    message made = message_of_kind(JALLUMERE_TRANSACTION, at.s);
+    entry sent = {.command = draw() >> 32, .coordinator = below(COORDINATORS)};
+    sent.mask = 1 + below((UINT64_C(1) << at.s) - 1);
     if (groups > 2 && below(3) != 0) /* mostly in one group or two */
-        mask = UINT64_C(1) << below(at.s) | UINT64_C(1) << below(at.s);
+        sent.mask = UINT64_C(1) << below(at.s) | UINT64_C(1) << below(at.s);
+    sent.mask &= open_groups();
     plan((event){.at = now + (unsigned)(scene == FILLING ? 1 + below(16 / at.s) : 25 + below(40)),
                  .happen = of->happen});
-    made.asked.mask = made.unanswered = mask & open_groups();
-    if (made.asked.mask == 0)
+    if (sent.mask == 0)
         return;
-    made.asked.request = ++last[made.asked.coordinator];
+    sent.request = ++last[sent.coordinator];
+    for (unsigned group = 0; group < at.s; group++)
+        if ((sent.mask >> group & 1) == 1)
+            snprintf(named + strlen(named), sizeof named - strlen(named), " %u", group);
+    note(-1, "coordinator %u sends transaction %u.%u to group%s, due at %u", (unsigned)sent.coordinator,
+         (unsigned)sent.coordinator, (unsigned)sent.request, named, now + BOUND);
+    transaction_count++;
+    write_entry(written, sent);
+    made.entries = written;
+    made.count = 1;
+    made.numbers[0] = now;
+    made.numbers[1] = BOUND;
     for (uint64_t group = 0; group < at.s; group++)
-        asked_of[group] += made.asked.mask >> group & 1;
-    requests = grown(requests, request_count, sizeof *requests);
-    requests[request_count] = made;
-    note(-1, "coordinator %u sends transaction %u.%u to group%s, due at %u", (unsigned)made.asked.coordinator,
-         (unsigned)made.asked.coordinator, (unsigned)made.asked.request, groups_named(made.asked.mask),
-         now + BOUND);
-    send_request(&made, false);
-    plan((event){.at = now + RETRY_TIME, .happen = retry, .which = request_count++, .count = 1});
+        if ((sent.mask >> group & 1) == 1) {
+            asked_of[group]++;
+            asked = grown(asked, asked_count, sizeof *asked);
+            asked[asked_count] = write_letter(&made, group, (UINT64_C(1) << at.n) - 1, FROM_COORDINATORS);
+            send_first(asked[asked_count++]);
+        }
 }
-
-/* A coordinator hears a slow reply, or a fast one of the leader that has placed the transaction. */
-static void hear_reply(const message *told)
-{
-    entry named = read_entry(told->entries);
-    bool leader = told->from_replica == leader_of(told->views, told->from_group, at.n);
-    for (request *each = requests; each < requests + request_count; each++)
-        if (each->asked.coordinator == named.coordinator && each->asked.request == named.request &&
-            (told->kind == JALLUMERE_SLOW_REPLY || (leader && told->numbers[0] == 1)))
-            each->unanswered &= ~(UINT64_C(1) << told->from_group);
-}
-
-/* ---- clocks and the view manager --------------------------------------------------------------------- */
 
 static void tick(const event *of)
 {
@@ -654,20 +612,6 @@ static void tick(const event *of)
     plan((event){.at = now + TICK_TIME, .happen = tick, .site = of->site});
     if (!own->silent)
         take_step(of->site, write_letter(&made, own->is.group, UINT64_C(1) << own->is.replica, FROM_CLOCK));
-}
-
-/* Whether a majority of each group has started the planned view. */
-static bool view_stands(void)
-{
-    bool stands = true;
-    for (uint64_t group = 0; group < at.s; group++) {
-        unsigned started = 0;
-        for (const site *each = &sites[site_of(group, 0)]; each < &sites[site_of(group + 1, 0)]; each++)
-            started +=
-                each->is.status == JALLUMERE_STATUS_NORMAL && each->is.view == planned_view && !each->silent;
-        stands = stands && started >= majority_of(at.n);
-    }
-    return stands;
 }
 
 static void watch(const event *of);
@@ -690,13 +634,21 @@ static void plan_view(const event *of)
     note(-1, "the view manager plans view %u, leader of group 0 is replica %u", planned_view,
          (unsigned)leader_of(planned_views, 0, at.n));
     for (uint64_t group = 0; group < at.s; group++)
-        send_out(write_letter(&made, group, (UINT64_C(1) << at.n) - 1, FROM_MANAGER), false);
+        send_first(write_letter(&made, group, (UINT64_C(1) << at.n) - 1, FROM_MANAGER));
     plan((event){.at = now + WATCH_TIME, .happen = watch, .which = planned_view});
 }
 
+/* The manager gives a view up that a majority of some group has not started. */
 static void watch(const event *of)
 {
-    if (of->which != planned_view || view_stands())
+    bool stands = true;
+    for (uint64_t group = 0; group < at.s; group++) {
+        unsigned started = 0;
+        for (const site *each = &sites[site_of(group, 0)]; each < &sites[site_of(group + 1, 0)]; each++)
+            started += each->is.status == JALLUMERE_STATUS_NORMAL && each->is.view == of->which && !each->silent;
+        stands = stands && started >= majority_of(at.n);
+    }
+    if (of->which != planned_view || stands)
         return;
     note(-1, "view %u has not come to stand", planned_view);
     plan_view(of);
@@ -750,64 +702,54 @@ static void follow_plot(void)
     }
 }
 
-static bool in_early(const uint8_t *state, const uint8_t *named)
+/* A coordinator hears a slow reply, or a fast one of the leader that has placed the transaction. */
+static void hear_reply(const message *told)
 {
-    bool found = false;
-    for (uint64_t i = 0; i < load(state + at.early, 4); i++)
-        found = found || memcmp(state + at.early + entry_place(i) + AT_TRANSACTION, named + AT_TRANSACTION,
-                                TRANSACTION_LENGTH) == 0;
-    return found;
-}
-
-/* Whether a host would send a letter to a site again, by its own site's state; the manager by who has entered. */
-static bool still_needed(const letter *of, const site *to)
-{
-    const message *told = &of->told;
-    if (told->kind == JALLUMERE_CHANGE_VIEW)
-        return told->view == planned_view && to->is.view < told->view;
-    const site *own = &sites[of->from];
-    if (own->silent || own->is.view != told->view)
-        return false;
-    switch (told->kind) {
-    case JALLUMERE_TIMESTAMP_NOTE:
-        return in_early(own->state, told->entries);
-    case JALLUMERE_VOTE:
-        return own->is.status == JALLUMERE_STATUS_VIEW_CHANGE;
-    case JALLUMERE_START_VIEW:
-        return own->state[heard_place(&at, to->is.replica)] == 0;
-    default:
-        return own->is.status == JALLUMERE_STATUS_CROSS_SHARD && own->state[reply_place(&at, told->to_group)] == 0;
-    }
-}
-
-static void send_again(const event *of)
-{
-    const letter again = letters[of->which];
-    for (uint64_t replica = 0; replica < at.n; replica++) {
-        int to = site_of(again.told.to_group, replica);
-        if ((again.told.to_mask >> replica & 1) == 1 && still_needed(&again, &sites[to]))
-            send_to(of->which, to, true);
+    bool leader = told->from_replica == leader_of(told->views, told->from_group, at.n);
+    for (size_t i = 0; i < asked_count; i++) {
+        letter *each = &letters[asked[i]];
+        if (each->told.to_group == told->from_group &&
+            (told->kind == JALLUMERE_SLOW_REPLY || (leader && told->numbers[0] == 1)) &&
+            memcmp(each->told.entries + AT_TRANSACTION, told->entries + AT_TRANSACTION, TRANSACTION_LENGTH) == 0)
+            each->answered = true;
     }
 }
 
 static void deliver(const event *of)
 {
-    if (of->site < 0) {
+    if (of->site < 0)
         hear_reply(&letters[of->which].told);
-        put_way(of, ARRIVED, JALLUMERE_DONE);
-    } else if (sites[of->site].silent)
+    if (of->site >= 0 && sites[of->site].silent)
         put_way(of, UNHEARD, -1);
     else
-        put_way(of, ARRIVED, (int)take_step(of->site, of->which));
+        put_way(of, ARRIVED, of->site < 0 ? 0 : (int)take_step(of->site, of->which));
 }
 
 /* ---- the end ----------------------------------------------------------------------------------------- */
 
-static void write_page(FILE *to)
+static void put_data(FILE *to)
 {
     for (size_t i = 0; i < event_count; i++)
         if (events[i].happen == deliver)
             put_way(&events[i], ARRIVED, -1);
+    fprintf(to, "{\"n\":%u,\"s\":%u,\"c\":%u,\"seed\":%" PRIu64 ",\"loss\":%u,\"steps\":%u,\"end\":%u",
+            (unsigned)at.n, (unsigned)at.s, (unsigned)at.c, seed, (unsigned)loss, step_count, now);
+    for (int list = 0; list < LISTS; list++) {
+        fclose(lists[list].rows);
+        fprintf(to, ",\n\"%s\":[%s]", lists[list].name, lists[list].text);
+    }
+    for (size_t i = 0; i < site_count; i++) {
+        const standing *is = &sites[i].is;
+        fprintf(to, "%s[%zu,%u,%u,%d,%u,%u,[", i == 0 ? ",\n\"g\":[" : ",\n", i, is->status, is->view,
+                leads(&sites[i]), is->sync, is->commit);
+        put_entries(to, sites[i].state + at.log + 4, 0, is->logged);
+        fprintf(to, "]]");
+    }
+    fprintf(to, "]}\n");
+}
+
+static void write_page(FILE *to)
+{
     for (size_t i = 0; i < sizeof page / sizeof *page; i++)
         if (strcmp(page[i], "@DATA@\n") == 0)
             put_data(to);
@@ -848,14 +790,6 @@ static void print_log(const site *own)
     printf("\n");
 }
 
-static unsigned committed_in(uint64_t group)
-{
-    unsigned most = 0;
-    for (unsigned view = 0; view <= planned_view; view++)
-        most = histories[group][view].committed > most ? histories[group][view].committed : most;
-    return most;
-}
-
 static void print_summary(void)
 {
     unsigned committed = 0, unanswered = 0;
@@ -863,13 +797,13 @@ static void print_summary(void)
            "another\n");
     for (size_t i = 0; i < site_count; i++)
         print_log(&sites[i]);
-    for (size_t i = 0; i < request_count; i++)
-        unanswered += requests[i].unanswered != 0;
+    for (size_t i = 0; i < asked_count; i++)
+        unanswered += !letters[asked[i]].answered;
     for (uint64_t group = 0; group < at.s; group++)
-        committed += committed_in(group);
-    printf("\n%u steps in %u ms; %zu transactions, %u of them unanswered; %zu messages sent, %u ways lost, "
+        committed += committed_most[group];
+    printf("\n%u steps in %u ms; %u transactions, %u not answered by a group; %zu messages sent, %u ways lost, "
            "%u repeated; %u views after the first; %u entries committed\nanswers:",
-           step_count, now, request_count, unanswered, letter_count - sent_counts[JALLUMERE_TICK], lost_count,
+           step_count, now, transaction_count, unanswered, letter_count - sent_counts[JALLUMERE_TICK], lost_count,
            again_count, planned_view, committed);
     for (unsigned i = 0; i < ANSWERS; i++)
         if (answers[i] != 0)
@@ -896,11 +830,9 @@ static void start_site(int which)
     own->state = memory(at.length);
     memset(own->state, 0xa5, at.length);
     if (jallumere_start(at.n, at.s, at.c, (uint64_t)which / at.n, (uint64_t)which % at.n, own->state, at.length) !=
-            0 ||
-        jallumere_good(at.n, at.s, at.c, own->state, at.length) != 0)
-        fails(which, "a fresh state is not good");
-    look(which);
-    check_points(which);
+        0)
+        fails(which, "a member cannot be started");
+    check_done(which, &(message){0});
     plan((event){.at = 1 + (unsigned)below(TICK_TIME), .happen = tick, .site = which});
 }
 
