@@ -149,7 +149,7 @@ void show_progress(uint64_t done, uint64_t wanted, const char *what)
     if (time - last < (last == 0 ? 2 : terminal ? 0.5 : 5))
         return;
     last = time;
-    fprintf(stderr, "%s%s: %" PRIu64 " of %" PRIu64 " %s, %.0f s%s", terminal ? "\r" : "", program_name, done, wanted,
-            what, time, terminal ? " " : "\n");
+    fprintf(stderr, "%s%s: %" PRIu64 " of %" PRIu64 " %s, %.0f s%s", terminal ? "\r" : "", program_name, done,
+            wanted, what, time, terminal ? " " : "\n");
     fflush(stderr);
 }

@@ -31,7 +31,8 @@ typedef struct {
     bool *flag;
 } option;
 
-/* Options end with one without a name. The word that is no option goes to `bare`; where that is NULL there is none. */
+/* Options end with one without a name. The word that is no option goes to `bare`; where that is NULL there is
+ * none. */
 void read_words(int count, char **words, const option *options, const char **bare);
 
 /* ---- chance ------------------------------------------------------------------------------------------- */
@@ -47,8 +48,8 @@ bool chance(uint64_t percent);
 double seconds(void);
 
 /*
- * How far a long run has come, on the standard error: on a terminal one line that changes, elsewhere a line now and
- * then; nothing in the first two seconds.
+ * How far a long run has come, on the standard error: on a terminal one line that changes, elsewhere a line now
+ * and then; nothing in the first two seconds.
  */
 void show_progress(uint64_t done, uint64_t wanted, const char *what);
 

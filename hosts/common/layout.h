@@ -42,6 +42,26 @@ enum {
 enum { AT_COMMAND = 8, AT_TRANSACTION = 16, AT_COORDINATOR = 20, AT_MASK = 22 };
 enum { AT_VOTE_LAST_NORMAL = 1, AT_VOTE_SYNC = 5 };
 
+/* Where the fields of the state's head and of an entry stand, and their width, by the number that the core's
+ * readers take. */
+typedef struct {
+    uint8_t at, width;
+} field_place;
+
+static const field_place head_fields[] = {[JALLUMERE_FIELD_GROUP] = {AT_GROUP, 1},
+                                          [JALLUMERE_FIELD_REPLICA] = {AT_REPLICA, 1},
+                                          [JALLUMERE_FIELD_STATUS] = {AT_STATUS, 1},
+                                          [JALLUMERE_FIELD_VIEW] = {AT_VIEW, 4},
+                                          [JALLUMERE_FIELD_LAST_NORMAL_VIEW] = {AT_LAST_NORMAL, 4},
+                                          [JALLUMERE_FIELD_CLOCK] = {AT_CLOCK, 8},
+                                          [JALLUMERE_FIELD_SYNC_POINT] = {AT_SYNC, 8},
+                                          [JALLUMERE_FIELD_COMMIT_POINT] = {AT_COMMIT, 8}};
+static const field_place entry_fields[] = {[JALLUMERE_ENTRY_TIMESTAMP] = {0, 8},
+                                           [JALLUMERE_ENTRY_COMMAND] = {AT_COMMAND, 8},
+                                           [JALLUMERE_ENTRY_REQUEST] = {AT_TRANSACTION, 4},
+                                           [JALLUMERE_ENTRY_COORDINATOR] = {AT_COORDINATOR, 2},
+                                           [JALLUMERE_ENTRY_MASK] = {AT_MASK, 2}};
+
 #define GREATEST_TIMESTAMP UINT64_C(0x7fffffffffffffff)
 #define TRANSACTION_BITS UINT64_C(0x0000ffffffffffff)
 
@@ -226,8 +246,7 @@ static inline uint64_t leader_of(const uint8_t *views, uint64_t group, uint64_t 
 
 static inline bool state_leads(const layout *at, const uint8_t *state)
 {
-    return state[AT_GROUP] < at->s &&
-           leader_of(state + at->views, state[AT_GROUP], at->n) == state[AT_REPLICA];
+    return state[AT_GROUP] < at->s && leader_of(state + at->views, state[AT_GROUP], at->n) == state[AT_REPLICA];
 }
 
 static inline uint64_t majority_of(uint64_t n)

@@ -1,5 +1,6 @@
 /*
- * Messages: which sections each kind has, their making and taking apart, and the names of kinds, answers and statuses.
+ * Messages: which sections each kind has, their making and taking apart, and the names of kinds, answers and
+ * statuses.
  */
 #ifndef MESSAGES_H
 #define MESSAGES_H
@@ -46,8 +47,8 @@ static inline const char *kind_name(uint64_t kind)
 static inline const char *answer_name(uint64_t answer)
 {
     static const char *const names[ANSWERS] = {
-        "done",       "wrong size or state", "malformed",    "not addressed here", "wrong view", "wrong status",
-        "wrong role", "nothing to do now",   "no room left", "outgoing too short"};
+        "done",         "wrong size or state", "malformed",         "not addressed here", "wrong view",
+        "wrong status", "wrong role",          "nothing to do now", "no room left",       "outgoing too short"};
     return answer < ANSWERS ? names[answer] : "unknown number";
 }
 
@@ -77,7 +78,7 @@ static inline message message_of_kind(uint64_t kind, uint64_t s)
     return made;
 }
 
-/* Everything before the entries, their count included; and all of it. */
+/* Everything before the entries, their count included; all of it; and the same by kind. */
 static inline size_t opening_length(uint64_t view_count, uint64_t number_count)
 {
     return HEADER_LENGTH + 4 + 4 * (size_t)view_count + 4 + 8 * (size_t)number_count + 4;
@@ -86,6 +87,11 @@ static inline size_t opening_length(uint64_t view_count, uint64_t number_count)
 static inline size_t length_of(const message *made)
 {
     return opening_length(made->view_count, made->number_count) + ENTRY_LENGTH * (size_t)made->count;
+}
+
+static inline size_t length_of_kind(uint64_t kind, uint64_t s, uint64_t count)
+{
+    return opening_length(forms[kind].has_views ? s : 0, forms[kind].numbers) + ENTRY_LENGTH * (size_t)count;
 }
 
 /* Writes everything before the entries and gives the place where they go. */
@@ -116,7 +122,8 @@ static inline uint8_t *put_message(uint8_t *to, const message *made)
     return to + ENTRY_LENGTH * made->count;
 }
 
-/* Takes a message apart by its counts; false where they do not fit its length. The three zeros are not looked at. */
+/* Takes a message apart by its counts; false where they do not fit its length. The three zeros are not looked at.
+ */
 static inline bool take_apart(const uint8_t *bytes, size_t length, message *told)
 {
     if (length < opening_length(0, 0))
