@@ -6,10 +6,9 @@
  * all cells; the copies are restored outside of the timed part, and the best of all turns counts. The answers, the
  * next states and the outgoing bytes are compared on the way, and each answer is the one that its row names.
  *
- * ./jallumere bench --help lists the options. 0; 1 if core and model differ or an answer is another; 2 for bad
- * usage.
+ * ./jallumere bench --help lists the options and tells the exit status.
  */
-#define _POSIX_C_SOURCE 200809L
+#define _GNU_SOURCE
 
 #include "../common/host.h"
 #include "../common/messages.h"
@@ -195,8 +194,7 @@ static void put_early(const scene *now, const row *of)
     }
 }
 
-/* In a change of view: votes of the first replicas; or a draft, and replies of the first groups that are others.
- */
+/* In a change of view: votes of the first replicas; or a draft, and replies of the first other groups. */
 static void put_change(const scene *now, const row *of)
 {
     uint64_t held = amount_of(of->held, &now->at);
@@ -242,8 +240,7 @@ static void put_state(scene *now, const row *of)
 static void put_section(const scene *now, const row *of, const message *made, uint8_t *table)
 {
     const uint64_t c = now->at.c, positions[] = {[NEW] = 3 * c, [FIRST_EARLY] = c, [LAST_EARLY] = c + c / 8 - 1};
-    bool of_another = of->kind == JALLUMERE_VOTE || of->kind == JALLUMERE_VERIFY_REPLY;
-    if (of_another)
+    if (of->kind == JALLUMERE_VOTE || of->kind == JALLUMERE_VERIFY_REPLY)
         put_other_log(now, table, made->from_group + made->from_replica);
     else if (forms[of->kind].entries == ANY_LOG)
         put_entries(now, table, 0, now->logged + amount_of(of->adds, &now->at));
@@ -290,10 +287,8 @@ static void put_row(scene *now, const row *of)
 
 /* ---- measuring ---------------------------------------------------------------------------------------- */
 
-typedef uint64_t step_function(uint64_t, uint64_t, uint64_t, uint8_t *, size_t, const uint8_t *, size_t, uint8_t *,
-                               size_t);
-
-static step_function *const steps[2] = {jallumere_step, model_step};
+static uint64_t (*const steps[2])(uint64_t, uint64_t, uint64_t, uint8_t *, size_t, const uint8_t *, size_t,
+                                  uint8_t *, size_t) = {jallumere_step, model_step};
 
 /* Nanoseconds of core and model; 0 before they are measured. What reading the clock takes of a measured time. */
 static double cells[SHAPES][ROWS][CAPACITIES][FILLS][2], clock_time;
@@ -307,15 +302,6 @@ static double thread_time(void)
     struct timespec time;
     clock_gettime(CLOCK_THREAD_CPUTIME_ID, &time);
     return 1e9 * (double)time.tv_sec + (double)time.tv_nsec;
-}
-
-static void measure_clock(void)
-{
-    clock_time = 1e300;
-    for (int i = 0; i < 1000; i++) {
-        double before = thread_time(), taken = thread_time() - before;
-        clock_time = taken < clock_time ? taken : clock_time;
-    }
 }
 
 static double time_side(const scene *now, int side, size_t count, uint64_t *answer)
@@ -388,14 +374,13 @@ static void measure_all(void)
         copies[side] = memory(most.length > COPIES_BYTES ? most.length : COPIES_BYTES);
         out[side] = memory(outgoing_room(&most));
     }
-    measure_clock();
+    clock_time = 1e300;
+    for (int i = 0; i < 1000; i++) {
+        double begin = thread_time(), taken = thread_time() - begin;
+        clock_time = taken < clock_time ? taken : clock_time;
+    }
     for (int at = 0; at < PASSES * SHAPES * CAPACITIES; at++)
         measure_some(&now, at / CAPACITIES % SHAPES, at % CAPACITIES);
-}
-
-static double ratio_of(const double found[2])
-{
-    return found[0] / found[1];
 }
 
 /* ---- the figures -------------------------------------------------------------------------------------- */
@@ -414,7 +399,7 @@ static void put_csv(void)
             printf("%u,\"%s\",%u,%u,%u,%s,%u,%.3f,%.3f,%.3f\n", rows[which].kind, rows[which].name,
                    (unsigned)shapes[shape][0], (unsigned)shapes[shape][1], (unsigned)capacities[capacity],
                    fill_names[fill], answer_of(which, sixteenths[fill]), found[0] / unit, found[1] / unit,
-                   ratio_of(found));
+                   found[0] / found[1]);
     }
 }
 
@@ -451,40 +436,35 @@ static void put_processor(FILE *to)
             sysconf(_SC_NPROCESSORS_ONLN));
 }
 
-/* By Newton's rule, from above. */
-static double root_of(double product, int degree, double from)
-{
-    for (int i = 0; i < 60; i++) {
-        double rest = product;
-        for (int factor = 1; factor < degree; factor++)
-            rest /= from;
-        from += (rest - from) / degree;
-    }
-    return from;
-}
-
-/* For each shape from one on: the least, the mean and the greatest ratio of a row, over the capacities up to one.
- */
+/* The least, the mean and the greatest ratio, for each shape from one on, over the capacities up to one. */
 static void put_spread(FILE *to, int shape, unsigned which, int capacity)
 {
     for (; shape < SHAPES; shape++) {
-        int count = can_happen(which, shape) ? (capacity + 1) * SHOWN : 0;
+        if (!can_happen(which, shape)) {
+            fprintf(to, " | | |");
+            continue;
+        }
+        const int count = (capacity + 1) * SHOWN;
         double least = 1e300, most = 0, product = 1;
         for (int at = 0; at < count; at++) {
-            double ratio = ratio_of(cells[shape][which][at / SHOWN][shown[at % SHOWN]]);
+            const double *found = cells[shape][which][at / SHOWN][shown[at % SHOWN]];
+            double ratio = found[0] / found[1];
             least = ratio < least ? ratio : least;
             most = ratio > most ? ratio : most;
             product *= ratio;
         }
-        if (count == 0)
-            fprintf(to, " | | |");
-        else
-            fprintf(to, " %.2f | %.2f | %.2f |", least, root_of(product, count, most), most);
+        double mean = most; /* the product's root, by Newton's rule from above */
+        for (int i = 0; i < 60; i++) {
+            double rest = product;
+            for (int factor = 1; factor < count; factor++)
+                rest /= mean;
+            mean += (rest - mean) / count;
+        }
+        fprintf(to, " %.2f | %.2f | %.2f |", least, mean, most);
     }
 }
 
-/* Full beside empty; what the second half of a log costs beside the first; full beside full at the capacity
- * before. */
+/* Full beside empty; the cost of a log's second half beside the first; full beside full at the capacity before. */
 static void put_growth(FILE *to, int shape, unsigned which, int capacity)
 {
     for (int side = 0; side < 2; side++) {
@@ -511,14 +491,12 @@ static void put_cells(FILE *to, int shape, unsigned which, int capacity)
         bool refused = answer_of(which, sixteenths[shown[i]]) != rows[which].answer;
         if (!ratios_alone)
             fprintf(to, " %18s | %9s |", grouped(found[0], one), grouped(found[1], other));
-        fprintf(to, " %5.2f%s |", ratio_of(found), refused ? " (7)" : "    ");
+        fprintf(to, " %5.2f%s |", found[0] / found[1], refused ? " (7)" : "    ");
     }
 }
 
-typedef void columns(FILE *to, int shape, unsigned which, int capacity);
-
 /* A table with a line for each row that can happen. The columns are those that the head names. */
-static void put_table(FILE *to, const char *head, int shape, int capacity, columns *put)
+static void put_table(FILE *to, const char *head, int shape, int capacity, void (*put)(FILE *, int, unsigned, int))
 {
     fprintf(to, "| kind | step                    |%s\n|--:|---|", head);
     for (const char *bar = strchr(head, '|'); bar != NULL; bar = strchr(bar + 1, '|'))
@@ -575,38 +553,25 @@ static void put_markdown(FILE *to)
 
 static const char mark[] = "<!-- figures -->\n";
 
-static char *behind_mark(char *text, const char *path)
-{
-    char *found = strstr(text, mark);
-    if (found == NULL)
-        stop("'%s' has no two lines '<!-- figures -->' to put the tables between", path);
-    return found + strlen(mark);
-}
-
-/* Read before anything is measured, so that a wrong page costs no time. */
-static char *read_page(const char *path)
+/* Puts the tables between the two marks of a page; before they are measured it only looks for the marks. */
+static void fill_page(const char *path, bool measured)
 {
     size_t length;
-    uint8_t *bytes = read_file(path, &length);
-    char *text = memory(length + 1);
-    memcpy(text, bytes, length);
-    free(bytes);
-    behind_mark(behind_mark(text, path), path);
-    return text;
-}
-
-static void write_page(char *text, const char *path)
-{
-    FILE *to = fopen(path, "w");
-    char *first = behind_mark(text, path), *second = behind_mark(first, path);
-    if (to == NULL)
+    char *text = (char *)read_file(path, &length);
+    char *first = memmem(text, length, mark, strlen(mark));
+    char *second =
+        first == NULL ? NULL : memmem(first + 1, length - (size_t)(first + 1 - text), mark, strlen(mark));
+    if (second == NULL)
+        stop("'%s' has no two lines '<!-- figures -->' to put the tables between", path);
+    FILE *to = measured ? fopen(path, "w") : NULL;
+    if (to != NULL) {
+        fprintf(to, "%.*s%s\n", (int)(first - text), text, mark);
+        put_markdown(to);
+        fprintf(to, "\n%.*s", (int)(text + length - second), second);
+    }
+    if (measured && (to == NULL || ferror(to) != 0 || fclose(to) != 0))
         stop("'%s' cannot be written", path);
-    fprintf(to, "%.*s\n", (int)(first - text), text);
-    put_markdown(to);
-    fprintf(to, "\n%s%s", mark, second);
-    if (ferror(to) | fclose(to))
-        stop("'%s' cannot be written", path);
-    fprintf(stderr, "bench: wrote %s\n", path);
+    free(text);
 }
 
 int main(int count, char **words)
@@ -622,7 +587,8 @@ int main(int count, char **words)
         {NULL, .flag = NULL},
     };
     read_words(count, words, options, NULL);
-    char *page = into == NULL ? NULL : read_page(into);
+    if (into != NULL)
+        fill_page(into, false);
     seconds();
     measure_all();
     if (csv)
@@ -632,7 +598,6 @@ int main(int count, char **words)
     else if (into == NULL)
         put_all_cells(stdout);
     if (into != NULL)
-        write_page(page, into);
-    free(page);
+        fill_page(into, true);
     return 0;
 }
