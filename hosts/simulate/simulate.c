@@ -74,9 +74,9 @@ typedef union {
 
 typedef struct {
     uint8_t *state;
-    standing was, is;  /* before and after its last step */
-    bool silent, full; /* full: a tick has been refused with 8 */
-    unsigned skew;     /* its clock is this much ahead */
+    standing was, is;         /* before and after its last step */
+    bool leads, silent, full; /* full: a tick has been refused with 8 */
+    unsigned skew;            /* its clock is this much ahead */
 } site;
 
 /* A message that was sent; what it says points into its bytes. */
@@ -136,11 +136,6 @@ static site *planned_leader(uint64_t group)
     return &sites[site_of(group, leader_of(planned_views, group, at.n))];
 }
 
-static bool leads(const site *own)
-{
-    return own->is.leader == own->is.replica;
-}
-
 /* Of events at the same time the one that was planned first comes first. */
 static void plan(event made)
 {
@@ -151,54 +146,57 @@ static void plan(event made)
     events[place] = made;
 }
 
-/* ---- the page: lists of rows, written as things happen ------------------------------------------------ */
+/* ---- the page: rows of five lists, written as things happen ------------------------------------------- */
 
-enum { LETTERS, WAYS, TURNS, REMARKS, LISTS };
+/* The lines of page.html as strings, made by the build; the rows go in place of the line @DATA@. */
+static const char *const page[] = {
+#include "page.h"
+};
 
-static struct {
-    const char *name;
-    FILE *rows; /* NULL where no page is asked for */
-    char *text;
-    size_t length;
-} lists[LISTS] = {{.name = "m"}, {.name = "x"}, {.name = "p"}, {.name = "e"}};
+static FILE *page_file; /* NULL where no page is asked for */
 
-static FILE *next_row(int list)
+static void put_page(bool behind)
 {
-    if (lists[list].rows != NULL && ftell(lists[list].rows) != 0)
-        fputs(",\n", lists[list].rows);
-    return lists[list].rows;
+    bool there = !behind;
+    for (size_t i = 0; i < sizeof page / sizeof *page; i++)
+        if (strcmp(page[i], "@DATA@\n") == 0)
+            there = behind;
+        else if (there)
+            fputs(page[i], page_file);
 }
 
-static void put_row(int list, size_t count, const int64_t *numbers)
+static void put_row(const char *list, size_t count, const int64_t *numbers)
 {
-    FILE *to = next_row(list);
-    for (size_t i = 0; to != NULL && i < count; i++)
-        fprintf(to, "%s%" PRId64 "%s", i == 0 ? "[" : ",", numbers[i], i + 1 == count ? "]" : "");
+    if (page_file == NULL)
+        return;
+    fprintf(page_file, "[\"%s\"", list);
+    for (size_t i = 0; i < count; i++)
+        fprintf(page_file, ",%" PRId64, numbers[i]);
+    fprintf(page_file, "],\n");
 }
 
-static void put_entries(FILE *to, const uint8_t *entries, uint64_t first, uint64_t count)
+static void put_entries(const uint8_t *entries, uint64_t first, uint64_t count)
 {
     for (uint64_t i = first; i < count; i++) {
         entry read = read_entry(entries + ENTRY_LENGTH * i);
-        fprintf(to, "%s[%" PRIu64 ",%u,%u,%u]", i == first ? "" : ",", read.timestamp, (unsigned)read.coordinator,
-                (unsigned)read.request, (unsigned)read.mask);
+        fprintf(page_file, "%s[%" PRIu64 ",%u,%u,%u]", i == first ? "" : ",", read.timestamp,
+                (unsigned)read.coordinator, (unsigned)read.request, (unsigned)read.mask);
     }
+    fprintf(page_file, "]],\n");
 }
 
 static void put_letter(const message *told, int from)
 {
-    FILE *to = next_row(LETTERS);
-    if (to == NULL)
+    if (page_file == NULL)
         return;
-    fprintf(to, "[%u,%d,%u,[", (unsigned)told->kind, from, (unsigned)told->view);
+    fprintf(page_file, "[\"m\",%u,%d,%u,[", (unsigned)told->kind, from, (unsigned)told->view);
     for (uint64_t i = 0; i < told->number_count; i++)
-        fprintf(to, "%s\"%" PRIu64 "\"", i == 0 ? "" : ",", told->numbers[i]);
-    fprintf(to, "],[");
+        fprintf(page_file, "%s\"%" PRIu64 "\"", i == 0 ? "" : ",", told->numbers[i]);
+    fprintf(page_file, "],[");
     for (uint64_t i = 0; i < told->view_count; i++)
-        fprintf(to, "%s%u", i == 0 ? "" : ",", (unsigned)load(told->views + 4 * i, 4));
-    fprintf(to, "],%u,[", (unsigned)told->count);
-    put_entries(to, told->entries, told->count > SHOWN_ENTRIES ? told->count - SHOWN_ENTRIES : 0, told->count);
-    fprintf(to, "]]");
+        fprintf(page_file, "%s%u", i == 0 ? "" : ",", (unsigned)load(told->views + 4 * i, 4));
+    fprintf(page_file, "],%u,[", (unsigned)told->count);
+    put_entries(told->entries, told->count > SHOWN_ENTRIES ? told->count - SHOWN_ENTRIES : 0, told->count);
 }
 
 enum fate { ARRIVED, LOST, UNHEARD };
@@ -206,13 +204,8 @@ enum fate { ARRIVED, LOST, UNHEARD };
 /* One way of one letter to one site; the answer is -1 where there is none. */
 static void put_way(const event *of, enum fate fate, int answer)
 {
-    put_row(WAYS, 7, (int64_t[]){of->which, of->site, of->sent_at, of->at, fate, of->again, answer});
+    put_row("x", 7, (int64_t[]){of->which, of->site, of->sent_at, of->at, fate, of->again, answer});
 }
-
-/* The lines of page.html as strings, made by the build; the run's data goes in place of the line @DATA@. */
-static const char *const page[] = {
-#include "page.h"
-};
 
 /* ---- what is said ------------------------------------------------------------------------------------ */
 
@@ -224,8 +217,8 @@ static void note(int of, const char *format, ...)
     va_start(words, format);
     vsnprintf(text, sizeof text, format, words);
     va_end(words);
-    if (next_row(REMARKS) != NULL)
-        fprintf(lists[REMARKS].rows, "[%u,%d,\"%s\"]", now, of, text);
+    if (page_file != NULL)
+        fprintf(page_file, "[\"e\",%u,%d,\"%s\"],\n", now, of, text);
     if (of >= 0)
         snprintf(name, sizeof name, "g%u.r%u", sites[of].is.group, sites[of].is.replica);
     if (!quiet)
@@ -403,10 +396,12 @@ static void check_points(int of)
 {
     const standing *is = &sites[of].is;
     const uint8_t *log = sites[of].state + at.log + 4;
-    history *view = &histories[is->group][is->last_normal];
+    history *view = &histories[is->group][is->last_normal % VIEWS_MOST];
     bool starts = view->log == NULL;
     checks_made += 2;
-    if (is->status == JALLUMERE_STATUS_NORMAL && leads(&sites[of])) {
+    if (is->view > planned_view || is->last_normal > is->view)
+        fails(of, "it is in view %u after view %u, which nobody planned", is->view, is->last_normal);
+    if (is->status == JALLUMERE_STATUS_NORMAL && sites[of].leads) {
         if (view->count > is->logged || !same_entries(log, view->log, view->count))
             fails(of, "the leader's log of view %u did not only grow", is->last_normal);
         view->log = starts ? memory(at.table) : view->log;
@@ -430,16 +425,14 @@ static void check_points(int of)
 
 /* ---- a step ------------------------------------------------------------------------------------------ */
 
-/* A fast reply's digest, by FNV-1a as published. */
+/* A fast reply's digest, by the model's FNV-1a and by the core's. */
 static void check_digest(int of, const message *reply)
 {
     const uint8_t *log = sites[of].state + at.log + 4;
     uint64_t position = reply->numbers[0] == 1 ? reply->numbers[1] : sites[of].is.logged;
-    uint64_t digest = JALLUMERE_DIGEST_START;
-    for (size_t i = 0; i < ENTRY_LENGTH * position; i++)
-        digest = (digest ^ log[i]) * UINT64_C(0x100000001b3);
-    if (reply->numbers[2] != digest ||
-        jallumere_digest(JALLUMERE_DIGEST_START, log, ENTRY_LENGTH * position) != digest)
+    size_t length = position > sites[of].is.logged ? 0 : ENTRY_LENGTH * (size_t)position;
+    uint64_t digest = model_digest(JALLUMERE_DIGEST_START, log, length);
+    if (reply->numbers[2] != digest || jallumere_digest(JALLUMERE_DIGEST_START, log, length) != digest)
         fails(of, "a fast reply's digest is not that of its log up to position %u", (unsigned)position);
 }
 
@@ -465,7 +458,7 @@ static void take_outgoing(int of, size_t length)
 static void tell(int of, const message *told)
 {
     const standing *was = &sites[of].was, *is = &sites[of].is;
-    bool leader = leads(&sites[of]), started = is->last_normal != was->last_normal;
+    bool leader = sites[of].leads, started = is->last_normal != was->last_normal;
     if (is->view != was->view && !started)
         note(of, "enters view %u%s", is->view, leader ? " as its leader" : ", votes");
     if (is->status == JALLUMERE_STATUS_CROSS_SHARD && was->status != JALLUMERE_STATUS_CROSS_SHARD)
@@ -520,6 +513,7 @@ static void check_done(int of, const message *told)
         if (field <= JALLUMERE_FIELD_LEADER)
             own->is.fields[field - 1] = (unsigned)says;
     }
+    own->leads = own->is.leader == own->is.replica;
     check_points(of);
     if (own->is.status == JALLUMERE_STATUS_CROSS_SHARD && own->was.status != JALLUMERE_STATUS_CROSS_SHARD)
         keep_rebuilt(of, own->state + at.draft, false);
@@ -547,9 +541,9 @@ static unsigned take_step(int of, size_t which)
         check_done(of, &taken.told);
     else
         check_refusal(of, &taken.told, refusal);
-    put_row(TURNS, 13,
+    put_row("p", 13,
             (int64_t[]){now, of, which, refusal, is->status, is->view, is->logged, is->sync, is->commit,
-                        load(state + at.early, 4), load(state + at.late, 4), leads(&sites[of]), length});
+                        load(state + at.early, 4), load(state + at.late, 4), sites[of].leads, length});
     take_outgoing(of, length);
     return refusal;
 }
@@ -654,21 +648,19 @@ static void watch(const event *of)
     plan_view(of);
 }
 
-/* What the last entries of the full logs wait for. */
+/* While ticks are refused no follower tells its sync point. */
 static void settle(const event *of)
 {
     for (uint64_t group = 0; group < at.s; group++) {
         const standing *is = &planned_leader(group)->is;
-        note(
-            -1,
-            "group %u has %u entries, %u of them committed. With one due every tick is refused with 8 and no sync "
-            "status goes out: the last %u wait for the next view",
-            is->group, is->logged, is->commit, is->logged - is->commit);
+        note(-1,
+             "group %u has %u entries, %u of them committed; no sync status goes out, the last %u wait for a view",
+             is->group, is->logged, is->commit, is->logged - is->commit);
     }
     plan_view(of);
 }
 
-/* In each act a leader falls silent, comes back and is taken in again. At the end of the last the logs are filled.
+/* In each act a leader falls silent, comes back and is taken in again; at the end of the last the logs are filled.
  */
 static void follow_plot(void)
 {
@@ -727,35 +719,21 @@ static void deliver(const event *of)
 
 /* ---- the end ----------------------------------------------------------------------------------------- */
 
-static void put_data(FILE *to)
+/* The rest of the page: what is still on its way, the logs, and what the whole run was. */
+static void end_page(void)
 {
     for (size_t i = 0; i < event_count; i++)
         if (events[i].happen == deliver)
             put_way(&events[i], ARRIVED, -1);
-    fprintf(to, "{\"n\":%u,\"s\":%u,\"c\":%u,\"seed\":%" PRIu64 ",\"loss\":%u,\"steps\":%u,\"end\":%u",
+    for (const site *each = sites; each < sites + site_count; each++) {
+        fprintf(page_file, "[\"g\",%d,%u,%u,%d,%u,%u,[", (int)(each - sites), each->is.status, each->is.view,
+                each->leads, each->is.sync, each->is.commit);
+        put_entries(each->state + at.log + 4, 0, each->is.logged);
+    }
+    fprintf(page_file, "{\"n\":%u,\"s\":%u,\"c\":%u,\"seed\":%" PRIu64 ",\"loss\":%u,\"steps\":%u,\"end\":%u}]\n",
             (unsigned)at.n, (unsigned)at.s, (unsigned)at.c, seed, (unsigned)loss, step_count, now);
-    for (int list = 0; list < LISTS; list++) {
-        fclose(lists[list].rows);
-        fprintf(to, ",\n\"%s\":[%s]", lists[list].name, lists[list].text);
-    }
-    for (size_t i = 0; i < site_count; i++) {
-        const standing *is = &sites[i].is;
-        fprintf(to, "%s[%zu,%u,%u,%d,%u,%u,[", i == 0 ? ",\n\"g\":[" : ",\n", i, is->status, is->view,
-                leads(&sites[i]), is->sync, is->commit);
-        put_entries(to, sites[i].state + at.log + 4, 0, is->logged);
-        fprintf(to, "]]");
-    }
-    fprintf(to, "]}\n");
-}
-
-static void write_page(FILE *to)
-{
-    for (size_t i = 0; i < sizeof page / sizeof *page; i++)
-        if (strcmp(page[i], "@DATA@\n") == 0)
-            put_data(to);
-        else
-            fputs(page[i], to);
-    if (ferror(to) | fclose(to))
+    put_page(true);
+    if (ferror(page_file) | fclose(page_file))
         stop("'%s' cannot be written", page_path);
     printf("\nthe run as a page: %s\n", page_path);
 }
@@ -778,7 +756,7 @@ static void print_log(const site *own)
                                       JALLUMERE_ENTRY_TIMESTAMP};
     const standing *is = &own->is;
     printf("g%u.r%u %s, %s in view %u%s; log %u, sync %u, commit %u\n   ", is->group, is->replica,
-           leads(own) ? "leader" : "follower", status_name(is->status), is->view, own->silent ? ", silent" : "",
+           own->leads ? "leader" : "follower", status_name(is->status), is->view, own->silent ? ", silent" : "",
            is->logged, is->sync, is->commit);
     for (unsigned position = 0; position <= is->logged; position++) {
         for (unsigned i = 0; i < 3 && position != 0; i++)
@@ -823,19 +801,6 @@ static void print_summary(void)
 
 /* ---- the beginning ----------------------------------------------------------------------------------- */
 
-static void start_site(int which)
-{
-    site *own = &sites[which];
-    own->skew = (unsigned)below(4);
-    own->state = memory(at.length);
-    memset(own->state, 0xa5, at.length);
-    if (jallumere_start(at.n, at.s, at.c, (uint64_t)which / at.n, (uint64_t)which % at.n, own->state, at.length) !=
-        0)
-        fails(which, "a member cannot be started");
-    check_done(which, &(message){0});
-    plan((event){.at = 1 + (unsigned)below(TICK_TIME), .happen = tick, .site = which});
-}
-
 static void start_all(void)
 {
     unsigned usual = (unsigned)(STEPS_EACH * sites_each * groups);
@@ -855,22 +820,28 @@ static void start_all(void)
     outgoing = memory(outgoing_room);
     outgoing_before = memory(outgoing_room);
     memset(outgoing_before, 0xa5, outgoing_room);
-    for (int list = 0; page_path != NULL && list < LISTS; list++)
-        if ((lists[list].rows = open_memstream(&lists[list].text, &lists[list].length)) == NULL)
-            stop("out of memory");
-    for (size_t i = 0; i < site_count; i++)
-        start_site((int)i);
+    for (int i = 0; i < (int)site_count; i++) {
+        sites[i].skew = (unsigned)below(4);
+        sites[i].state = memory(at.length);
+        memset(sites[i].state, 0xa5, at.length);
+        if (jallumere_start(at.n, at.s, at.c, (uint64_t)i / at.n, (uint64_t)i % at.n, sites[i].state, at.length) !=
+            0)
+            fails(i, "it cannot be started");
+        check_done(i, &(message){0});
+        plan((event){.at = 1 + (unsigned)below(TICK_TIME), .happen = tick, .site = i});
+    }
     plan((event){.at = 5, .happen = submit});
 }
 
 int main(int count, char **words)
 {
-    FILE *page_file = NULL;
     read_words(count, words, options, NULL);
     if (sites_each % 2 == 0)
         stop("--sites takes 3, 5 or 7");
     if (page_path != NULL && (page_file = fopen(page_path, "w")) == NULL)
         stop("'%s' cannot be written", page_path);
+    if (page_file != NULL)
+        put_page(false);
     if (jallumere_is_model() != 0)
         printf("This runs on the C model of hosts/model, not on the proved core.\n");
     start_all();
@@ -890,6 +861,6 @@ int main(int count, char **words)
     if (states_path != NULL)
         write_states();
     if (page_file != NULL)
-        write_page(page_file);
+        end_page();
     return 0;
 }
