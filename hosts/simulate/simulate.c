@@ -40,7 +40,7 @@ enum { SITES_MOST = REPLICAS_MOST * GROUPS_MOST, VIEWS_MOST = 256, COORDINATORS 
 enum { FROM_COORDINATORS = -1, FROM_MANAGER = -2, FROM_CLOCK = -3 };
 
 /* The plot: steps of an act for each site, and when things happen in it, in hundredths. */
-enum { STEPS_EACH = 250, FALLS = 20, COMES_BACK = 44, TAKEN_IN = 50, FILLS = 58, ENDS = 85 };
+enum { STEPS_EACH = 250, FALLS = 20, COMES_BACK = 32, TAKEN_IN = 50, FILLS = 58, ENDS = 85 };
 
 const char program_name[] = "simulate";
 
@@ -86,7 +86,7 @@ typedef struct {
     message told;
     int from;        /* a site, or one of FROM_ */
     unsigned status; /* that the site had then */
-    bool answered;   /* of a transaction: the group has placed it */
+    unsigned placed; /* of a transaction: the replicas that have answered so, as a mask */
 } letter;
 
 typedef struct event event;
@@ -134,6 +134,11 @@ static int site_of(uint64_t group, uint64_t replica)
 static site *planned_leader(uint64_t group)
 {
     return &sites[site_of(group, leader_of(planned_views, group, at.n))];
+}
+
+static bool is_answered(const letter *asked_for)
+{
+    return (unsigned)__builtin_popcount(asked_for->placed) >= majority_of(at.n);
 }
 
 /* Of events at the same time the one that was planned first comes first. */
@@ -295,7 +300,7 @@ static void send_again(const event *of)
 {
     const letter *again = &letters[of->which];
     const standing *is = &sites[again->from < 0 ? 0 : again->from].is;
-    bool needed = again->from == FROM_COORDINATORS ? !again->answered && scene != STOPPED
+    bool needed = again->from == FROM_COORDINATORS ? !is_answered(again) && scene != STOPPED
                   : again->from == FROM_MANAGER    ? again->told.view == planned_view
                                                    : is->view == again->told.view && is->status == again->status;
     if (needed && (again->from < 0 || !sites[again->from].silent))
@@ -703,7 +708,7 @@ static void hear_reply(const message *told)
         if (each->told.to_group == told->from_group &&
             (told->kind == JALLUMERE_SLOW_REPLY || (leader && told->numbers[0] == 1)) &&
             memcmp(each->told.entries + AT_TRANSACTION, told->entries + AT_TRANSACTION, TRANSACTION_LENGTH) == 0)
-            each->answered = true;
+            each->placed |= 1u << told->from_replica;
     }
 }
 
@@ -776,7 +781,7 @@ static void print_summary(void)
     for (size_t i = 0; i < site_count; i++)
         print_log(&sites[i]);
     for (size_t i = 0; i < asked_count; i++)
-        unanswered += !letters[asked[i]].answered;
+        unanswered += !is_answered(&letters[asked[i]]);
     for (uint64_t group = 0; group < at.s; group++)
         committed += committed_most[group];
     printf("\n%u steps in %u ms; %u transactions, %u not answered by a group; %zu messages sent, %u ways lost, "
