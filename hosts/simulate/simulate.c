@@ -160,14 +160,13 @@ static const char *const page[] = {
 
 static FILE *page_file; /* NULL where no page is asked for */
 
-static void put_page(bool behind)
+/* Writes the page on, up to the data or to its end. */
+static void put_page(void)
 {
-    bool there = !behind;
-    for (size_t i = 0; i < sizeof page / sizeof *page; i++)
-        if (strcmp(page[i], "@DATA@\n") == 0)
-            there = behind;
-        else if (there)
-            fputs(page[i], page_file);
+    static size_t next;
+    while (next < sizeof page / sizeof *page && strcmp(page[next], "@DATA@\n") != 0)
+        fputs(page[next++], page_file);
+    next++;
 }
 
 static void put_row(const char *list, size_t count, const int64_t *numbers)
@@ -574,33 +573,31 @@ static void submit(const event *of)
     char named[4 * GROUPS_MOST] = "";
     message made = message_of_kind(JALLUMERE_TRANSACTION, at.s);
     entry sent = {.command = draw() >> 32, .coordinator = below(COORDINATORS)};
-    sent.mask = 1 + below((UINT64_C(1) << at.s) - 1);
+    uint64_t mask = 1 + below((UINT64_C(1) << at.s) - 1);
     if (groups > 2 && below(3) != 0) /* mostly in one group or two */
-        sent.mask = UINT64_C(1) << below(at.s) | UINT64_C(1) << below(at.s);
-    sent.mask &= open_groups();
+        mask = UINT64_C(1) << below(at.s) | UINT64_C(1) << below(at.s);
+    sent.mask = mask & open_groups();
     plan((event){.at = now + (unsigned)(scene == FILLING ? 1 + below(16 / at.s) : 25 + below(40)),
                  .happen = of->happen});
     if (sent.mask == 0)
         return;
-    sent.request = ++last[sent.coordinator];
-    for (unsigned group = 0; group < at.s; group++)
-        if ((sent.mask >> group & 1) == 1)
-            snprintf(named + strlen(named), sizeof named - strlen(named), " %u", group);
-    note(-1, "coordinator %u sends transaction %u.%u to group%s, due at %u", (unsigned)sent.coordinator,
-         (unsigned)sent.coordinator, (unsigned)sent.request, named, now + BOUND);
     transaction_count++;
+    sent.request = ++last[sent.coordinator];
     write_entry(written, sent);
     made.entries = written;
     made.count = 1;
     made.numbers[0] = now;
     made.numbers[1] = BOUND;
-    for (uint64_t group = 0; group < at.s; group++)
+    for (unsigned group = 0; group < at.s; group++)
         if ((sent.mask >> group & 1) == 1) {
+            snprintf(named + strlen(named), sizeof named - strlen(named), " %u", group);
             asked_of[group]++;
             asked = grown(asked, asked_count, sizeof *asked);
             asked[asked_count] = write_letter(&made, group, (UINT64_C(1) << at.n) - 1, FROM_COORDINATORS);
             send_first(asked[asked_count++]);
         }
+    note(-1, "coordinator %u sends transaction %u.%u to group%s, due at %u", (unsigned)sent.coordinator,
+         (unsigned)sent.coordinator, (unsigned)sent.request, named, now + BOUND);
 }
 
 static void tick(const event *of)
@@ -613,15 +610,32 @@ static void tick(const event *of)
         take_step(of->site, write_letter(&made, own->is.group, UINT64_C(1) << own->is.replica, FROM_CLOCK));
 }
 
-static void watch(const event *of);
+/* Whether a majority of each group has started the planned view. */
+static bool view_stands(void)
+{
+    bool stands = true;
+    for (uint64_t group = 0; group < at.s; group++) {
+        unsigned started = 0;
+        for (const site *each = &sites[site_of(group, 0)]; each < &sites[site_of(group + 1, 0)]; each++)
+            started +=
+                each->is.status == JALLUMERE_STATUS_NORMAL && each->is.view == planned_view && !each->silent;
+        stands = stands && started >= majority_of(at.n);
+    }
+    return stands;
+}
 
-/* A greater view for every group; its leader is the lowest site that is not silent. */
+/*
+ * A greater view for every group; its leader is the lowest site that is not silent. The manager looks again later,
+ * and plans another where this one does not stand.
+ */
 static void plan_view(const event *of)
 {
     message made = message_of_kind(JALLUMERE_CHANGE_VIEW, at.s);
-    (void)of;
-    if (planned_view + 1 >= VIEWS_MOST)
+    bool again = of->which != 0;
+    if (planned_view + 1 >= VIEWS_MOST || (again && (of->which != planned_view || view_stands())))
         return;
+    if (again)
+        note(-1, "view %u has not come to stand", planned_view);
     made.view = ++planned_view;
     made.views = planned_views;
     for (uint64_t group = 0; group < at.s; group++) {
@@ -634,23 +648,7 @@ static void plan_view(const event *of)
          (unsigned)leader_of(planned_views, 0, at.n));
     for (uint64_t group = 0; group < at.s; group++)
         send_first(write_letter(&made, group, (UINT64_C(1) << at.n) - 1, FROM_MANAGER));
-    plan((event){.at = now + WATCH_TIME, .happen = watch, .which = planned_view});
-}
-
-/* The manager gives a view up that a majority of some group has not started. */
-static void watch(const event *of)
-{
-    bool stands = true;
-    for (uint64_t group = 0; group < at.s; group++) {
-        unsigned started = 0;
-        for (const site *each = &sites[site_of(group, 0)]; each < &sites[site_of(group + 1, 0)]; each++)
-            started += each->is.status == JALLUMERE_STATUS_NORMAL && each->is.view == of->which && !each->silent;
-        stands = stands && started >= majority_of(at.n);
-    }
-    if (of->which != planned_view || stands)
-        return;
-    note(-1, "view %u has not come to stand", planned_view);
-    plan_view(of);
+    plan((event){.at = now + WATCH_TIME, .happen = plan_view, .which = planned_view});
 }
 
 /* While ticks are refused no follower tells its sync point. */
@@ -687,7 +685,7 @@ static void follow_plot(void)
         scene = RETURN;
     } else if (scene == RETURN && share >= TAKEN_IN) {
         note(-1, "a view is planned to take the site in again");
-        plan_view(NULL);
+        plan_view(&(event){.which = 0});
         scene = REUNITED;
     } else if (scene == REUNITED && act + 1 == acts && share >= FILLS) {
         note(-1, "the coordinators hurry, until the logs are full");
@@ -737,7 +735,7 @@ static void end_page(void)
     }
     fprintf(page_file, "{\"n\":%u,\"s\":%u,\"c\":%u,\"seed\":%" PRIu64 ",\"loss\":%u,\"steps\":%u,\"end\":%u}]\n",
             (unsigned)at.n, (unsigned)at.s, (unsigned)at.c, seed, (unsigned)loss, step_count, now);
-    put_page(true);
+    put_page();
     if (ferror(page_file) | fclose(page_file))
         stop("'%s' cannot be written", page_path);
     printf("\nthe run as a page: %s\n", page_path);
@@ -846,7 +844,7 @@ int main(int count, char **words)
     if (page_path != NULL && (page_file = fopen(page_path, "w")) == NULL)
         stop("'%s' cannot be written", page_path);
     if (page_file != NULL)
-        put_page(false);
+        put_page();
     if (jallumere_is_model() != 0)
         printf("This runs on the C model of hosts/model, not on the proved core.\n");
     start_all();
