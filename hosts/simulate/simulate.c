@@ -559,7 +559,7 @@ static unsigned transaction_count, asked_of[GROUPS_MOST]; /* transactions sent t
 /* The groups that may still be asked; before the logs are filled a quarter of each is kept free. */
 static uint64_t open_groups(void)
 {
-    uint64_t open = 0, limit = 3 * at.c / 4 * (act + 1) / acts;
+    uint64_t open = 0, limit = 3 * at.c / 4;
     for (uint64_t group = 0; group < at.s; group++)
         if (scene == FILLING ? !planned_leader(group)->full : asked_of[group] < limit)
             open |= UINT64_C(1) << group;
