@@ -6,8 +6,7 @@
  * Every site is the core alone; this program is its host. It carries messages, sends some of them again, and
  * checks after every step what the core promises (docs/HOSTS.md has the list).
  *
- * ./jallumere simulate --help lists the options. 0 if every check held, 1 with a message if one did not, 2 for bad
- * usage.
+ * ./jallumere simulate --help lists the options and tells the exit status.
  */
 #define _POSIX_C_SOURCE 200809L
 
@@ -151,7 +150,7 @@ static void plan(event made)
     events[place] = made;
 }
 
-/* ---- the page: rows of five lists, written as things happen ------------------------------------------- */
+/* ---- the page, rows of five lists, and the timeline, both written as things happen -------------------- */
 
 /* The lines of page.html as strings, made by the build; the rows go in place of the line @DATA@. */
 static const char *const page[] = {
@@ -210,8 +209,6 @@ static void put_way(const event *of, enum fate fate, int answer)
 {
     put_row("x", 7, (int64_t[]){of->which, of->site, of->sent_at, of->at, fate, of->again, answer});
 }
-
-/* ---- what is said ------------------------------------------------------------------------------------ */
 
 /* One line of the timeline, of a site or of none (-1). */
 static void note(int of, const char *format, ...)
@@ -293,8 +290,8 @@ static void send_out(size_t which, bool again)
             send_to(which, site_of(told.to_group, replica), again);
 }
 
-/* A site sends again while it is in the view and the status in which it sent, the manager while no other view is
- * planned, a coordinator until it is answered or gives up. */
+/* A site sends again while in its view and status of then, the manager in its last view, a coordinator till
+ * answered. */
 static void send_again(const event *of)
 {
     const letter *again = &letters[of->which];
@@ -400,11 +397,12 @@ static void check_points(int of)
 {
     const standing *is = &sites[of].is;
     const uint8_t *log = sites[of].state + at.log + 4;
-    history *view = &histories[is->group][is->last_normal % VIEWS_MOST];
+    history *view = &histories[is->group % GROUPS_MOST][is->last_normal % VIEWS_MOST];
     bool starts = view->log == NULL;
     checks_made += 2;
-    if (is->view > planned_view || is->last_normal > is->view)
-        fails(of, "it is in view %u after view %u, which nobody planned", is->view, is->last_normal);
+    if (site_of(is->group, is->replica) != of || is->view > planned_view || is->last_normal > is->view)
+        fails(of, "it takes itself for g%u.r%u in view %u, normal last in %u", is->group, is->replica, is->view,
+              is->last_normal);
     if (is->status == JALLUMERE_STATUS_NORMAL && sites[of].leads) {
         if (view->count > is->logged || !same_entries(log, view->log, view->count))
             fails(of, "the leader's log of view %u did not only grow", is->last_normal);
@@ -502,7 +500,7 @@ static void check_refusal(int of, const message *told, unsigned refusal)
     own->full = own->full || told->kind == JALLUMERE_TICK;
 }
 
-/* Reads the state as a host does, by the core, and holds its readers against the model's; for a wrong number too.
+/* Reads the state as a host does, by the core, and holds its readers against the model's, past the last field too.
  */
 static void check_done(int of, const message *told)
 {
@@ -736,7 +734,7 @@ static void end_page(void)
     fprintf(page_file, "{\"n\":%u,\"s\":%u,\"c\":%u,\"seed\":%" PRIu64 ",\"loss\":%u,\"steps\":%u,\"end\":%u}]\n",
             (unsigned)at.n, (unsigned)at.s, (unsigned)at.c, seed, (unsigned)loss, step_count, now);
     put_page();
-    if (ferror(page_file) | fclose(page_file))
+    if (ferror(page_file) != 0 || fclose(page_file) != 0)
         stop("'%s' cannot be written", page_path);
     printf("\nthe run as a page: %s\n", page_path);
 }
