@@ -427,14 +427,19 @@ static void check_points(int of)
 
 /* ---- a step ------------------------------------------------------------------------------------------ */
 
-/* A fast reply's digest, by the model's FNV-1a and by the core's. */
-static void check_digest(int of, const message *reply)
+/* A reply's entry is the one at its position; a fast one's digest is that of the log so far, not placed of all of
+ * it. */
+static void check_reply(int of, const message *reply)
 {
     const uint8_t *log = sites[of].state + at.log + 4;
-    uint64_t position = reply->numbers[0] == 1 ? reply->numbers[1] : sites[of].is.logged;
-    size_t length = position > sites[of].is.logged ? 0 : ENTRY_LENGTH * (size_t)position;
-    uint64_t digest = model_digest(JALLUMERE_DIGEST_START, log, length);
-    if (reply->numbers[2] != digest || jallumere_digest(JALLUMERE_DIGEST_START, log, length) != digest)
+    bool fast = reply->kind == JALLUMERE_FAST_REPLY, placed = !fast || reply->numbers[0] == 1;
+    uint64_t position = placed ? reply->numbers[fast ? 1 : 0] : sites[of].is.logged;
+    size_t length = ENTRY_LENGTH * (size_t)position;
+    if (position > sites[of].is.logged || (placed && position == 0) ||
+        (placed && memcmp(log + length - ENTRY_LENGTH, reply->entries, ENTRY_LENGTH) != 0))
+        fails(of, "a reply is for position %u, where its log has another entry", (unsigned)position);
+    if (fast && (reply->numbers[2] != model_digest(JALLUMERE_DIGEST_START, log, length) ||
+                 reply->numbers[2] != jallumere_digest(JALLUMERE_DIGEST_START, log, length)))
         fails(of, "a fast reply's digest is not that of its log up to position %u", (unsigned)position);
 }
 
@@ -450,8 +455,8 @@ static void take_outgoing(int of, size_t length)
         const message *told = &letters[which].told;
         if (told->from_group != sites[of].is.group || told->from_replica != sites[of].is.replica)
             fails(of, "it sent a message in another's name");
-        if (told->kind == JALLUMERE_FAST_REPLY)
-            check_digest(of, told);
+        if (told->kind == JALLUMERE_FAST_REPLY || told->kind == JALLUMERE_SLOW_REPLY)
+            check_reply(of, told);
         send_first(which);
     }
 }
