@@ -654,19 +654,22 @@ static void plan_view(const event *of)
     plan((event){.at = now + WATCH_TIME, .happen = plan_view, .which = planned_view});
 }
 
-/* While ticks are refused no follower tells its sync point. */
+/* While ticks are refused no follower tells its sync point; a new view lets the last entries of full logs commit.
+ */
 static void settle(const event *of)
 {
     for (uint64_t group = 0; group < at.s; group++) {
         const standing *is = &planned_leader(group)->is;
-        note(-1,
-             "group %u has %u entries, %u of them committed; no sync status goes out, the last %u wait for a view",
-             is->group, is->logged, is->commit, is->logged - is->commit);
+        if (planned_leader(group)->full)
+            note(-1,
+                 "group %u has %u of %u entries committed; no sync status goes out, the last %u wait for a view",
+                 is->group, is->commit, is->logged, is->logged - is->commit);
     }
-    plan_view(of);
+    if (answers[JALLUMERE_FULL] != 0)
+        plan_view(of);
 }
 
-/* In each act a leader falls silent, comes back and is taken in again; at the end of the last the logs are filled.
+/* In each act a leader falls silent, comes back and is taken in again; in the last one the logs are filled then.
  */
 static void follow_plot(void)
 {
@@ -799,7 +802,7 @@ static void print_summary(void)
     if (answers[JALLUMERE_FULL] != 0)
         printf(
             "\nRefusal 8: a log was full. With one entry due every tick is then refused and no sync status goes "
-            "out, so the last entries\nstay uncommitted until the next view.");
+            "out,\nso the last entries stay uncommitted until the next view.");
     printf("\nEvery promise held: %u checks of logs and commit points, %u states good, every message sent well "
            "formed.\n",
            checks_made, answers[JALLUMERE_DONE]);
@@ -826,15 +829,14 @@ static void start_all(void)
     outgoing = memory(outgoing_room);
     outgoing_before = memory(outgoing_room);
     memset(outgoing_before, 0xa5, outgoing_room);
-    for (int i = 0; i < (int)site_count; i++) {
+    for (size_t i = 0; i < site_count; i++) {
         sites[i].skew = (unsigned)below(4);
         sites[i].state = memory(at.length);
         memset(sites[i].state, 0xa5, at.length);
-        if (jallumere_start(at.n, at.s, at.c, (uint64_t)i / at.n, (uint64_t)i % at.n, sites[i].state, at.length) !=
-            0)
-            fails(i, "it cannot be started");
-        check_done(i, &(message){0});
-        plan((event){.at = 1 + (unsigned)below(TICK_TIME), .happen = tick, .site = i});
+        if (jallumere_start(at.n, at.s, at.c, i / at.n, i % at.n, sites[i].state, at.length) != 0)
+            fails((int)i, "it cannot be started");
+        check_done((int)i, &(message){0});
+        plan((event){.at = 1 + (unsigned)below(TICK_TIME), .happen = tick, .site = (int)i});
     }
     plan((event){.at = 5, .happen = submit});
 }
