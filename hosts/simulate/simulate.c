@@ -505,8 +505,7 @@ static void check_refusal(int of, const message *told, unsigned refusal)
     own->full = own->full || told->kind == JALLUMERE_TICK;
 }
 
-/* Reads the state as a host does, by the core, and holds its readers against the model's, past the last field too.
- */
+/* Reads the state as a host does, by the core; and checks the core's readers by the model's, past the last too. */
 static void check_done(int of, const message *told)
 {
     site *own = &sites[of];
@@ -627,10 +626,7 @@ static bool view_stands(void)
     return stands;
 }
 
-/*
- * A greater view for every group; its leader is the lowest site that is not silent. The manager looks again later,
- * and plans another where this one does not stand.
- */
+/* A greater view for every group, led by the lowest site that is not silent; and another, if it does not stand. */
 static void plan_view(const event *of)
 {
     message made = message_of_kind(JALLUMERE_CHANGE_VIEW, at.s);
@@ -654,8 +650,7 @@ static void plan_view(const event *of)
     plan((event){.at = now + WATCH_TIME, .happen = plan_view, .which = planned_view});
 }
 
-/* While ticks are refused no follower tells its sync point; a new view lets the last entries of full logs commit.
- */
+/* While ticks are refused no follower tells its sync point; a new view lets the last entries commit. */
 static void settle(const event *of)
 {
     for (uint64_t group = 0; group < at.s; group++) {
@@ -669,8 +664,7 @@ static void settle(const event *of)
         plan_view(of);
 }
 
-/* In each act a leader falls silent, comes back and is taken in again; in the last one the logs are filled then.
- */
+/* In each act a leader falls silent, comes back and is taken in again; in the last the logs are filled then. */
 static void follow_plot(void)
 {
     static int fallen;
