@@ -549,13 +549,10 @@ static void put_markdown(FILE *to)
     put_all_cells(to);
 }
 
-/* ---- the tables, put into a page ---------------------------------------------------------------------- */
-
-static const char mark[] = "<!-- figures -->\n";
-
 /* Puts the tables between the two marks of a page; before they are measured it only looks for the marks. */
 static void fill_page(const char *path, bool measured)
 {
+    static const char mark[] = "<!-- figures -->\n";
     size_t length;
     char *text = (char *)read_file(path, &length);
     char *first = memmem(text, length, mark, strlen(mark));
