@@ -88,16 +88,14 @@ typedef struct {
     unsigned placed; /* of a transaction: the replicas that have answered so, as a mask */
 } letter;
 
-typedef struct event event;
-
-struct event {
+typedef struct event {
     unsigned at;
-    void (*happen)(const event *);
+    void (*happen)(const struct event *);
     int site;     /* or -1 for a coordinator */
     size_t which; /* letter or view */
     unsigned sent_at;
     bool again;
-};
+} event;
 
 static layout at;
 static site sites[SITES_MOST];
