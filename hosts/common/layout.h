@@ -213,14 +213,20 @@ static inline void write_marked(uint8_t *marked, bool held, uint64_t value)
     store(marked + 1, held ? value : 0, 8);
 }
 
-/* A table's entries in place of those that it had; places that fall free become zero. */
-static inline void write_table(uint8_t *table, const uint8_t *entries, uint64_t count)
+/* A table, of entries or of notes, keeps its first places; the rest becomes free. */
+static inline void shorten(uint8_t *table, size_t place_length, uint64_t kept)
 {
     uint64_t before = load(table, 4);
+    if (before > kept)
+        memset(table + 4 + place_length * kept, 0, place_length * (size_t)(before - kept));
+    store(table, kept, 4);
+}
+
+/* A table's entries in place of those that it had. */
+static inline void write_table(uint8_t *table, const uint8_t *entries, uint64_t count)
+{
+    shorten(table, ENTRY_LENGTH, count);
     copy(table + 4, entries, ENTRY_LENGTH * (size_t)count);
-    if (before > count)
-        memset(table + entry_place(count), 0, ENTRY_LENGTH * (size_t)(before - count));
-    store(table, count, 4);
 }
 
 static inline void append_entry(uint8_t *table, const uint8_t *bytes)
