@@ -3,101 +3,67 @@
 #include <inttypes.h>
 #include <stdio.h>
 
+/* A row of items that are all as long, behind a count of 4 bytes or behind nothing. */
 typedef struct {
-    size_t begin;
-    unsigned width;
     const char *name;
-} part;
+    size_t begin, before, width;
+} section;
 
-static const part head[] = {{AT_GROUP, 1, "own group"},     {AT_REPLICA, 1, "own replica"},
-                            {AT_STATUS, 1, "status"},       {AT_ZEROS, 5, "the five zeros"},
-                            {AT_VIEW, 4, "gView"},          {AT_LAST_NORMAL, 4, "last normal gView"},
-                            {AT_CLOCK, 8, "clock"},         {AT_SYNC, 8, "sync point"},
-                            {AT_COMMIT, 8, "commit point"}, {AT_BOUNDARY, 8, "boundary"}};
+static const section head[] = {{"own group", AT_GROUP, 0, 1},     {"own replica", AT_REPLICA, 0, 1},
+                               {"status", AT_STATUS, 0, 1},       {"the five zeros", AT_ZEROS, 0, 5},
+                               {"gView", AT_VIEW, 0, 4},          {"last normal gView", AT_LAST_NORMAL, 0, 4},
+                               {"clock", AT_CLOCK, 0, 8},         {"sync point", AT_SYNC, 0, 8},
+                               {"commit point", AT_COMMIT, 0, 8}, {"boundary", AT_BOUNDARY, 0, 8}};
 
-/* The last of the parts, in rising order, that does not begin behind the byte. */
-static const part *part_with(const part *parts, size_t count, size_t byte)
+/* The last of the rising sections that does not begin behind the byte. */
+static const section *section_with(const section *sections, size_t count, size_t byte)
 {
-    while (count > 1 && parts[count - 1].begin > byte)
+    while (count > 1 && sections[count - 1].begin > byte)
         count--;
-    return &parts[count - 1];
+    return &sections[count - 1];
 }
 
-/* A table of entries, or its count. */
-static void describe_table(const uint8_t *table, size_t byte, const char *name, char *room)
+/* Behind a name: a table's count, or one of its entries. */
+static void describe_table(const uint8_t *table, size_t within, char *room, size_t length)
 {
-    size_t position = byte < 4 ? 0 : (byte - 4) / ENTRY_LENGTH;
+    size_t position = within < 4 ? 0 : (within - 4) / ENTRY_LENGTH;
     entry read = read_entry(table + entry_place(position));
-    if (byte < 4)
-        snprintf(room, PLACE_ROOM, "%s, its count: %" PRIu64, name, load(table, 4));
+    if (within < 4)
+        snprintf(room, length, " counts %" PRIu64, load(table, 4));
     else
-        snprintf(room, PLACE_ROOM,
-                 "%s, entry %zu: transaction %" PRIu64 ".%" PRIu64 " at %" PRIu64 ", mask %#" PRIx64, name,
+        snprintf(room, length, " entry %zu: transaction %" PRIu64 ".%" PRIu64 " at %" PRIu64 ", mask %#" PRIx64,
                  position + 1, read.coordinator, read.request, read.timestamp, read.mask);
-}
-
-static void describe_notes(const layout *at, const uint8_t *notes, size_t byte, char *room)
-{
-    size_t position = byte < 4 ? 0 : (byte - 4) / at->note, within = byte < 4 ? 0 : (byte - 4) % at->note;
-    const uint8_t *note = notes + 4 + at->note * position;
-    size_t group = within < TRANSACTION_LENGTH ? 0 : (within - TRANSACTION_LENGTH) / MARKED_LENGTH;
-    uint64_t request = load(note, 4), coordinator = load(note + 4, 2);
-    if (byte < 4)
-        snprintf(room, PLACE_ROOM, "notes, their count: %" PRIu64, load(notes, 4));
-    else if (within < TRANSACTION_LENGTH)
-        snprintf(room, PLACE_ROOM, "note %zu: transaction %" PRIu64 ".%" PRIu64, position + 1, coordinator,
-                 request);
-    else
-        snprintf(room, PLACE_ROOM, "note %zu: transaction %" PRIu64 ".%" PRIu64 ", group %zu: flag %u, %" PRIu64,
-                 position + 1, coordinator, request, group, note[note_group(group)],
-                 load(note + note_group(group) + 1, 8));
-}
-
-/* A vote or a reply: what stands before its table, or the table. */
-static void describe_kept(const uint8_t *kept, size_t byte, size_t table, const char *name, char *room)
-{
-    if (byte >= table)
-        describe_table(kept + table, byte - table, name, room);
-    else if (table == VOTE_HEAD_LENGTH)
-        snprintf(room, PLACE_ROOM, "%s: flag %u, last normal gView %" PRIu64 ", sync point %" PRIu64, name,
-                 kept[0], load(kept + AT_VOTE_LAST_NORMAL, 4), load(kept + AT_VOTE_SYNC, 8));
-    else
-        snprintf(room, PLACE_ROOM, "%s: flag %u", name, kept[0]);
 }
 
 const char *describe_place(const layout *at, const uint8_t *state, size_t byte, char room[PLACE_ROOM])
 {
-    const part sections[] = {{0, 0, "head"},
-                             {at->views, 4, "gVec, group"},
-                             {at->heard, MARKED_LENGTH, "sync point heard from replica"},
-                             {at->log, 0, "log"},
-                             {at->early, 0, "early"},
-                             {at->late, 0, "late"},
-                             {at->notes, 0, "notes"},
-                             {at->votes, 0, "vote of replica"},
-                             {at->draft, 0, "draft"},
-                             {at->replies, 0, "reply of group"},
-                             {at->length, 0, "behind the state"}};
-    const part *section = part_with(sections, sizeof sections / sizeof *sections, byte);
-    const part *field = part_with(head, sizeof head / sizeof *head, byte);
-    size_t within = byte - section->begin;
-    char name[48];
-    if (section->begin == 0)
-        snprintf(room, PLACE_ROOM, "%s: %" PRIu64, field->name, load(state + field->begin, field->width));
-    else if (section->width != 0)
-        snprintf(room, PLACE_ROOM, "%s %zu: %" PRIu64, section->name, within / section->width,
-                 load(state + byte - within % section->width + section->width % 4,
-                      section->width - section->width % 4));
-    else if (section->begin == at->notes)
-        describe_notes(at, state + at->notes, within, room);
-    else if (section->begin == at->votes || section->begin == at->replies) {
-        bool vote = section->begin == at->votes;
-        size_t length = vote ? at->vote : at->reply;
-        snprintf(name, sizeof name, "%s %zu", section->name, within / length);
-        describe_kept(state + byte - within % length, within % length, vote ? VOTE_HEAD_LENGTH : 1, name, room);
-    } else if (section->begin == at->length)
-        snprintf(room, PLACE_ROOM, "%s", section->name);
-    else
-        describe_table(state + section->begin, within, section->name, room);
+    const section sections[] = {{"head", 0, 0, 1},
+                                {"gVec, group", at->views, 0, 4},
+                                {"sync point heard from replica", at->heard, 0, MARKED_LENGTH},
+                                {"log", at->log, 4, ENTRY_LENGTH},
+                                {"early", at->early, 4, ENTRY_LENGTH},
+                                {"late", at->late, 4, ENTRY_LENGTH},
+                                {"note", at->notes, 4, at->note},
+                                {"vote of replica", at->votes, 0, at->vote},
+                                {"draft", at->draft, 4, ENTRY_LENGTH},
+                                {"reply of group", at->replies, 0, at->reply}};
+    const section *here = section_with(sections, sizeof sections / sizeof *sections, byte);
+    size_t within = byte - here->begin, number = within < here->before ? 0 : (within - here->before) / here->width;
+    const uint8_t *item = state + here->begin + here->before + here->width * number;
+    if (here->begin == 0) {
+        here = section_with(head, sizeof head / sizeof *head, byte);
+        snprintf(room, PLACE_ROOM, "%s: %" PRIu64, here->name, load(state + here->begin, (unsigned)here->width));
+        return room;
+    }
+    if (here->width == ENTRY_LENGTH) {
+        describe_table(state + here->begin, within, room + snprintf(room, PLACE_ROOM, "%s", here->name), 128);
+        return room;
+    }
+    int written = snprintf(room, PLACE_ROOM, "%s %zu", here->name, number + (here->before != 0));
+    size_t table = here->begin == at->votes ? VOTE_HEAD_LENGTH : here->begin == at->replies ? 1 : SIZE_MAX;
+    if (byte - (size_t)(item - state) >= table)
+        describe_table(item + table, byte - (size_t)(item - state) - table, room + written, 128);
+    else if (here->begin == at->notes)
+        snprintf(room + written, 128, " of transaction %" PRIu64 ".%" PRIu64, load(item + 4, 2), load(item, 4));
     return room;
 }

@@ -18,32 +18,10 @@ static uint64_t least_of(uint64_t one, uint64_t other)
 
 uint64_t edge(const layout *at)
 {
-    static const uint64_t edges[] = {0,
-                                     1,
-                                     2,
-                                     4,
-                                     8,
-                                     15,
-                                     16,
-                                     128,
-                                     255,
-                                     256,
-                                     4096,
-                                     65534,
-                                     65535,
-                                     65536,
-                                     INT32_MAX,
-                                     UINT64_C(1) << 31,
-                                     UINT32_MAX,
-                                     UINT64_C(1) << 32,
-                                     GREATEST_TIMESTAMP - 1,
-                                     GREATEST_TIMESTAMP,
-                                     GREATEST_TIMESTAMP + 1,
-                                     UINT64_MAX - 1,
-                                     UINT64_MAX};
-    const uint64_t own[] = {at->n, at->s, at->c, bit(at->n % 64) - 1, bit(at->s % 64) - 1};
-    uint64_t value = chance(40) ? own[below(5)] : edges[below(sizeof edges / sizeof *edges)];
-    return chance(30) ? value + below(3) - 1 : value;
+    static const uint8_t powers[] = {0, 1, 2, 3, 4, 7, 8, 12, 16, 31, 32, 63};
+    const uint64_t own[] = {at->n, at->s, at->c, bit(at->n % 64) - 1, bit(at->s % 64) - 1, 65534, UINT64_MAX};
+    return chance(40) ? own[below(7)] + (chance(30) ? below(3) - 1 : 0)
+                      : bit(powers[below(sizeof powers)]) + below(3) - 1;
 }
 
 /* ---- histories --------------------------------------------------------------------------------------- */
