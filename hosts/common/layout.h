@@ -10,35 +10,15 @@
 #include <stdbool.h>
 #include <string.h>
 
-enum {
-    REPLICAS_MOST = 7,
-    GROUPS_MOST = 8,
-    CAPACITY_LEAST = 16,
-    CAPACITY_MOST = 4096,
-    KINDS = 24, /* more than the greatest kind */
-    ANSWERS = 10,
-    HEAD_LENGTH = 48,
-    ENTRY_LENGTH = 24,
-    TRANSACTION_LENGTH = 6, /* request and coordinator, as entries and notes have them */
-    MARKED_LENGTH = 9,      /* a flag and 8 bytes */
-    VOTE_HEAD_LENGTH = 13
-};
+enum { REPLICAS_MOST = 7, GROUPS_MOST = 8, CAPACITY_LEAST = 16, CAPACITY_MOST = 4096 };
+enum { KINDS = 24, ANSWERS = 10 }; /* more than the greatest of each */
 
-/* Places in the state's head, */
-enum {
-    AT_GROUP = 0,
-    AT_REPLICA = 1,
-    AT_STATUS = 2,
-    AT_ZEROS = 3,
-    AT_VIEW = 8,
-    AT_LAST_NORMAL = 12,
-    AT_CLOCK = 16,
-    AT_SYNC = 24,
-    AT_COMMIT = 32,
-    AT_BOUNDARY = 40
-};
+/* Lengths; a transaction is a request and a coordinator, and what is marked a flag and 8 bytes. */
+enum { HEAD_LENGTH = 48, ENTRY_LENGTH = 24, TRANSACTION_LENGTH = 6, MARKED_LENGTH = 9, VOTE_HEAD_LENGTH = 13 };
 
-/* in an entry, whose timestamp stands first, and in a vote, whose flag does. */
+/* Places in the state's head, in an entry, whose timestamp stands first, and in a vote, whose flag does. */
+enum { AT_GROUP = 0, AT_REPLICA = 1, AT_STATUS = 2, AT_ZEROS = 3, AT_VIEW = 8, AT_LAST_NORMAL = 12 };
+enum { AT_CLOCK = 16, AT_SYNC = 24, AT_COMMIT = 32, AT_BOUNDARY = 40 };
 enum { AT_COMMAND = 8, AT_TRANSACTION = 16, AT_COORDINATOR = 20, AT_MASK = 22 };
 enum { AT_VOTE_LAST_NORMAL = 1, AT_VOTE_SYNC = 5 };
 
@@ -213,14 +193,20 @@ static inline void write_marked(uint8_t *marked, bool held, uint64_t value)
     store(marked + 1, held ? value : 0, 8);
 }
 
-/* A table's entries in place of those that it had; places that fall free become zero. */
-static inline void write_table(uint8_t *table, const uint8_t *entries, uint64_t count)
+/* A table, of entries or of notes, keeps its first places; the rest becomes free. */
+static inline void shorten(uint8_t *table, size_t place_length, uint64_t kept)
 {
     uint64_t before = load(table, 4);
+    if (before > kept)
+        memset(table + 4 + place_length * kept, 0, place_length * (size_t)(before - kept));
+    store(table, kept, 4);
+}
+
+/* A table's entries in place of those that it had. */
+static inline void write_table(uint8_t *table, const uint8_t *entries, uint64_t count)
+{
+    shorten(table, ENTRY_LENGTH, count);
     copy(table + 4, entries, ENTRY_LENGTH * (size_t)count);
-    if (before > count)
-        memset(table + entry_place(count), 0, ENTRY_LENGTH * (size_t)(before - count));
-    store(table, count, 4);
 }
 
 static inline void append_entry(uint8_t *table, const uint8_t *bytes)

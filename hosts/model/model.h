@@ -29,11 +29,11 @@ uint64_t model_write(uint64_t n, uint64_t s, uint64_t kind, uint64_t to_group, u
 uint64_t model_digest(uint64_t start, const uint8_t *bytes, size_t length);
 
 /*
- * Why these bytes are not a good state: tells each part of the rules' "A good state" that fails, in plain words
- * and with the offset of the byte at which it does. Gives how many there are, so 0 for a good state. What cannot
- * be looked at because of another failure (entries of a table whose count is past c) is left out.
+ * Why these bytes are not a good state: tells each part of the rules' "A good state" that fails, and the byte at
+ * which it does. Gives how many there are, so 0 for a good state. The entries of a table whose count is past c are
+ * not looked at.
  */
-typedef void model_reason(void *listener, size_t byte, const char *words);
+typedef void model_reason(void *listener, size_t byte, const char *rule);
 uint64_t model_why_not_good(uint64_t n, uint64_t s, uint64_t c, const uint8_t *state, size_t state_length,
                             model_reason *tell, void *listener);
 
