@@ -792,12 +792,12 @@ static void print_summary(void)
         if (sent_counts[kind] != 0)
             printf(" %s %u;", kind_name(kind), sent_counts[kind]);
     if (answers[JALLUMERE_FULL] != 0)
-        printf("\nRefusal 8: a log was full. With one entry due every tick is then refused and no sync status "
-               "goes out,"
-               "\nso the last entries stay uncommitted until the next view.%s",
-               groups == 1 ? ""
-                           : " With several groups that view may never stand: what\na verify reply adds to a full "
-                             "draft has no room, which is refusal 8 again, in every view.");
+        printf(
+            "\nRefusal 8: a log was full. With one entry due every tick is then refused and no sync status goes\n"
+            "out, so the last entries stay uncommitted until the next view.%s",
+            groups == 1 ? ""
+                        : " With several groups that view may never\nstand: what a verify reply adds to a full "
+                          "draft has no room, which is refusal 8 again, in every view.");
     printf("\nEvery promise held: %u checks of logs and commit points, %u states good, every message sent well "
            "formed.\n",
            checks_made, answers[JALLUMERE_DONE]);
