@@ -22,25 +22,16 @@ enum { AT_CLOCK = 16, AT_SYNC = 24, AT_COMMIT = 32, AT_BOUNDARY = 40 };
 enum { AT_COMMAND = 8, AT_TRANSACTION = 16, AT_COORDINATOR = 20, AT_MASK = 22 };
 enum { AT_VOTE_LAST_NORMAL = 1, AT_VOTE_SYNC = 5 };
 
-/* Where the fields of the state's head and of an entry stand, and their width, by the number that the core's
- * readers take. */
+/* Where the fields of the head and of an entry stand, by the numbers of the core's readers, which count from 1. */
 typedef struct {
     uint8_t at, width;
 } field_place;
 
-static const field_place head_fields[] = {[JALLUMERE_FIELD_GROUP] = {AT_GROUP, 1},
-                                          [JALLUMERE_FIELD_REPLICA] = {AT_REPLICA, 1},
-                                          [JALLUMERE_FIELD_STATUS] = {AT_STATUS, 1},
-                                          [JALLUMERE_FIELD_VIEW] = {AT_VIEW, 4},
-                                          [JALLUMERE_FIELD_LAST_NORMAL_VIEW] = {AT_LAST_NORMAL, 4},
-                                          [JALLUMERE_FIELD_CLOCK] = {AT_CLOCK, 8},
-                                          [JALLUMERE_FIELD_SYNC_POINT] = {AT_SYNC, 8},
-                                          [JALLUMERE_FIELD_COMMIT_POINT] = {AT_COMMIT, 8}};
-static const field_place entry_fields[] = {[JALLUMERE_ENTRY_TIMESTAMP] = {0, 8},
-                                           [JALLUMERE_ENTRY_COMMAND] = {AT_COMMAND, 8},
-                                           [JALLUMERE_ENTRY_REQUEST] = {AT_TRANSACTION, 4},
-                                           [JALLUMERE_ENTRY_COORDINATOR] = {AT_COORDINATOR, 2},
-                                           [JALLUMERE_ENTRY_MASK] = {AT_MASK, 2}};
+static const field_place head_fields[] = {{0, 0},         {AT_GROUP, 1}, {AT_REPLICA, 1},
+                                          {AT_STATUS, 1}, {AT_VIEW, 4},  {AT_LAST_NORMAL, 4},
+                                          {AT_CLOCK, 8},  {AT_SYNC, 8},  {AT_COMMIT, 8}};
+static const field_place entry_fields[] = {
+    {0, 0}, {0, 8}, {AT_COMMAND, 8}, {AT_TRANSACTION, 4}, {AT_COORDINATOR, 2}, {AT_MASK, 2}};
 
 #define GREATEST_TIMESTAMP UINT64_C(0x7fffffffffffffff)
 #define TRANSACTION_BITS UINT64_C(0x0000ffffffffffff)

@@ -12,26 +12,30 @@ enum { HEADER_LENGTH = 12, NUMBERS_MOST = 3 };
 enum path { INSIDE, INBOUND, OUTBOUND };       /* from and to groups, from outside, to outside */
 enum entries { NO_ENTRY, ONE_ENTRY, ANY_LOG }; /* a kind's entries: their number, but for a log */
 
+/* Who sends a kind within the groups: to followers their leader, to a leader another replica or another group's.
+ */
+enum sender { NOBODY, OWN_LEADER, OTHER_REPLICA, OTHER_LEADER };
+
 typedef struct {
     const char *name; /* NULL where there is no such kind */
     bool has_views;
-    uint8_t path, numbers, entries;
+    uint8_t path, numbers, entries, sender;
 } form;
 
 static const form forms[KINDS] = {
-    [JALLUMERE_TRANSACTION] = {"transaction", false, INBOUND, 2, ONE_ENTRY},
-    [JALLUMERE_TIMESTAMP_NOTE] = {"timestamp note", true, INSIDE, 0, ONE_ENTRY},
-    [JALLUMERE_REPLICA_SYNC] = {"replica sync", true, INSIDE, 0, ANY_LOG},
-    [JALLUMERE_FAST_REPLY] = {"fast reply", true, OUTBOUND, 3, ONE_ENTRY},
-    [JALLUMERE_SLOW_REPLY] = {"slow reply", true, OUTBOUND, 1, ONE_ENTRY},
-    [JALLUMERE_CHANGE_VIEW] = {"change view", true, INBOUND, 0, NO_ENTRY},
-    [JALLUMERE_VOTE] = {"vote", true, INSIDE, 2, ANY_LOG},
-    [JALLUMERE_START_VIEW] = {"start view", true, INSIDE, 0, ANY_LOG},
-    [JALLUMERE_SYNC_STATUS] = {"sync status", true, INSIDE, 1, NO_ENTRY},
-    [JALLUMERE_COMMIT] = {"commit", true, INSIDE, 1, NO_ENTRY},
-    [JALLUMERE_VERIFY_REQUEST] = {"verify request", true, INSIDE, 1, NO_ENTRY},
-    [JALLUMERE_VERIFY_REPLY] = {"verify reply", true, INSIDE, 0, ANY_LOG},
-    [JALLUMERE_TICK] = {"tick", false, INBOUND, 1, NO_ENTRY},
+    [JALLUMERE_TRANSACTION] = {"transaction", false, INBOUND, 2, ONE_ENTRY, NOBODY},
+    [JALLUMERE_TIMESTAMP_NOTE] = {"timestamp note", true, INSIDE, 0, ONE_ENTRY, OTHER_LEADER},
+    [JALLUMERE_REPLICA_SYNC] = {"replica sync", true, INSIDE, 0, ANY_LOG, OWN_LEADER},
+    [JALLUMERE_FAST_REPLY] = {"fast reply", true, OUTBOUND, 3, ONE_ENTRY, NOBODY},
+    [JALLUMERE_SLOW_REPLY] = {"slow reply", true, OUTBOUND, 1, ONE_ENTRY, NOBODY},
+    [JALLUMERE_CHANGE_VIEW] = {"change view", true, INBOUND, 0, NO_ENTRY, NOBODY},
+    [JALLUMERE_VOTE] = {"vote", true, INSIDE, 2, ANY_LOG, OTHER_REPLICA},
+    [JALLUMERE_START_VIEW] = {"start view", true, INSIDE, 0, ANY_LOG, OWN_LEADER},
+    [JALLUMERE_SYNC_STATUS] = {"sync status", true, INSIDE, 1, NO_ENTRY, OTHER_REPLICA},
+    [JALLUMERE_COMMIT] = {"commit", true, INSIDE, 1, NO_ENTRY, OWN_LEADER},
+    [JALLUMERE_VERIFY_REQUEST] = {"verify request", true, INSIDE, 1, NO_ENTRY, OTHER_LEADER},
+    [JALLUMERE_VERIFY_REPLY] = {"verify reply", true, INSIDE, 0, ANY_LOG, OTHER_LEADER},
+    [JALLUMERE_TICK] = {"tick", false, INBOUND, 1, NO_ENTRY, NOBODY},
 };
 
 static inline bool is_kind(uint64_t kind)

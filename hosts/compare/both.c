@@ -358,6 +358,11 @@ uint64_t try_write(const layout *at, const message *made, size_t views_length, s
             writers[side](at->n, at->s, made->kind, made->to_group, made->to_mask, made->from_group,
                           made->from_replica, made->view, made->numbers[0], made->numbers[1], made->numbers[2],
                           made->views, views_length, made->entries, entries_length, out_of(side), room);
+    if (answers[0] != answers[1]) /* the bytes shown have no room for fields that are too wide */
+        printf("kind %" PRIu64 " to %" PRIu64 " mask %" PRIu64 " from %" PRIu64 " %" PRIu64 " view %" PRIu64
+               ", %zu bytes of views, %zu of entries\n",
+               made->kind, made->to_group, made->to_mask, made->from_group, made->from_replica, made->view,
+               views_length, entries_length);
     uint64_t answer = compare_sides("write", at, answers, NULL, 0, room, &given);
     reached.messages[is_kind(made->kind) ? made->kind : 0][columns[JALLUMERE_NUMBER(answer)]]++;
     free(given.bytes);

@@ -376,9 +376,7 @@ static void run_shares(void)
     for (unsigned i = 0; i < 5 * 4 * KINDS; i++) {
         uint64_t kind = i % KINDS, capacity = capacities[i / KINDS % 4];
         layout at = lay_out(shapes[i / KINDS / 4][0], shapes[i / KINDS / 4][1], capacity);
-        bool from_groups =
-            kind == JALLUMERE_TIMESTAMP_NOTE || kind == JALLUMERE_VERIFY_REQUEST || kind == JALLUMERE_VERIFY_REPLY;
-        if (is_kind(kind) && forms[kind].path != OUTBOUND && !(from_groups && at.s == 1))
+        if (is_kind(kind) && forms[kind].path != OUTBOUND && !(forms[kind].sender == OTHER_LEADER && at.s == 1))
             run_kind(&at, kind, (capacity == 4096 ? 24 : 60) * steps_wanted / 100000 + 1);
     }
 }

@@ -318,7 +318,6 @@ void build_any_state(const layout *at, uint8_t *state, const history *from, uint
 void build_state_for(const layout *at, uint8_t *state, const history *from, uint64_t group, uint64_t kind)
 {
     bool opens = kind == JALLUMERE_VOTE || kind == JALLUMERE_START_VIEW;
-    bool follows = kind == JALLUMERE_REPLICA_SYNC || kind == JALLUMERE_COMMIT;
     if (kind == JALLUMERE_CHANGE_VIEW || (opens && chance(20)))
         build_any_state(at, state, from, group);
     else if (opens)
@@ -327,7 +326,7 @@ void build_state_for(const layout *at, uint8_t *state, const history *from, uint
         build_state(at, state, from, group, JALLUMERE_STATUS_CROSS_SHARD, true);
     else
         build_state(at, state, from, group, JALLUMERE_STATUS_NORMAL,
-                    forms[kind].path == INBOUND ? chance(50) : !follows);
+                    forms[kind].path == INBOUND ? chance(50) : forms[kind].sender != OWN_LEADER);
 }
 
 /* ---- messages that fit a state ----------------------------------------------------------------------- */
@@ -365,22 +364,21 @@ static void fit_view(const layout *at, const uint8_t *state, message *made, uint
         made->view = 0;
 }
 
-/* Kinds that are the own leader's, another replica's, or the leader's of another group; the rest is from outside.
- */
+/* By who sends the kind; replies to the outside are sent by the own leader here. */
 static void fit_address(const layout *at, const uint8_t *state, message *made)
 {
-    uint64_t own = state[AT_GROUP], kind = made->kind;
-    if (forms[kind].path != OUTBOUND) {
-        made->to_group = own;
+    const form *shape = &forms[made->kind];
+    if (shape->path != OUTBOUND) {
+        made->to_group = state[AT_GROUP];
         made->to_mask = bit(state[AT_REPLICA]) | (chance(50) ? below(bit(at->n)) : 0);
     }
-    if (forms[kind].path == INBOUND)
+    if (shape->path == INBOUND)
         return;
-    made->from_group = own;
-    if (kind == JALLUMERE_TIMESTAMP_NOTE || kind == JALLUMERE_VERIFY_REQUEST || kind == JALLUMERE_VERIFY_REPLY)
-        made->from_group = at->s == 1 ? 0 : (own + 1 + below(at->s - 1)) % at->s;
+    made->from_group = state[AT_GROUP];
+    if (shape->sender == OTHER_LEADER && at->s != 1)
+        made->from_group = (state[AT_GROUP] + 1 + below(at->s - 1)) % at->s;
     made->from_replica = leader_of(made->views, made->from_group, at->n);
-    if (kind == JALLUMERE_VOTE || kind == JALLUMERE_SYNC_STATUS)
+    if (shape->sender == OTHER_REPLICA)
         made->from_replica = (state[AT_REPLICA] + 1 + below(at->n - 1)) % at->n;
 }
 
