@@ -144,7 +144,7 @@ static inline size_t reply_table(const layout *at, uint64_t group)
     return reply_place(at, group) + 1;
 }
 
-/* Offsets in a table, a count before its entries; in a note; in a gVec. */
+/* Offsets in a table, which has a count before its entries, and in a note. */
 static inline size_t entry_place(uint64_t position)
 {
     return 4 + ENTRY_LENGTH * (size_t)position;
