@@ -1,0 +1,181 @@
+# shellcheck shell=bash
+# For ./jallumere: what rt proves and builds, how long it will take, and the gate.
+
+# Has the core proved and built, if it is not. Before that the program is built over the C model: what the machine lacks
+# shows now and not after minutes, and simulate has something to show.
+have_core() { # NAME WORDS...
+    build "$1" model "$built/$1-model"
+    first_sight=("$@")
+    prove replica make_core "$archive"
+}
+
+# Proves the core, and makes the archive anew if it is not of what rt has proved: rt's stamp of the crate tells its content,
+# that of all crates below it, and the kit.
+make_core() {
+    local began
+    cd "$place" && rt check replica || return
+    [ "$(made_of)" != "$(cat "$archive.made-of" 2>/dev/null)" ] || return 0
+    began=$SECONDS
+    rt staticlib replica && made_of >"$archive.made-of" && echo "jallumere: archive made ($((SECONDS - began)) s)"
+}
+
+made_of() { cat "$place/target/stamp/replica" && digest <"$archive"; } 2>/dev/null
+
+# Once it is clear that minutes pass before simulate can run on the core: the same run on the C model.
+show_first() {
+    local status
+    [ "${first_sight[0]:-}" = simulate ] || return 0
+    set -- "${first_sight[@]:1}"
+    first_sight=()
+    say "the core is not proved yet. First the same run on the C model (hosts/model), of which nothing is proved:"
+    start ${emulator[@]+"${emulator[@]}"} "$built/simulate-model" "$@"
+    finished
+    status=$?
+    if [ "$status" -ne 0 ]; then
+        end_children
+        exit "$status"
+    fi
+    say "that was the C model. Now the core is proved, and then the same run is made on it"
+}
+
+# prove CRATE TASK MADE: runs a task of rt that makes the file MADE. Whether something has changed since the last time is
+# rt's to say; where it says in a moment that nothing has, nothing is told.
+prove() {
+    local log=$built/$1.log began told='' heard='' status
+    note_other_kit
+    count_lines "$1" >"$built/crates"
+    [ -e "$3" ] || show_first
+    began=$SECONDS
+    RT_JOBS=${RT_JOBS:-4} start "$2" >"$log" 2>&1
+    while kill -0 "${children[-1]}" 2>/dev/null; do
+        if [ ! -e "$3" ] || [ $((SECONDS - began)) -ge 8 ] || grep -q '^rt: .* proved ([0-9]* s)$' "$log"; then
+            show_first
+            tell_progress "$log" $((SECONDS - began))
+        fi
+        sleep 0.2
+    done
+    finished
+    status=$?
+    [ -z "$told" ] || [ ! -t 2 ] || printf '\n' >&2
+    if [ "$status" -ne 0 ] || [ ! -e "$3" ]; then
+        tail -n 20 "$log" >&2
+        stop "$1 was not proved; all that rt wrote is in $log"
+    fi
+    if [ -n "$told" ]; then
+        keep_times "$log" $((SECONDS - began))
+        say "$1 and all crates below it are proved, in $((SECONDS - began)) s"
+    fi
+}
+
+note_other_kit() {
+    local present
+    present=$(rt version)
+    [ "$present" = "$(cat "$tree/KIT")" ] || say "note: proved with '$(cat "$tree/KIT")' (file KIT), but this machine has '$present'"
+}
+
+# ---- how long it will take
+
+# The times of the last run here, or those that came with the tree.
+times() { cat "$built/times.txt" 2>/dev/null || cat "$tree/hosts/tools/times.txt"; }
+
+# A line 'NAME LINES' for the crate and each that it needs; for the core also one for the archive, which rt makes last.
+count_lines() {
+    local crate
+    for crate in $(crates_below "$1"); do
+        echo "$crate $(find "$tree/crates/$crate" \( -name '*.rt' -o -name '*.antt' \) -exec cat {} + | wc -l)"
+    done | sed 's/^replica \(.*\)/&\narchive \1/'
+}
+
+crates_below() {
+    awk -v wanted="$1" '
+        function visit(name, parts, count, i) {
+            if (name in seen || !(name in needs)) return
+            seen[name]
+            count = split(needs[name], parts, " ")
+            for (i = 1; i <= count; i++) visit(parts[i])
+            print name
+        }
+        { sub(/#.*/, ""); colon = index($0, ":") }
+        colon { needs[substr($0, 1, colon - 1)] = substr($0, colon + 1) }
+        END { visit(wanted) }' "$tree/crates.txt"
+}
+
+# On a terminal one line that changes every second; elsewhere a line when a crate is proved, or after a minute.
+tell_progress() { # LOG GONE
+    local line since
+    [ "$2" != "${looked:-}" ] || return 0
+    looked=$2
+    since=$(($(date +%s) - $(stat -c %Y "$1")))
+    line=$(awk -v gone="$2" -v since="$since" -f "$tree/hosts/tools/progress.awk" part=times <(times) part=crates "$built/crates" part=log "$1")
+    if [ -t 2 ]; then
+        printf '\r\033[Kjallumere: %s' "$line" >&2 || ended_by PIPE
+    elif [ "${line%%,*}" = "$heard" ] && [ "$2" -lt $((told + 60)) ]; then
+        return 0
+    else
+        say "$line"
+    fi
+    heard=${line%%,*} told=$2
+}
+
+# Adds the times of a run to those that there were. 'pace' is how many seconds passed for a hundred seconds of crates, since
+# rt proves several at once; a run that proved little says nothing of it.
+keep_times() { # LOG GONE
+    local kept
+    kept=$(awk -v gone="$2" '
+        NR == FNR { if ($1 !~ /^#/) seconds[$1] = $2; next }
+        /^(rt|jallumere): [A-Za-z0-9_]+ (proved|made) \([0-9]+ s\)$/ {
+            seconds[$2] = substr($4, 2)
+            all += seconds[$2]
+        }
+        END {
+            if (all >= 60) seconds["pace"] = int(100 * gone / all + 0.5)
+            for (name in seconds) print name, seconds[name]
+        }' <(times) "$1" | LC_ALL=C sort)
+    {
+        echo "# Seconds that rt took for each crate, and 'pace': how many passed for a hundred of these, since rt proves several at once."
+        echo "# ./jallumere goes by them to tell how long a proof will take. It writes them to target/hosts/times.txt after each proof and"
+        echo "# reads them there; a fresh clone has those of hosts/tools/times.txt, which is a copy of that file."
+        printf '%s\n' "$kept"
+    } >"$built/times.txt"
+}
+
+# ---- the tasks that need no host program
+
+# The gate's program over its traces. rt runs it once when it is proved; here it runs every time.
+replay() {
+    local program loader=() home
+    has_rt || exit 2
+    if ! on_x86 && ! find_emulator; then stop "missing: the emulator qemu-x86_64: apt-get install qemu-user"; fi
+    open_place
+    program=$place/target/bin/replay
+    [ -x "$program" ] || rm -f "$place/target/stamp/replay"
+    first_sight=()
+    prove replay make_replay "$program"
+    if ! on_x86; then
+        home=$(kit_home)/on/$(uname -m)/toolchain/lib
+        loader=("${emulator[@]}" "$home/ld-linux-x86-64.so.2" --library-path "$home")
+    fi
+    release_lock
+    cd "$tree/crates/replay/data" || exit 2
+    exec ${loader[@]+"${loader[@]}"} "$program"
+}
+
+make_replay() { cd "$place" && rt check replay; }
+
+# The gate removes all of target/ first. Where another folder is to be built in, it runs there over a copy of the crates.
+gate() {
+    local root=$tree part
+    has_rt || exit 2
+    open_place
+    if [ "$place" != "$tree" ]; then
+        root=$place/gate
+        mkdir -p "$root" && chmod -R u+w "$root" || exit 2
+        for part in crates crates.txt KIT .ci; do
+            rm -rf "${root:?}/$part" && cp -R "$tree/$part" "$root/$part" || stop "'$root/$part' cannot be made"
+        done
+    fi
+    say "the gate proves everything from nothing: this takes long"
+    start "$root/.ci/run"
+    finished
+    exit
+}
