@@ -9,17 +9,30 @@ have_core() { # NAME WORDS...
     prove replica make_core "$archive"
 }
 
-# Proves the core, and makes the archive anew if it is not of what rt has proved: rt's stamp of the crate tells its content,
-# that of all crates below it, and the kit.
+# Proves the core and makes its archive, which is one step of rt; what is below it rt proves first, several crates at a time.
+# If rt says of these that nothing has changed, and the crate itself has not, the archive stays.
 make_core() {
     local began
-    cd "$place" && rt check replica || return
+    cd "$place" || return
+    # shellcheck disable=SC2046
+    rt check $(needs_of replica) || return
     [ "$(made_of)" != "$(cat "$archive.made-of" 2>/dev/null)" ] || return 0
     began=$SECONDS
-    rt staticlib replica && made_of >"$archive.made-of" && echo "jallumere: archive made ($((SECONDS - began)) s)"
+    rt staticlib replica && made_of >"$archive.made-of" && echo "jallumere: replica proved ($((SECONDS - began)) s)"
 }
 
-made_of() { cat "$place/target/stamp/replica" && digest <"$archive"; } 2>/dev/null
+needs_of() { sed -n "s/^$1: *//p" "$tree/crates.txt"; }
+
+# What the archive is made of: rt's stamps of the crates that the core needs, which tell the content of all crates below
+# them and the kit (without one, the answer is never the same); the core's own files; and the archive, in case that something
+# else stands in its place.
+made_of() {
+    local crate
+    for crate in $(needs_of replica); do cat "$place/target/stamp/$crate" || date; done
+    needs_of replica
+    digests_of "$tree" crates/replica/src crates/replica/specs crates/replica/proofs
+    digest <"$archive"
+} 2>/dev/null
 
 # Once it is clear that minutes pass before simulate can run on the core: the same run on the C model.
 show_first() {
@@ -48,7 +61,7 @@ prove() {
     began=$SECONDS
     RT_JOBS=${RT_JOBS:-4} start "$2" >"$log" 2>&1
     while kill -0 "${children[-1]}" 2>/dev/null; do
-        if [ ! -e "$3" ] || [ $((SECONDS - began)) -ge 8 ] || grep -q '^rt: .* proved ([0-9]* s)$' "$log"; then
+        if [ ! -e "$3" ] || [ $((SECONDS - began)) -ge 5 ] || grep -q '^rt: .* proved ([0-9]* s)$' "$log"; then
             show_first
             tell_progress "$log" $((SECONDS - began))
         fi
@@ -78,12 +91,12 @@ note_other_kit() {
 # The times of the last run here, or those that came with the tree.
 times() { cat "$built/times.txt" 2>/dev/null || cat "$tree/hosts/tools/times.txt"; }
 
-# A line 'NAME LINES' for the crate and each that it needs; for the core also one for the archive, which rt makes last.
+# A line 'NAME LINES' for the crate and each that it needs.
 count_lines() {
     local crate
     for crate in $(crates_below "$1"); do
         echo "$crate $(find "$tree/crates/$crate" \( -name '*.rt' -o -name '*.antt' \) -exec cat {} + | wc -l)"
-    done | sed 's/^replica \(.*\)/&\narchive \1/'
+    done
 }
 
 crates_below() {
@@ -123,7 +136,7 @@ keep_times() { # LOG GONE
     local kept
     kept=$(awk -v gone="$2" '
         NR == FNR { if ($1 !~ /^#/) seconds[$1] = $2; next }
-        /^(rt|jallumere): [A-Za-z0-9_]+ (proved|made) \([0-9]+ s\)$/ {
+        /^(rt|jallumere): [A-Za-z0-9_]+ proved \([0-9]+ s\)$/ {
             seconds[$2] = substr($4, 2)
             all += seconds[$2]
         }

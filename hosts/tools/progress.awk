@@ -21,18 +21,17 @@ part == "crates" {
     }
 }
 
-part == "log" && /^(rt|jallumere): [A-Za-z0-9_]+ (proved|made) \(/ && ($2 in lines) && !($2 in ended) {
+part == "log" && /^(rt|jallumere): [A-Za-z0-9_]+ proved \(/ && ($2 in lines) && !($2 in ended) {
     ended[$2] = $0 ~ /\(unchanged/ ? "before" : "now"
-    if ($2 != "archive")
-        last = $2
+    last = $2
 }
 
 END {
     # Crates without a time go by their lines: at the rate of the others, or one by one where no crate has a time.
     rate = timed_lines > 0 ? timed / timed_lines : 1
     for (crate in lines) {
-        crates += crate != "archive"
-        proved += crate != "archive" && crate in ended
+        crates++
+        proved += crate in ended
         if (!(crate in ended))
             left += weight_of(crate)
         else if (ended[crate] == "now")

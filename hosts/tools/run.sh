@@ -110,10 +110,8 @@ try_lock() {
         flock -n 9
         return
     fi
-    ln -s "$$ $(started_at $$)" "$link" 2>/dev/null && return
-    holder=$(readlink "$link") || return
-    [ "${holder#* }" = "$(started_at "${holder% *}")" ] || rm -f "$link"
-    return 1
+    holder=$(readlink "$link") && [ "${holder#* }" != "$(started_at "${holder% *}")" ] && rm -f "$link"
+    ln -s "$$ $(started_at $$)" "$link" 2>/dev/null
 }
 
 started_at() { sed 's/.*) //' "/proc/$1/stat" 2>/dev/null | cut -d ' ' -f 20; }

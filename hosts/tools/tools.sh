@@ -57,13 +57,15 @@ has_rt() {
 
 digest() { if has sha256sum; then sha256sum; else cksum; fi; }
 
+digests_of() { # FOLDER PARTS...
+    (cd "$1" && shift && find "$@" -type f | LC_ALL=C sort | while IFS= read -r file; do echo "$file $(digest <"$file")"; done)
+}
+
 # All that a program is made of: the compiler and its words, its sources, and the core.
 contents_of() { # NAME CORE
     printf '%s\n' "$("$compiler" --version | head -n 1)" "${flags[*]}" "$2"
     [ "$2" = model ] || digest <"$2"
-    (cd "$tree" && find "hosts/$1" hosts/common hosts/model include -type f | LC_ALL=C sort | while IFS= read -r file; do
-        printf '%s %s\n' "$file" "$(digest <"$file")"
-    done)
+    digests_of "$tree" "hosts/$1" hosts/common hosts/model include
 }
 
 # A wrong compiler, library or emulator is told by the smallest program, in the first second.
