@@ -177,14 +177,14 @@ test_bad_words() {
 
 test_first_command() {
     fresh_tree
-    echo 1.2 >"$room/pause" # the script looks once a second
+    echo 5 >"$room/pause" # the script tells at most every five seconds
     jallumere simulate --steps 30 --seed 18446744073709551615
     echo 0.1 >"$room/pause"
     check "the first command ends well" is_status 0
     check "it runs twice" runs_printed 2
     check "it says that the first is the model" said 'First the same run on the C model'
     check "it tells how far the proof is" said 'crate [0-9] of 3 proved'
-    check "it names a crate" said 'crate 1 of 3 proved (group), [0-9]* s gone'
+    check "it names a crate" said 'crate [12] of 3 proved ([a-z]*), [0-9]* s gone'
     check "the model is built before anything is proved" eval '[ "$(grep -n simulate-model "$room/calls" | head -n 1 | cut -d: -f1)" -lt "$(grep -n "^rt " "$room/calls" | head -n 1 | cut -d: -f1)" ]'
     check "no program is linked with libm" not grep -q -e -lm "$room/calls"
     check "the times are kept" grep -q '^places 1$' "$room/tree/target/hosts/times.txt"

@@ -89,7 +89,7 @@ note_other_kit() {
 # ---- how long it will take
 
 # The times of the last run here, or those that came with the tree.
-times() { cat "$built/times.txt" 2>/dev/null || cat "$tree/hosts/tools/times.txt"; }
+times() { cat "$built/times.txt" || cat "$tree/hosts/tools/times.txt"; } 2>/dev/null
 
 # A line 'NAME LINES' for the crate and each that it needs.
 count_lines() {
@@ -113,7 +113,8 @@ crates_below() {
         END { visit(wanted) }' "$tree/crates.txt"
 }
 
-# On a terminal one line that changes every second; elsewhere a line when a crate is proved, or after a minute.
+# On a terminal one line that changes every second; elsewhere a line when a crate is proved, but not at every second, or
+# after a minute.
 tell_progress() { # LOG GONE
     local line since
     [ "$2" != "${looked:-}" ] || return 0
@@ -122,10 +123,10 @@ tell_progress() { # LOG GONE
     line=$(awk -v gone="$2" -v since="$since" -f "$tree/hosts/tools/progress.awk" part=times <(times) part=crates "$built/crates" part=log "$1")
     if [ -t 2 ]; then
         printf '\r\033[Kjallumere: %s' "$line" >&2 || ended_by PIPE
-    elif [ "${line%%,*}" = "$heard" ] && [ "$2" -lt $((told + 60)) ]; then
-        return 0
-    else
+    elif [ -z "$told" ] || [ "$2" -ge $((told + 60)) ] || { [ "${line%%,*}" != "$heard" ] && [ "$2" -ge $((told + 5)) ]; }; then
         say "$line"
+    else
+        return 0
     fi
     heard=${line%%,*} told=$2
 }
