@@ -2,6 +2,7 @@
 # Tries ./jallumere in a copy of this tree, with a stand-in for rt that proves nothing and makes the core's archive of the C
 # model, so that all takes a minute or two. What another kind of machine needs is tried with stand-ins for its commands.
 # The last line is 'N passed, M failed'; the exit status is 1 if any failed. With words, only the tests named.
+# shellcheck disable=SC2016
 set -u
 tree=$(cd "$(dirname "$0")/../.." && pwd -P)
 room=$(mktemp -d)
@@ -208,7 +209,9 @@ test_nothing_changed() {
 test_changes() {
     echo '// more' >>"$room/tree/crates/places/src/lib.rt"
     touch -d yesterday "$room/tree/crates/places/src/lib.rt"
+    echo 4 >"$room/pause" # the script shows the model after five seconds
     jallumere simulate --steps 30
+    echo 0.1 >"$room/pause"
     check "a changed crate is proved again, however old the file is" grep -q '^rt: places proved (1 s)' "$room/tree/target/hosts/replica.log"
     check "a crate below a changed one is not" grep -q '^rt: group proved (unchanged' "$room/tree/target/hosts/replica.log"
     check "with a changed crate the model is shown meanwhile" runs_printed 2

@@ -34,50 +34,51 @@ made_of() {
     digest <"$archive"
 } 2>/dev/null
 
-# Once it is clear that minutes pass before simulate can run on the core: the same run on the C model.
-show_first() {
-    local status
+# What simulate has to show before the core is proved: the same run on the C model.
+show_model() {
     [ "${first_sight[0]:-}" = simulate ] || return 0
-    set -- "${first_sight[@]:1}"
-    first_sight=()
     say "the core is not proved yet. First the same run on the C model (hosts/model), of which nothing is proved:"
-    start ${emulator[@]+"${emulator[@]}"} "$built/simulate-model" "$@"
-    finished
-    status=$?
-    if [ "$status" -ne 0 ]; then
-        end_children
-        exit "$status"
-    fi
+    ${emulator[@]+"${emulator[@]}"} "$built/simulate-model" "${first_sight[@]:1}" || return
     say "that was the C model. Now the core is proved, and then the same run is made on it"
 }
 
 # prove CRATE TASK MADE: runs a task of rt that makes the file MADE. Whether something has changed since the last time is
-# rt's to say; where it says in a moment that nothing has, nothing is told.
+# rt's to say; where it says in a moment that nothing has, nothing is told. Meanwhile the shell only waits: then it takes
+# a signal at once.
 prove() {
-    local log=$built/$1.log began told='' heard='' status
+    local log=$built/$1.log made=$3 patience=5 began=$SECONDS status
     note_other_kit
     count_lines "$1" >"$built/crates"
-    [ -e "$3" ] || show_first
-    began=$SECONDS
+    if [ ! -e "$made" ]; then
+        start show_model
+        finished || exit
+        first_sight=() patience=0 began=$SECONDS
+    fi
+    : >"$log"
+    start tell "$log" "$patience"
     RT_JOBS=${RT_JOBS:-4} start "$2" >"$log" 2>&1
-    while kill -0 "${children[-1]}" 2>/dev/null; do
-        if [ ! -e "$3" ] || [ $((SECONDS - began)) -ge 5 ] || grep -q '^rt: .* proved ([0-9]* s)$' "$log"; then
-            show_first
-            tell_progress "$log" $((SECONDS - began))
-        fi
-        sleep 0.2
-    done
     finished
     status=$?
-    [ -z "$told" ] || [ ! -t 2 ] || printf '\n' >&2
-    if [ "$status" -ne 0 ] || [ ! -e "$3" ]; then
+    end_children
+    [ ! -t 2 ] || printf '\r\033[K' >&2
+    if [ "$status" -ne 0 ] || [ ! -e "$made" ]; then
         tail -n 20 "$log" >&2
         stop "$1 was not proved; all that rt wrote is in $log"
     fi
-    if [ -n "$told" ]; then
-        keep_times "$log" $((SECONDS - began))
-        say "$1 and all crates below it are proved, in $((SECONDS - began)) s"
-    fi
+    [ $((SECONDS - began)) -ge "$patience" ] || return 0
+    keep_times "$log" $((SECONDS - began))
+    say "$1 and all crates below it are proved, in $((SECONDS - began)) s"
+}
+
+# Tells how far rt is, until it is ended; where nobody reads that, or the model's run, the whole script ends.
+tell() { # LOG PATIENCE
+    local began=$SECONDS told='' heard=''
+    trap 'kill -s PIPE $$' PIPE
+    sleep "$2"
+    show_model || kill -s PIPE $$
+    while tell_progress "$1" $((SECONDS - began)); do sleep 1; done
+    # Where PIPE is ignored, a write has failed.
+    kill -s TERM $$
 }
 
 note_other_kit() {
@@ -117,18 +118,14 @@ crates_below() {
 # after a minute.
 tell_progress() { # LOG GONE
     local line since
-    [ "$2" != "${looked:-}" ] || return 0
-    looked=$2
     since=$(($(date +%s) - $(stat -c %Y "$1")))
     line=$(awk -v gone="$2" -v since="$since" -f "$tree/hosts/tools/progress.awk" part=times <(times) part=crates "$built/crates" part=log "$1")
     if [ -t 2 ]; then
-        printf '\r\033[Kjallumere: %s' "$line" >&2 || ended_by PIPE
+        printf '\r\033[Kjallumere: %s' "$line" >&2
     elif [ -z "$told" ] || [ "$2" -ge $((told + 60)) ] || { [ "${line%%,*}" != "$heard" ] && [ "$2" -ge $((told + 5)) ]; }; then
+        heard=${line%%,*} told=$2
         say "$line"
-    else
-        return 0
     fi
-    heard=${line%%,*} told=$2
 }
 
 # Adds the times of a run to those that there were. 'pace' is how many seconds passed for a hundred seconds of crates, since

@@ -1,10 +1,7 @@
 # shellcheck shell=bash
 # For ./jallumere: what it says, the commands that it starts and ends, and the lock on the folder that it builds in.
 
-say() {
-    # Where nobody reads any more, what was started ends too, even if the signal itself is ignored.
-    printf 'jallumere: %s\n' "$*" >&2 || ended_by PIPE
-}
+say() { printf 'jallumere: %s\n' "$*" >&2; }
 
 stop() {
     say "$*"
