@@ -11,8 +11,8 @@ passed=0 failed=0
 
 # ---- the stand-ins
 
-make_stand_ins() {
-    mkdir -p "$room/bin" "$room/arm" "$room/kit"
+make_rt() {
+    mkdir -p "$room/bin"
     cp "$(command -v sleep)" "$room/bin/rattle"
     cat >"$room/bin/rt" <<'END'
 #!/usr/bin/env bash
@@ -40,7 +40,15 @@ printf '#!/bin/sh\nls traces.bin\necho "9098 steps, 0 differences"\n' >target/bi
 chmod +x target/bin/replay
 [ "$1" != staticlib ] || "$room/bin/rattle" "$(cat "$room/pause")" && cp "$room/model.a" target/staticlib/libreplica.a
 END
-    # Without optimisation, for the time; each call is counted, and what is passed can be looked at.
+    chmod +x "$room/bin/rt"
+    gcc -O0 -I "$tree/include" -I "$tree/hosts/common" -Djallumere_is_model=of_the_model -c -o "$room/model.o" "$tree/hosts/model/core.c"
+    echo 'unsigned long jallumere_is_model(void) { return 0; }' | gcc -x c -c -o "$room/proved.o" - && ar rcs "$room/model.a" "$room/model.o" "$room/proved.o"
+}
+
+# Compilers and emulators. Without optimisation, for the time; each call is kept, and what is passed can be looked at.
+make_tools() {
+    local kit=$room/kit/on/aarch64/toolchain/bin
+    mkdir -p "$room/bin" "$room/arm" "$room/kit/bin" "$kit"
     cat >"$room/bin/gcc" <<END
 #!/usr/bin/env bash
 case \$* in *-o*) echo "gcc \$*" >>"$room/calls" ;; esac
@@ -49,9 +57,9 @@ END
     printf '#!/bin/sh\n[ "$1" != -m ] || { echo aarch64; exit; }\nexec %s "$@"\n' "$(command -v uname)" >"$room/arm/uname"
     printf '#!/bin/sh\nexec "%s/bin/gcc" "$@"\n' "$room" >"$room/arm/x86_64-linux-gnu-gcc"
     printf '#!/bin/sh\necho "qemu $*" >>"%s/calls"\nwhile [ "${1#*ld-linux}" != "$1" ]; do shift 3; done\nexec "$@"\n' "$room" >"$room/arm/qemu-x86_64"
-    chmod +x "$room"/bin/* "$room"/arm/*
-    gcc -O0 -I "$tree/include" -I "$tree/hosts/common" -Djallumere_is_model=of_the_model -c -o "$room/model.o" "$tree/hosts/model/core.c"
-    echo 'unsigned long jallumere_is_model(void) { return 0; }' | gcc -x c -c -o "$room/proved.o" - && ar rcs "$room/model.a" "$room/model.o" "$room/proved.o"
+    sed 's/echo "qemu/echo "kit-qemu/' "$room/arm/qemu-x86_64" >"$kit/qemu-x86_64"
+    printf '#!/bin/sh\nexec "%s/bin/rt" "$@"\n' "$room" >"$room/kit/bin/rt"
+    chmod +x "$room"/bin/* "$room"/arm/* "$room/kit/bin/rt" "$kit/qemu-x86_64"
 }
 
 # A folder with the commands that every machine has, and none of rt, compilers and emulators.
@@ -111,7 +119,8 @@ not() { ! "$@"; }
 is_status() { [ "$status" -eq "$1" ]; }
 nothing_built() { [ ! -e "$room/tree/target" ] && [ ! -s "$room/calls" ]; }
 runs_printed() { [ "$(grep -c ' group.* of .* sites' "$room/out")" -eq "$1" ]; }
-no_prover_left() { ! pgrep -f "^$room/bin/rattle" >/dev/null; }
+prover_runs() { grep -qsa "^$room/bin/rattle" /proc/[0-9]*/cmdline; }
+no_prover_left() { ! prover_runs; }
 within() { # SECONDS COMMAND...
     local turn most=$(($1 * 10))
     shift
@@ -121,7 +130,6 @@ within() { # SECONDS COMMAND...
     done
     return 1
 }
-prover_runs() { pgrep -f "^$room/bin/rattle" >/dev/null; }
 
 # ---- the tests
 
@@ -273,7 +281,11 @@ test_missing() {
     check "on Arm rt is named first" eval 'head -n 1 "$room/said" | grep -q "missing: the command .rt."'
     check "on Arm all packages are named in one line" said '^    apt-get install gcc-x86-64-linux-gnu libc6-dev-amd64-cross qemu-user$'
     check "nothing is built where something is missing" nothing_built
-    cp "$room/arm/x86_64-linux-gnu-gcc" "$room/bin/rt" "$path"
+    cp "$room/arm/x86_64-linux-gnu-gcc" "$path"
+    path=$room/kit/bin:$path
+    jallumere simulate --steps 30
+    check "on Arm the kit's emulator is found" grep -q '^kit-qemu .*target/hosts/simulate --steps 30' "$room/calls"
+    rm -r "$room/kit/on"
     jallumere simulate
     check "on Arm the emulator alone is named where it alone is missing" said '^    apt-get install qemu-user$'
     check "then rt is not named" not said "command 'rt'"
@@ -482,7 +494,8 @@ test_terminal() {
     check "on a terminal one line is written over" eval 'grep -q "$(printf "\r\033\[Kjallumere: crate . of 3 proved")" "$room/said"'
 }
 
-make_stand_ins
+make_rt
+make_tools
 make_bare_commands
 [ $# -gt 0 ] || set -- help bad_words first_command not_proved other_core missing arm 'lock with' 'lock without' signals closed_pipe read_only bench \
     replay_and_gate progress terminal

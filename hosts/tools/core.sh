@@ -21,7 +21,7 @@ make_core() {
     rt staticlib replica && made_of >"$archive.made-of" && echo "jallumere: replica proved ($((SECONDS - began)) s)"
 }
 
-needs_of() { sed -n "s/^$1: *//p" "$tree/crates.txt"; }
+needs_of() { sed -n "s/#.*//; s/^$1: *//p" "$tree/crates.txt"; }
 
 # What the archive is made of: rt's stamps of the crates that the core needs, which tell the content of all crates below
 # them and the kit (without one, the answer is never the same); the core's own files; and the archive, in case that something
@@ -89,8 +89,8 @@ note_other_kit() {
 
 # ---- how long it will take
 
-# The times of the last run here, or those that came with the tree.
-times() { cat "$built/times.txt" || cat "$tree/hosts/tools/times.txt"; } 2>/dev/null
+# The times that came with the tree and, of more weight, those of the last run here.
+times() { cat "$tree/hosts/tools/times.txt" "$built/times.txt" 2>/dev/null; }
 
 # A line 'NAME LINES' for the crate and each that it needs.
 count_lines() {
@@ -144,8 +144,8 @@ keep_times() { # LOG GONE
         }' <(times) "$1" | LC_ALL=C sort)
     {
         echo "# Seconds that rt took for each crate, and 'pace': how many passed for a hundred of these, since rt proves several at once."
-        echo "# ./jallumere goes by them to tell how long a proof will take. It writes them to target/hosts/times.txt after each proof and"
-        echo "# reads them there; a fresh clone has those of hosts/tools/times.txt, which is a copy of that file."
+        echo "# ./jallumere goes by them to tell how long a proof will take. It writes them to target/hosts/times.txt after each proof;"
+        echo "# hosts/tools/times.txt is a copy of that file, for a fresh clone."
         printf '%s\n' "$kept"
     } >"$built/times.txt"
 }
