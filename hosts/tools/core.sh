@@ -2,9 +2,9 @@
 # For ./jallumere: what rt proves and builds, how long it will take, and the gate.
 
 # Has the core proved and built, if it is not. Before that the program is built over the C model: what the machine lacks
-# shows now and not after minutes, and simulate has something to show.
+# shows now and not after minutes, and simulate has something to show. It is not optimised: that would take longer than it gains.
 have_core() { # NAME WORDS...
-    build "$1" model "$built/$1-model"
+    build "$1" model -O0 "$built/$1-model"
     first_sight=("$@")
     prove replica make_core "$archive"
 }

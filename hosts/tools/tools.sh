@@ -1,7 +1,7 @@
 # shellcheck shell=bash
 # For ./jallumere: the compiler and the emulator that this machine needs, and the host programs built by them.
 
-flags=(-std=c11 -Wall -Wextra -O3)
+flags=(-std=c11 -Wall -Wextra)
 emulator=()
 
 # The kit's folder, from where the command rt stands.
@@ -62,8 +62,8 @@ digests_of() { # FOLDER PARTS...
 }
 
 # All that a program is made of: the compiler and its words, its sources, and the core.
-contents_of() { # NAME CORE
-    printf '%s\n' "$("$compiler" --version | head -n 1)" "${flags[*]}" "$2"
+contents_of() { # NAME CORE FLAG
+    printf '%s\n' "$("$compiler" --version | head -n 1)" "${flags[*]}" "$3" "$2"
     [ "$2" = model ] || digest <"$2"
     digests_of "$tree" "hosts/$1" hosts/common hosts/model include
 }
@@ -78,10 +78,10 @@ try_tools() {
     [ "$said" = "it runs" ] || stop "the smallest program that $compiler builds does not run here${emulator[0]:+ by ${emulator[0]}}: $said"
 }
 
-# build NAME CORE PROGRAM: compiles and links a host program over a core, an archive or 'model', unless it was made of the same.
+# build NAME CORE FLAG PROGRAM: compiles and links a host program over a core, an archive or 'model', unless it was made of the same.
 build() {
-    local name=$1 core=$2 program=$3 contents sources
-    contents=$(contents_of "$name" "$core" | digest)
+    local name=$1 core=$2 flag=$3 program=$4 contents sources
+    contents=$(contents_of "$name" "$core" "$flag" | digest)
     if [ -x "$program" ] && [ "$(cat "$program.made-of" 2>/dev/null)" = "$contents" ]; then return; fi
     try_tools
     if [ "$name" = simulate ]; then # the page's lines as C strings
@@ -90,7 +90,7 @@ build() {
     mapfile -t sources < <(find "$tree/hosts/$name" "$tree/hosts/common" -name '*.c' | LC_ALL=C sort)
     if [ "$core" = model ]; then core=$tree/hosts/model/core.c; fi
     rm -f "$program.made-of"
-    start "$compiler" "${flags[@]}" -I "$tree/include" -I "$tree/hosts/common" -I "$tree/hosts/model" -I "$built" \
+    start "$compiler" "${flags[@]}" "$flag" -I "$tree/include" -I "$tree/hosts/common" -I "$tree/hosts/model" -I "$built" \
         -o "$program.new" "${sources[@]}" "$tree/hosts/model/model.c" "$core" >"$built/$name.log" 2>&1
     finished || {
         head -n 40 "$built/$name.log" >&2
@@ -113,7 +113,7 @@ prepare_host() { # NAME WORDS...
     else
         say "the core is '$core', by JALLUMERE_CORE: nothing tells that it is proved"
     fi
-    build "$name" "$core" "$built/$name"
+    build "$name" "$core" -O3 "$built/$name"
     command=(${emulator[@]+"${emulator[@]}"} "$built/$name" "$@")
     [ "$name" != bench ] || on_x86 || command+=(--ratios)
 }
