@@ -30,8 +30,8 @@ made_of() {
     local crate
     for crate in $(needs_of replica); do cat "$place/target/stamp/$crate" || date; done
     needs_of replica
-    digests_of "$tree" crates/replica/src crates/replica/specs crates/replica/proofs
-    digest <"$archive"
+    digests_of crates/replica/src crates/replica/specs crates/replica/proofs
+    "$digest" <"$archive"
 } 2>/dev/null
 
 # What simulate has to show before the core is proved: the same run on the C model.
@@ -47,13 +47,13 @@ show_model() {
 # a signal at once.
 prove() {
     local log=$built/$1.log made=$3 patience=5 began=$SECONDS status
-    note_other_kit
-    count_lines "$1" >"$built/crates"
     if [ ! -e "$made" ]; then
         start show_model
         finished || exit
         first_sight=() patience=0 began=$SECONDS
     fi
+    note_other_kit
+    count_lines "$1" >"$built/crates"
     : >"$log"
     start tell "$log" "$patience"
     RT_JOBS=${RT_JOBS:-4} start "$2" >"$log" 2>&1
@@ -94,10 +94,11 @@ times() { cat "$tree/hosts/tools/times.txt" "$built/times.txt" 2>/dev/null; }
 
 # A line 'NAME LINES' for the crate and each that it needs.
 count_lines() {
-    local crate
-    for crate in $(crates_below "$1"); do
-        echo "$crate $(find "$tree/crates/$crate" \( -name '*.rt' -o -name '*.antt' \) -exec cat {} + | wc -l)"
-    done
+    (cd "$tree/crates" && find . \( -name '*.rt' -o -name '*.antt' \) -exec wc -l {} +) | awk '
+        NR == FNR { wanted[$1]; next }
+        { split($2, part, "/") }
+        part[2] in wanted { lines[part[2]] += $1 }
+        END { for (crate in lines) print crate, lines[crate] }' <(crates_below "$1") -
 }
 
 crates_below() {

@@ -55,17 +55,18 @@ has_rt() {
     return 1
 }
 
-digest() { if has sha256sum; then sha256sum; else cksum; fi; }
+digest=sha256sum
+has "$digest" || digest=cksum
 
-digests_of() { # FOLDER PARTS...
-    (cd "$1" && shift && find "$@" -type f | LC_ALL=C sort | while IFS= read -r file; do echo "$file $(digest <"$file")"; done)
+digests_of() { # PARTS OF THE TREE
+    (cd "$tree" && find "$@" -type f -exec "$digest" {} + | LC_ALL=C sort)
 }
 
 # All that a program is made of: the compiler and its words, its sources, and the core.
 contents_of() { # NAME CORE FLAG
     printf '%s\n' "$("$compiler" --version | head -n 1)" "${flags[*]}" "$3" "$2"
-    [ "$2" = model ] || digest <"$2"
-    digests_of "$tree" "hosts/$1" hosts/common hosts/model include
+    [ "$2" = model ] || "$digest" <"$2"
+    digests_of "hosts/$1" hosts/common hosts/model include
 }
 
 # A wrong compiler, library or emulator is told by the smallest program, in the first second.
@@ -81,7 +82,7 @@ try_tools() {
 # build NAME CORE FLAG PROGRAM: compiles and links a host program over a core, an archive or 'model', unless it was made of the same.
 build() {
     local name=$1 core=$2 flag=$3 program=$4 contents sources
-    contents=$(contents_of "$name" "$core" "$flag" | digest)
+    contents=$(contents_of "$name" "$core" "$flag" | "$digest")
     if [ -x "$program" ] && [ "$(cat "$program.made-of" 2>/dev/null)" = "$contents" ]; then return; fi
     try_tools
     if [ "$name" = simulate ]; then # the page's lines as C strings
