@@ -115,6 +115,7 @@ said() { grep -q -e "$1" "$room/said"; }
 printed() { grep -q -e "$1" "$room/out"; }
 calls_of() { grep -c "^$1 " "$room/calls"; }
 called() { [ "$(calls_of "$1")" -gt 0 ]; }
+first_call() { grep -n -e "$1" "$room/calls" | head -n 1 | cut -d: -f1; }
 not() { ! "$@"; }
 is_status() { [ "$status" -eq "$1" ]; }
 nothing_built() { [ ! -e "$room/tree/target" ] && [ ! -s "$room/calls" ]; }
@@ -194,7 +195,7 @@ test_first_command() {
     check "it says that the first is the model" said 'First the same run on the C model'
     check "it tells how far the proof is" said 'crate [0-9] of 3 proved'
     check "it names a crate" said 'crate [12] of 3 proved ([a-z]*), [0-9]* s gone'
-    check "the model is built before anything is proved" eval '[ "$(grep -n simulate-model "$room/calls" | head -n 1 | cut -d: -f1)" -lt "$(grep -n "^rt " "$room/calls" | head -n 1 | cut -d: -f1)" ]'
+    check "the model is built before anything is proved" [ "$(first_call simulate-model)" -lt "$(first_call '^rt ')" ]
     check "no program is linked with libm" not grep -q -e -lm "$room/calls"
     check "the times are kept" grep -q '^places 1$' "$room/tree/target/hosts/times.txt"
     jallumere --version
