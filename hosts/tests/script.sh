@@ -474,11 +474,11 @@ test_progress() {
     progress '' 0 0
     check "at first by the last times; a crate without one by its lines" said '^crate 0 of 4 proved, 0 s gone, about 6 min 40 s left$'
     progress 'rt: one proved (99 s)\n' 100 0
-    check "then by the pace seen now" said '^crate 1 of 4 proved (one), 1 min 40 s gone, about 10 min 0 s left$'
+    check "then by the pace seen now" said '^crate 1 of 4 proved (one), 1 min 40 s gone, about 8 min 10 s left$'
     progress 'rt: one proved (99 s)\n' 160 60
-    check "time passes between crates" said '^crate 1 of 4 proved (one), 2 min 40 s gone, about 9 min 0 s left$'
+    check "time passes between crates" said '^crate 1 of 4 proved (one), 2 min 40 s gone, about 7 min 10 s left$'
     progress 'rt: one proved (unchanged since it was last proved)\n' 1 0
-    check "what was proved before has no pace" said '^crate 1 of 4 proved (one), 1 s gone, about 6 min 10 s left$'
+    check "what was proved before has no pace" said '^crate 1 of 4 proved (one), 1 s gone, about 5 min 50 s left$'
     progress 'rt: one proved (9 s)\nrt: two proved (9 s)\nrt: three proved (9 s)\njallumere: four proved (9 s)\n' 30 0
     check "at the end nothing is left" said '^crate 4 of 4 proved (four), 30 s gone, nearly done$'
     : >"$room/times"

@@ -37,8 +37,9 @@ END {
         else if (ended[crate] == "now")
             done += weight_of(crate)
     }
-    # The pace of the earlier run counts as much as forty seconds' worth of crates; what is seen now soon outweighs it.
-    earlier = timed > 0 && "pace" in seconds ? 40 : 0
+    # The pace of the earlier run counts as much as 150 seconds' worth of crates: the first crates, of which each needs the
+    # one before, are proved one by one and tell little of the rest.
+    earlier = timed > 0 && "pace" in seconds ? 150 : 0
     heard = gone > since ? gone - since : 0
     line = "crate " proved + 0 " of " crates " proved" (last != "" ? " (" last ")" : "") ", " span(gone) " gone"
     if (done + earlier > 0) {
