@@ -183,14 +183,14 @@ uint64_t jallumere_message_length(uint64_t n, uint64_t s, const uint8_t *bytes, 
  * Writes the message with these fields first in `out` and leaves the rest of it. Gives JALLUMERE_DONE + 256 *
  * the message's length; or, with length 0 and `out` as it was, JALLUMERE_WRONG_STATE for a wrong n or s,
  * JALLUMERE_MALFORMED where the message would be malformed (a field that does not fit into its bytes is out of
- * range) and JALLUMERE_NO_ROOM where `out` is too short; the lowest that applies. `first`, `second`, `third` are
- * the kind's numbers in their order; those that the kind does not have are not looked at. `views` is the gVec, 4
- * bytes a group, `entries` the entries, 24 bytes each (timestamp 8, command 8, request 4, coordinator 2, mask 2),
- * both as they stand in a message and without their counts; a length that is no multiple of 4 or 24 is malformed.
+ * range) and JALLUMERE_NO_ROOM where `out` is too short; the lowest that applies. `numbers` are the kind's numbers
+ * in their order, `numbers_count` of them; another count than the kind's is malformed. `views` is the gVec, 4 bytes
+ * a group, `entries` the entries, 24 bytes each (timestamp 8, command 8, request 4, coordinator 2, mask 2), both as
+ * they stand in a message and without their counts; a length that is no multiple of 4 or 24 is malformed.
  */
 uint64_t jallumere_write(uint64_t n, uint64_t s, uint64_t kind, uint64_t to_group, uint64_t to_mask,
-                         uint64_t from_group, uint64_t from_replica, uint64_t view, uint64_t first,
-                         uint64_t second, uint64_t third, const uint8_t *views, size_t views_length,
+                         uint64_t from_group, uint64_t from_replica, uint64_t view, const uint64_t *numbers,
+                         size_t numbers_count, const uint8_t *views, size_t views_length,
                          const uint8_t *entries, size_t entries_length, uint8_t *out, size_t out_length);
 
 /*

@@ -342,7 +342,7 @@ void try_start(const layout *at, uint64_t group, uint64_t replica, size_t length
 }
 
 typedef uint64_t write_function(uint64_t, uint64_t, uint64_t, uint64_t, uint64_t, uint64_t, uint64_t, uint64_t,
-                                uint64_t, uint64_t, uint64_t, const uint8_t *, size_t, const uint8_t *, size_t,
+                                const uint64_t *, size_t, const uint8_t *, size_t, const uint8_t *, size_t,
                                 uint8_t *, size_t);
 
 uint64_t try_write(const layout *at, const message *made, size_t views_length, size_t entries_length, size_t room)
@@ -356,8 +356,8 @@ uint64_t try_write(const layout *at, const message *made, size_t views_length, s
     for (int side = 0; side < SIDES; side++)
         answers[side] =
             writers[side](at->n, at->s, made->kind, made->to_group, made->to_mask, made->from_group,
-                          made->from_replica, made->view, made->numbers[0], made->numbers[1], made->numbers[2],
-                          made->views, views_length, made->entries, entries_length, out_of(side), room);
+                          made->from_replica, made->view, made->numbers, made->number_count, made->views, views_length,
+                          made->entries, entries_length, out_of(side), room);
     if (answers[0] != answers[1]) /* the bytes shown have no room for fields that are too wide */
         printf("kind %" PRIu64 " to %" PRIu64 " mask %" PRIu64 " from %" PRIu64 " %" PRIu64 " view %" PRIu64
                ", %zu bytes of views, %zu of entries\n",

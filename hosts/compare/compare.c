@@ -31,13 +31,15 @@ static void try_writing(const layout *at, const letter *told)
     if (!take_apart(told->bytes, told->length, &made))
         return;
     for (uint64_t i = made.number_count; i < NUMBERS_MOST; i++)
-        made.numbers[i] = chance(70) ? 0 : draw(); /* numbers that the kind does not have are not looked at */
+        made.numbers[i] = draw(); /* for a count that is edited */
     size_t views_length = 4 * made.view_count, entries_length = ENTRY_LENGTH * made.count;
     uint64_t *const wide[] = {&made.kind,         &made.to_group, &made.to_mask,    &made.from_group,
                               &made.from_replica, &made.view,     &made.numbers[0], &made.numbers[1]};
     bool edited = chance(50);
     if (edited && chance(70))
         *wide[below(8)] = chance(30) ? below(10) : edge(at);
+    else if (edited && chance(30))
+        made.number_count = below(NUMBERS_MOST + 1);
     else if (edited && chance(50))
         views_length = below(views_length + 1);
     else if (edited)

@@ -143,7 +143,7 @@ static void tick(struct site *own, uint64_t group, uint64_t replica, uint64_t ti
 {
     uint8_t message[64];
     uint64_t answer = jallumere_write(N, S, JALLUMERE_TICK, group, UINT64_C(1) << replica, JALLUMERE_OUTSIDE,
-                                      JALLUMERE_OUTSIDE, 0, time, 0, 0, NULL, 0, NULL, 0, message, sizeof message);
+                                      JALLUMERE_OUTSIDE, 0, &time, 1, NULL, 0, NULL, 0, message, sizeof message);
     if (JALLUMERE_NUMBER(answer) != JALLUMERE_DONE)
         stop("this is no time for a tick of this site");
     take(own, message, JALLUMERE_LENGTH(answer));

@@ -23,8 +23,8 @@ uint64_t model_entry(uint64_t n, uint64_t s, uint64_t c, uint64_t position, uint
 uint64_t model_read(uint64_t n, uint64_t s, const uint8_t *message, size_t message_length);
 uint64_t model_message_length(uint64_t n, uint64_t s, const uint8_t *bytes, size_t length);
 uint64_t model_write(uint64_t n, uint64_t s, uint64_t kind, uint64_t to_group, uint64_t to_mask,
-                     uint64_t from_group, uint64_t from_replica, uint64_t view, uint64_t first, uint64_t second,
-                     uint64_t third, const uint8_t *views, size_t views_length, const uint8_t *entries,
+                     uint64_t from_group, uint64_t from_replica, uint64_t view, const uint64_t *numbers,
+                     size_t numbers_count, const uint8_t *views, size_t views_length, const uint8_t *entries,
                      size_t entries_length, uint8_t *out, size_t out_length);
 uint64_t model_digest(uint64_t start, const uint8_t *bytes, size_t length);
 

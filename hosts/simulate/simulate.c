@@ -319,7 +319,7 @@ static size_t write_letter(const message *made, uint64_t group, uint64_t mask, i
     uint8_t bytes[256];
     uint64_t answer =
         jallumere_write(at.n, at.s, made->kind, group, mask, JALLUMERE_OUTSIDE, JALLUMERE_OUTSIDE, made->view,
-                        made->numbers[0], made->numbers[1], 0, made->views, 4 * made->view_count, made->entries,
+                        made->numbers, forms[made->kind].numbers, made->views, 4 * made->view_count, made->entries,
                         ENTRY_LENGTH * made->count, bytes, sizeof bytes);
     if (JALLUMERE_NUMBER(answer) != JALLUMERE_DONE)
         fails(-1, "the writer refuses a kind %u with %u", (unsigned)made->kind, JALLUMERE_NUMBER(answer));

@@ -132,7 +132,7 @@ impl Site {
 
     /// The host alone makes ticks: from outside, for this site, the time as the only number.
     fn tick(&mut self, time: u64) -> Outcome {
-        let message = Message { numbers: [time, 0, 0], ..Message::from_outside(Kind::Tick, self.group, 1 << self.replica) };
+        let message = Message { numbers: &[time], ..Message::from_outside(Kind::Tick, self.group, 1 << self.replica) };
         let mut bytes = [0; 64];
         let length = write(SIZES, &message, &mut bytes)?;
         self.take(&bytes[..length])

@@ -18,7 +18,7 @@
 //! start(sizes, 0, 1, &mut state).unwrap();
 //!
 //! // A tick: time 5 for group 0, site 1.
-//! let tick = Message { numbers: [5, 0, 0], ..Message::from_outside(Kind::Tick, 0, 0b010) };
+//! let tick = Message { numbers: &[5], ..Message::from_outside(Kind::Tick, 0, 0b010) };
 //! let mut bytes = [0; 64];
 //! let length = write(sizes, &tick, &mut bytes).unwrap();
 //!
@@ -99,8 +99,8 @@ pub struct Message<'a> {
     pub from_replica: u64,
     /// gView; 0 in transactions and ticks.
     pub view: u64,
-    /// The kind's numbers in their order; those that it does not have are not looked at.
-    pub numbers: [u64; 3],
+    /// The kind's numbers in their order; another count than the kind's is malformed.
+    pub numbers: &'a [u64],
     pub views: &'a [u8],
     pub entries: &'a [u8],
 }
@@ -115,7 +115,7 @@ impl Message<'_> {
             from_group: OUTSIDE,
             from_replica: OUTSIDE,
             view: 0,
-            numbers: [0; 3],
+            numbers: &[],
             views: &[],
             entries: &[],
         }
@@ -233,8 +233,7 @@ pub fn read(sizes: Sizes, message: &[u8]) -> Result<(), Refusal> {
 
 /// Writes a message first in `out` and gives its length; the rest of `out` stays.
 pub fn write(sizes: Sizes, message: &Message<'_>, out: &mut [u8]) -> Result<usize, Refusal> {
-    let [first, second, third] = message.numbers;
-    // SAFETY: pointers and lengths are those of slices that do not overlap (the two that are read may), lent for the
+    // SAFETY: pointers and lengths are those of slices that do not overlap (the three that are read may), lent for the
     // call alone.
     let answer = unsafe {
         raw::jallumere_write(
@@ -246,9 +245,8 @@ pub fn write(sizes: Sizes, message: &Message<'_>, out: &mut [u8]) -> Result<usiz
             message.from_group,
             message.from_replica,
             message.view,
-            first,
-            second,
-            third,
+            message.numbers.as_ptr(),
+            message.numbers.len(),
             message.views.as_ptr(),
             message.views.len(),
             message.entries.as_ptr(),

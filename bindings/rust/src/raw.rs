@@ -38,7 +38,7 @@ functions! {
     fn jallumere_message_length(n: u64, s: u64, bytes: *const u8, length: usize);
     fn jallumere_write(
         n: u64, s: u64, kind: u64, to_group: u64, to_mask: u64, from_group: u64, from_replica: u64, view: u64,
-        first: u64, second: u64, third: u64, views: *const u8, views_length: usize,
+        numbers: *const u64, numbers_count: usize, views: *const u8, views_length: usize,
         entries: *const u8, entries_length: usize, out: *mut u8, out_length: usize
     );
     fn jallumere_digest(start: u64, bytes: *const u8, length: usize);

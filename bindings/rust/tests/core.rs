@@ -23,7 +23,7 @@ fn bytes_of(message: &Message<'_>) -> Vec<u8> {
 }
 
 fn tick(to_mask: u64, time: u64) -> Vec<u8> {
-    bytes_of(&Message { numbers: [time, 0, 0], ..Message::from_outside(Kind::Tick, 0, to_mask) })
+    bytes_of(&Message { numbers: &[time], ..Message::from_outside(Kind::Tick, 0, to_mask) })
 }
 
 fn kinds(sent: &[u8]) -> Vec<u8> {
@@ -32,7 +32,7 @@ fn kinds(sent: &[u8]) -> Vec<u8> {
 
 fn transaction(request: u64, to_mask: u64) -> Vec<u8> {
     let entry = Entry { timestamp: 0, command: 77, request, coordinator: 0, mask: 1 }.bytes().unwrap();
-    bytes_of(&Message { numbers: [10, 20, 0], entries: &entry, ..Message::from_outside(Kind::Transaction, 0, to_mask) })
+    bytes_of(&Message { numbers: &[10, 20], entries: &entry, ..Message::from_outside(Kind::Transaction, 0, to_mask) })
 }
 
 #[test]
