@@ -81,11 +81,13 @@ fn the_writer_gives_the_bytes_of_the_rules() {
 
 #[test]
 fn a_refused_write_leaves_the_buffer() {
-    let message = Message::from_outside(Kind::Tick, 0, 2);
+    let message = Message { numbers: &[0], ..Message::from_outside(Kind::Tick, 0, 2) };
     let mut out = [0xa5; 40];
     assert_eq!(write(SIZES, &message, &mut out[..31]), Err(Refusal::NoRoom));
     assert_eq!(write(SIZES, &Message { to_mask: 8, ..message }, &mut out), Err(Refusal::Malformed));
     assert_eq!(write(SIZES, &Message { entries: &[0; 23], ..message }, &mut out), Err(Refusal::Malformed));
+    assert_eq!(write(SIZES, &Message { numbers: &[], ..message }, &mut out), Err(Refusal::Malformed));
+    assert_eq!(write(SIZES, &Message { numbers: &[0, 0], ..message }, &mut out), Err(Refusal::Malformed));
     assert_eq!(out, [0xa5; 40]);
     assert_eq!(write(SIZES, &message, &mut out), Ok(32));
     assert_eq!(out[32..], [0xa5; 8]);
@@ -127,8 +129,8 @@ fn refusals_leave_memory_as_it_came() {
     let before = state.clone();
     let mut out = [0xa5; 128];
     let change = |view: u64, views: &[u8]| bytes_of(&Message { view, views, ..Message::from_outside(Kind::ChangeView, 0, 7) });
-    let status =
-        bytes_of(&Message { from_group: 0, from_replica: 2, views: &[0; 4], ..Message::from_outside(Kind::SyncStatus, 0, 2) });
+    let from_second = Message { from_group: 0, from_replica: 2, ..Message::from_outside(Kind::SyncStatus, 0, 2) };
+    let status = bytes_of(&Message { numbers: &[0], views: &[0; 4], ..from_second });
     let cases: [(&[u8], usize, Refusal); 7] = [
         (&TICK[..31], 128, Refusal::Malformed),
         (&[], 128, Refusal::Malformed),
