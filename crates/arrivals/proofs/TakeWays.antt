@@ -141,9 +141,9 @@ module _ (sh : Shape) (b out : List ℕ) (e : Entry) (s : Stands sh (stateOf sh 
   pub place-full : sh .c ≤ n → leaves 8 b out ≡ closes sh b out (leaderTakes sh st′ e)
   place-full h = sym (ap (closes sh b out) (no-place sh st′ e (rw k at h)) ∙ closes-refused sh b out 8)
 
-  module _ (h : n < sh .c) (p : Bool) (g : p ≡ ltb (row (e .request) (e .coordinator) (st′ .notes)) (sh .c)) where
+  module _ (h : n < sh .c) (p : Bool) (g : p ≡ ltb (row (e .request) (e .coordinator) (st′ .waiting .notes)) (sh .c)) where
     room : leb (length (ownNoted sh st′ e)) (sh .c) ≡ p
-    room = room-is sh e (st′ .group) (e .stamp) (st′ .notes) (stands-fits s .notes .room) ∙ sym g
+    room = room-is sh e (st′ .site .group) (e .stamp) (st′ .waiting .notes) (stands-fits s .notes .room) ∙ sym g
 
     pub note-full : not p ≡ true → leaves 8 b out ≡ closes sh b out (leaderTakes sh st′ e)
     note-full z = sym (ap (closes sh b out) (no-note sh st′ e (rw k at h) (room ∙ when-not p z)) ∙ closes-refused sh b out 8)

@@ -9,11 +9,11 @@ use Rattle.rules.specs.declared.Shape.{Shape}
 use Rattle.rules.proofs.Answers.{left-answer}
 use Rattle.places.specs.Layout.{lengthFor}
 
-left-state : (x : Answer) (c o : List ℕ) → left x c o .state ≡ c
+pub left-state : (x : Answer) (c o : List ℕ) → left x c o .state ≡ c
 left-state (Done sent) c o = refl
 left-state (Refused number) c o = refl
 
-left-out : (x : Answer) (c o : List ℕ) → left x c o .out ≡ o
+pub left-out : (x : Answer) (c o : List ℕ) → left x c o .out ≡ o
 left-out (Done sent) c o = refl
 left-out (Refused number) c o = refl
 

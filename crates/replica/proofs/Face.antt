@@ -19,19 +19,12 @@ use Rattle.rules.specs.declared.Message.{Message}
 use Rattle.rules.specs.declared.Answer.{Answer}
 use Rattle.rules.specs.declared.Answer.the-variants.{Done, Refused}
 use Rattle.rules.proofs.Tests.{split}
+use Rattle.fresh.proofs.Promises.{left-state, left-out}
 use Rattle.replica.specs.Face.{coded, codeOf, Gives, Puts, Given, narrow, headerOf, fits, writesFrom}
 
 code-left : (a : Answer) (b out : List ℕ) → codeOf a ≡ coded (left a b out .number) (left a b out .sent)
 code-left (Done sent) b out = refl
 code-left (Refused number) b out = refl
-
-left-state : (a : Answer) (b out : List ℕ) → left a b out .state ≡ b
-left-state (Done sent) b out = refl
-left-state (Refused number) b out = refl
-
-left-out : (a : Answer) (b out : List ℕ) → left a b out .out ≡ out
-left-out (Done sent) b out = refl
-left-out (Refused number) b out = refl
 
 pub gives : (a : Answer) (b out : List ℕ) (l : Left) (r : ℕ) → left a b out ≡ l → r ≡ codeOf a → Gives l r b out
 gives a b out l r e c =
