@@ -211,12 +211,6 @@ static void put_change(const scene *now, const row *of)
     }
 }
 
-/* More than any step sends. */
-static size_t outgoing_room(const layout *at)
-{
-    return (size_t)(at->c * (72 + 4 * at->s + ENTRY_LENGTH) + 256);
-}
-
 /* Every group's leader is replica 0; a follower here is replica 1. */
 static void put_state(scene *now, const row *of)
 {
@@ -282,7 +276,7 @@ static void put_row(scene *now, const row *of)
     put_opening(now->message, &made);
     now->message_length = length_of(&made) - of->message_cut;
     now->state_length = now->at.length - of->state_cut;
-    now->room = of->no_room ? 0 : outgoing_room(&now->at);
+    now->room = of->no_room ? 0 : ample_room(&now->at);
 }
 
 /* ---- measuring ---------------------------------------------------------------------------------------- */
@@ -311,8 +305,8 @@ static double time_side(const scene *now, int side, size_t count, uint64_t *answ
         memcpy(copies[side] + length * i, now->state, length);
     double before = thread_time();
     for (size_t i = 0; i < count; i++)
-        *answer = steps[side](now->at.n, now->at.s, now->at.c, copies[side] + length * i, now->state_length,
-                              now->message, now->message_length, out[side], now->room);
+        *answer = steps[side](SIZES(&now->at), copies[side] + length * i, now->state_length, now->message,
+                              now->message_length, out[side], now->room);
     double taken = thread_time() - before - clock_time;
     return (taken < 1 ? 1 : taken) / (double)count;
 }
@@ -372,7 +366,7 @@ static void measure_all(void)
                  .message = memory(opening_length(GROUPS_MOST, NUMBERS_MOST) + most.table)};
     for (int side = 0; side < 2; side++) {
         copies[side] = memory(most.length > COPIES_BYTES ? most.length : COPIES_BYTES);
-        out[side] = memory(outgoing_room(&most));
+        out[side] = memory(ample_room(&most));
     }
     clock_time = 1e300;
     for (int i = 0; i < 1000; i++) {

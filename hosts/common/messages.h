@@ -98,6 +98,13 @@ static inline size_t length_of_kind(uint64_t kind, uint64_t s, uint64_t count)
     return opening_length(forms[kind].has_views ? s : 0, forms[kind].numbers) + ENTRY_LENGTH * (size_t)count;
 }
 
+/* Enough for a leader that releases a full log, which sends most: a fast reply for each, and the log once more. */
+static inline size_t ample_room(const layout *at)
+{
+    return length_of_kind(JALLUMERE_FAST_REPLY, at->s, 1) * (size_t)at->c +
+           length_of_kind(JALLUMERE_REPLICA_SYNC, at->s, at->c);
+}
+
 /* Writes everything before the entries and gives the place where they go. */
 static inline uint8_t *put_opening(uint8_t *to, const message *made)
 {

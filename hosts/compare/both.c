@@ -103,7 +103,7 @@ static void count_step(const layout *at, const uint8_t *state, const letter *tol
     unsigned status = state[AT_STATUS];
     reached.placed[row][status == JALLUMERE_STATUS_CROSS_SHARD ? 4 : 2 * (status - 1) + state_leads(at, state)]++;
     reached.entered[state_of(1)[AT_STATUS]]++;
-    reached.lost_goodness[row] += model_good(at->n, at->s, at->c, state_of(1), at->length) != JALLUMERE_DONE;
+    reached.lost_goodness[row] += model_good(SIZES(at), state_of(1), at->length) != JALLUMERE_DONE;
 }
 
 /* ---- differences ------------------------------------------------------------------------------------- */
@@ -147,13 +147,23 @@ void end_with_difference(const char *call, const layout *at, const char *why, co
 
 /* ---- calls that write nothing ------------------------------------------------------------------------ */
 
-static uint64_t agree(const char *call, const layout *at, uint64_t core, uint64_t model, const letter *given)
+static uint64_t agree(const char *call, const layout *at, uint64_t core, uint64_t model, letter given)
 {
     char why[96];
     snprintf(why, sizeof why, "the core answers %" PRIu64 ", the model %" PRIu64, core, model);
     if (core != model)
-        end_with_difference(call, at, why, given->bytes, given->length);
+        end_with_difference(call, at, why, given.bytes, given.length);
     return core;
+}
+
+/* What both answer to the same call, about some given bytes. */
+#define AGREE(call, at, given, ...)                                                                               \
+    agree(#call, at, jallumere_##call(__VA_ARGS__), model_##call(__VA_ARGS__), given)
+
+/* Bytes as they lie, to be shown. */
+static letter lying(const uint8_t *bytes, size_t length)
+{
+    return (letter){(uint8_t *)bytes, length, length};
 }
 
 /* Of its own memory, so that reading past its end can be noticed. */
@@ -166,16 +176,12 @@ static letter alone(const uint8_t *bytes, size_t length)
 
 void try_state_length(const layout *at)
 {
-    letter none = {0};
-    agree("state_length", at, jallumere_state_length(at->n, at->s, at->c), model_state_length(at->n, at->s, at->c),
-          &none);
+    AGREE(state_length, at, lying(NULL, 0), SIZES(at));
 }
 
 bool try_good(const layout *at, const uint8_t *state, size_t length, enum origin from)
 {
-    letter given = {(uint8_t *)state, length, length};
-    uint64_t answer = agree("good", at, jallumere_good(at->n, at->s, at->c, state, length),
-                            model_good(at->n, at->s, at->c, state, length), &given);
+    uint64_t answer = AGREE(good, at, lying(state, length), SIZES(at), state, length);
     reached.good[from][answer != JALLUMERE_DONE]++;
     if (chance(20))
         try_state_readers(at, state, length);
@@ -185,32 +191,25 @@ bool try_good(const layout *at, const uint8_t *state, size_t length, enum origin
 /* Every field, group and field of an entry, and numbers next to these; of entries a few positions. */
 void try_state_readers(const layout *at, const uint8_t *state, size_t length)
 {
-    uint64_t n = at->n, s = at->s, c = at->c;
-    letter given = {(uint8_t *)state, length, length};
+    letter given = lying(state, length);
     for (uint64_t i = 0; i <= JALLUMERE_FIELD_LEADER + 1; i++) {
-        agree("field", at, jallumere_field(n, s, c, i, state, length), model_field(n, s, c, i, state, length),
-              &given);
-        agree("group_view", at, jallumere_group_view(n, s, c, i, state, length),
-              model_group_view(n, s, c, i, state, length), &given);
+        AGREE(field, at, given, SIZES(at), i, state, length);
+        AGREE(group_view, at, given, SIZES(at), i, state, length);
     }
-    uint64_t logged = model_field(n, s, c, JALLUMERE_FIELD_LOG_LENGTH, state, length), any = draw();
-    const uint64_t positions[] = {0, 1, below(logged), logged, logged + 1, c, c + 1, any};
+    uint64_t logged = model_field(SIZES(at), JALLUMERE_FIELD_LOG_LENGTH, state, length), any = draw();
+    const uint64_t positions[] = {0, 1, below(logged), logged, logged + 1, at->c, at->c + 1, any};
     for (unsigned i = 0; i < 8; i++)
         for (uint64_t field = 0; field <= JALLUMERE_ENTRY_MASK + 1; field++)
-            agree("entry", at, jallumere_entry(n, s, c, positions[i], field, state, length),
-                  model_entry(n, s, c, positions[i], field, state, length), &given);
-    agree("field", at, jallumere_field(n, s, c, any, state, length), model_field(n, s, c, any, state, length),
-          &given);
+            AGREE(entry, at, given, SIZES(at), positions[i], field, state, length);
+    AGREE(field, at, given, SIZES(at), any, state, length);
     reached.readings++;
 }
 
 uint64_t try_read(const layout *at, const letter *told)
 {
     letter given = alone(told->bytes, told->length);
-    uint64_t answer = agree("read", at, jallumere_read(at->n, at->s, given.bytes, given.length),
-                            model_read(at->n, at->s, given.bytes, given.length), &given);
-    agree("message_length", at, jallumere_message_length(at->n, at->s, given.bytes, given.length),
-          model_message_length(at->n, at->s, given.bytes, given.length), &given);
+    uint64_t answer = AGREE(read, at, given, at->n, at->s, given.bytes, given.length);
+    AGREE(message_length, at, given, at->n, at->s, given.bytes, given.length);
     free(given.bytes);
     reached.messages[kind_row(told->bytes, told->length)][answer]++;
     return answer;
@@ -219,9 +218,8 @@ uint64_t try_read(const layout *at, const letter *told)
 void try_digest(const uint8_t *bytes, size_t length)
 {
     uint64_t start = chance(50) ? JALLUMERE_DIGEST_START : draw();
-    letter given = {(uint8_t *)bytes, length, length};
     layout none = {0};
-    agree("digest", &none, jallumere_digest(start, bytes, length), model_digest(start, bytes, length), &given);
+    AGREE(digest, &none, lying(bytes, length), start, bytes, length);
     reached.digests++;
 }
 
@@ -251,12 +249,6 @@ uint8_t *state_of(int side)
 uint8_t *out_of(int side)
 {
     return out_area[side] + GUARD_LENGTH;
-}
-
-size_t ample_room(const layout *at)
-{
-    return length_of_kind(JALLUMERE_FAST_REPLY, at->s, 1) * at->c +
-           length_of_kind(JALLUMERE_REPLICA_SYNC, at->s, at->c) + 256;
 }
 
 static void lend(const uint8_t *state, size_t length, size_t room)
@@ -323,8 +315,8 @@ uint64_t try_step(const layout *at, const uint8_t *state, size_t length, const l
     letter given = alone(told->bytes, told->length);
     lend(state, length, room);
     const uint64_t answers[] = {
-        jallumere_step(at->n, at->s, at->c, state_of(0), length, given.bytes, given.length, out_of(0), room),
-        model_step(at->n, at->s, at->c, state_of(1), length, given.bytes, given.length, out_of(1), room)};
+        jallumere_step(SIZES(at), state_of(0), length, given.bytes, given.length, out_of(0), room),
+        model_step(SIZES(at), state_of(1), length, given.bytes, given.length, out_of(1), room)};
     uint64_t answer = compare_sides("step", at, answers, state, length, room, &given);
     count_step(at, state, told, answer, from);
     reached.exact += JALLUMERE_NUMBER(answer) == 0 && JALLUMERE_LENGTH(answer) == room;
@@ -336,8 +328,8 @@ void try_start(const layout *at, uint64_t group, uint64_t replica, size_t length
 {
     letter given = {0};
     lend(pattern, length, 0);
-    const uint64_t answers[] = {jallumere_start(at->n, at->s, at->c, group, replica, state_of(0), length),
-                                model_start(at->n, at->s, at->c, group, replica, state_of(1), length)};
+    const uint64_t answers[] = {jallumere_start(SIZES(at), group, replica, state_of(0), length),
+                                model_start(SIZES(at), group, replica, state_of(1), length)};
     reached.starts[compare_sides("start", at, answers, pattern, length, 0, &given) != JALLUMERE_DONE]++;
 }
 

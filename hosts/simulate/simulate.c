@@ -508,11 +508,11 @@ static void check_done(int of, const message *told)
 {
     site *own = &sites[of];
     own->was = own->is;
-    if (jallumere_good(at.n, at.s, at.c, own->state, at.length) != 0)
+    if (jallumere_good(SIZES(&at), own->state, at.length) != 0)
         fails(of, "its state is not good after a kind %u", (unsigned)told->kind);
     for (uint64_t field = 1; field <= JALLUMERE_FIELD_LEADER + 1; field++) {
-        uint64_t says = jallumere_field(at.n, at.s, at.c, field, own->state, at.length);
-        if (says != model_field(at.n, at.s, at.c, field, own->state, at.length))
+        uint64_t says = jallumere_field(SIZES(&at), field, own->state, at.length);
+        if (says != model_field(SIZES(&at), field, own->state, at.length))
             fails(of, "the reader of field %u does not say what stands in its state", (unsigned)field);
         if (field <= JALLUMERE_FIELD_LEADER)
             own->is.fields[field - 1] = (unsigned)says;
@@ -532,7 +532,7 @@ static unsigned take_step(int of, size_t which)
     memcpy(before, state, at.length);
     memcpy(outgoing, outgoing_before, outgoing_room);
     uint64_t answer =
-        jallumere_step(at.n, at.s, at.c, state, at.length, taken.bytes, taken.length, outgoing, outgoing_room);
+        jallumere_step(SIZES(&at), state, at.length, taken.bytes, taken.length, outgoing, outgoing_room);
     unsigned refusal = JALLUMERE_NUMBER(answer);
     size_t length = JALLUMERE_LENGTH(answer);
     step_count++;
@@ -762,7 +762,7 @@ static void print_log(const site *own)
     for (unsigned position = 0; position <= is->logged; position++) {
         for (unsigned i = 0; i < 3 && position != 0; i++)
             printf("%c%u", " .@"[i],
-                   (unsigned)jallumere_entry(at.n, at.s, at.c, position, fields[i], own->state, at.length));
+                   (unsigned)jallumere_entry(SIZES(&at), position, fields[i], own->state, at.length));
         printf("%s%s", position == is->commit ? " |" : "",
                position == is->sync && is->sync != is->commit ? " /" : "");
     }
@@ -815,11 +815,11 @@ static void start_all(void)
     if (jallumere_version() != JALLUMERE_VERSION)
         stop("the core's interface has version %u, the header %u", (unsigned)jallumere_version(),
              JALLUMERE_VERSION);
-    if (jallumere_state_length(at.n, at.s, at.c) != at.length)
+    if (jallumere_state_length(SIZES(&at)) != at.length)
         fails(-1, "the core says %" PRIu64 " bytes for a state, the documents %zu",
-              jallumere_state_length(at.n, at.s, at.c), at.length);
+              jallumere_state_length(SIZES(&at)), at.length);
     site_count = (size_t)(at.n * at.s);
-    outgoing_room = (size_t)(at.c * (72 + 4 * at.s + ENTRY_LENGTH) + at.s * (256 + 8 * at.s));
+    outgoing_room = ample_room(&at);
     before = memory(at.length);
     outgoing = memory(outgoing_room);
     outgoing_before = memory(outgoing_room);
@@ -828,7 +828,7 @@ static void start_all(void)
         sites[i].skew = (unsigned)below(4);
         sites[i].state = memory(at.length);
         memset(sites[i].state, 0xa5, at.length);
-        if (jallumere_start(at.n, at.s, at.c, i / at.n, i % at.n, sites[i].state, at.length) != 0)
+        if (jallumere_start(SIZES(&at), i / at.n, i % at.n, sites[i].state, at.length) != 0)
             fails((int)i, "it cannot be started");
         check_done((int)i, &(message){0});
         plan((event){.at = 1 + (unsigned)below(TICK_TIME), .happen = tick, .site = (int)i});
