@@ -20,7 +20,7 @@ const char program_name[] = "compare";
 enum { POOL = 3000 };
 
 static uint64_t steps_wanted = 100000;
-static uint8_t *spare_state;
+static uint8_t *spare_state, *built_state;
 
 /* ---- one message at one replica, in every variation -------------------------------------------------- */
 
@@ -90,7 +90,7 @@ static void try_rooms(const layout *at, const uint8_t *state, const letter *told
 
 static void try_damage(const layout *at, const uint8_t *state, const letter *told)
 {
-    letter odd = {0};
+    static letter odd;
     set_letter(&odd, told->bytes, told->length);
     if (chance(50)) {
         for (uint64_t i = chance(80) ? 1 : 2; i > 0; i--)
@@ -104,7 +104,6 @@ static void try_damage(const layout *at, const uint8_t *state, const letter *tol
         try_good(at, spare_state, at->length, DAMAGED_STATE);
         try_step(at, spare_state, at->length, &odd, ample_room(at), DAMAGED_STATE);
     }
-    free(odd.bytes);
 }
 
 /* All that is tried with a message besides taking it. */
@@ -181,7 +180,7 @@ static void deliver(uint64_t to, const letter *told)
     try_around(at, state, told, net.from);
     uint64_t answer = try_step(at, state, at->length, told, ample_room(at), net.from);
     if (JALLUMERE_NUMBER(answer) == JALLUMERE_DONE) {
-        letter sent = {0};
+        static letter sent;
         set_letter(&sent, out_of(1), JALLUMERE_LENGTH(answer));
         memcpy(state, state_of(1), at->length);
         if (chance(10))
@@ -193,7 +192,6 @@ static void deliver(uint64_t to, const letter *told)
                                     sent.length);
             post_to_mask(sent.bytes + place, length);
         }
-        free(sent.bytes);
     }
     if (chance(net.odd) && make_odd(at, state))
         net.from = FROM_EDIT;
@@ -202,14 +200,13 @@ static void deliver(uint64_t to, const letter *told)
 /* From outside to all replicas of the masked groups. */
 static void post_to_groups(message *made, uint64_t mask)
 {
-    letter told = {0};
+    static letter told;
     made->to_mask = (1 << net.at.n) - 1;
     for (made->to_group = 0; made->to_group < net.at.s; made->to_group++) {
         compose(&told, made);
         if (mask >> made->to_group & 1)
             post_to_mask(told.bytes, told.length);
     }
-    free(told.bytes);
 }
 
 static void submit_transaction(void)
@@ -228,7 +225,7 @@ static void submit_transaction(void)
 
 static void tick(void)
 {
-    letter told = {0};
+    static letter told;
     uint64_t to = below(net.at.n * net.at.s), early = below(8);
     message made = message_of_kind(JALLUMERE_TICK, net.at.s);
     net.time += below(4);
@@ -240,7 +237,6 @@ static void tick(void)
                                          : 0;
     compose(&told, &made);
     deliver(to, &told);
-    free(told.bytes);
 }
 
 static void change_view(void)
@@ -258,7 +254,7 @@ static void change_view(void)
 
 static void deliver_some(void)
 {
-    letter told = {0};
+    static letter told;
     if (net.waiting == 0)
         return;
     size_t place = (size_t)below(net.waiting);
@@ -271,7 +267,6 @@ static void deliver_some(void)
     }
     if (!chance(net.loss))
         deliver(to, &told);
-    free(told.bytes);
 }
 
 static void begin_run(const layout *at)
@@ -316,27 +311,24 @@ static void run_groups(const layout *at, uint64_t turns)
 
 static void run_built(const layout *at, uint64_t turns)
 {
-    uint8_t *state = memory(at->length);
-    letter told = {0};
+    uint8_t *state = built_state;
+    static letter told;
     uint64_t group = below(at->s);
-    history from = make_history(at, group);
+    make_past(at, group);
     for (uint64_t turn = 0; turn < turns; turn++) {
         if (turn % 4 == 0)
-            build_any_state(at, state, &from, group);
+            build_any_state(at, state, group);
         if (turn % 4 == 2 && chance(50))
             make_odd(at, state);
         try_good(at, state, at->length, BUILT);
         for (int i = 0; i < 3; i++) {
-            make_fitting(at, state, &from, some_kind(at, state), &told);
+            make_fitting(at, state, some_kind(at, state), &told);
             try_around(at, state, &told, BUILT);
             uint64_t answer = try_step(at, state, at->length, &told, ample_room(at), BUILT);
             if (JALLUMERE_NUMBER(answer) == JALLUMERE_DONE && chance(40))
                 memcpy(state, state_of(1), at->length);
         }
     }
-    free(told.bytes);
-    forget_history(&from);
-    free(state);
 }
 
 /*
@@ -345,14 +337,14 @@ static void run_built(const layout *at, uint64_t turns)
  */
 static void run_kind(const layout *at, uint64_t kind, uint64_t wanted)
 {
-    uint8_t *state = memory(at->length);
-    letter told = {0};
+    uint8_t *state = built_state;
+    static letter told;
     uint64_t done = 0, group = below(at->s);
-    history from = make_history(at, group);
+    make_past(at, group);
     for (uint64_t tries = 0; done < wanted && tries < 20 * wanted; tries++) {
-        build_state_for(at, state, &from, group, kind);
+        build_state_for(at, state, group, kind);
         try_good(at, state, at->length, BUILT);
-        make_fitting(at, state, &from, kind, &told);
+        make_fitting(at, state, kind, &told);
         uint64_t answer = try_step(at, state, at->length, &told, ample_room(at), BUILT);
         bool taken = JALLUMERE_NUMBER(answer) == JALLUMERE_DONE;
         done += taken;
@@ -362,9 +354,6 @@ static void run_kind(const layout *at, uint64_t kind, uint64_t wanted)
             try_damage(at, state, &told);
         show_progress(steps_done, steps_wanted, "steps");
     }
-    free(told.bytes);
-    forget_history(&from);
-    free(state);
 }
 
 /* Each kind that a site takes, in each shape, and more where a step costs less; 3, 18 and 19 come from another
@@ -390,7 +379,7 @@ static void try_long_logs(void)
     static const uint64_t counts[] = {4096, 4097, 6000, 8193, 9000};
     layout at = lay_out(3, 2, 4096);
     uint8_t views[8] = {0}, *entries = memory(ENTRY_LENGTH * 9000);
-    letter told = {0};
+    static letter told;
     message made = message_of_kind(JALLUMERE_REPLICA_SYNC, 2);
     made.to_group = made.from_group = made.from_replica = 0;
     made.views = views;
@@ -407,7 +396,6 @@ static void try_long_logs(void)
         compose(&told, &made);
         try_read(&at, &told);
     }
-    free(told.bytes);
     free(entries);
 }
 
@@ -463,7 +451,7 @@ static const uint8_t *take(records *from, size_t length)
  */
 static bool replay_step(const layout *at, uint8_t *state, records *from, bool shown)
 {
-    letter told = {0};
+    static letter told;
     size_t room = load(take(from, 4), 4), length = load(take(from, 4), 4);
     if (room > ample_room(at))
         stop("a record asks for more room than any step needs");
@@ -480,7 +468,6 @@ static bool replay_step(const layout *at, uint8_t *state, records *from, bool sh
                " bytes to send, given %u and %zu, or other bytes\n",
                steps_done, length == 0 ? 0 : told.bytes[0], expected[0], load(expected + 1, 4),
                JALLUMERE_NUMBER(answer), JALLUMERE_LENGTH(answer));
-    free(told.bytes);
     return !same;
 }
 
@@ -525,6 +512,7 @@ int main(int count, char **words)
     seed_chance(seed);
     make_areas();
     spare_state = memory(largest.length);
+    built_state = memory(largest.length);
     if (traces != NULL)
         return replay(traces) == 0 ? 0 : 1;
     run_largest();
