@@ -281,8 +281,7 @@ static void put_row(scene *now, const row *of)
 
 /* ---- measuring ---------------------------------------------------------------------------------------- */
 
-static uint64_t (*const steps[2])(uint64_t, uint64_t, uint64_t, uint8_t *, size_t, const uint8_t *, size_t,
-                                  uint8_t *, size_t) = {jallumere_step, model_step};
+static __typeof__(jallumere_step) *const steps[2] = {jallumere_step, model_step};
 
 /* Nanoseconds of core and model; 0 before they are measured. What reading the clock takes of a measured time. */
 static double cells[SHAPES][ROWS][CAPACITIES][FILLS][2], clock_time;

@@ -224,4 +224,9 @@ static inline uint64_t majority_of(uint64_t n)
     return (n - 1) / 2 + 1;
 }
 
+/* In words, for people: the section with the field, or with the entry, note, vote or reply that a state's byte
+ * belongs to, and what that says. */
+enum { PLACE_ROOM = 160 };
+const char *describe_place(const layout *at, const uint8_t *state, size_t byte, char room[PLACE_ROOM]);
+
 #endif

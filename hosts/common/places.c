@@ -1,4 +1,4 @@
-#include "places.h"
+#include "layout.h"
 
 #include <inttypes.h>
 #include <stdio.h>

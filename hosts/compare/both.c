@@ -1,11 +1,10 @@
 #include "both.h"
-#include "../common/places.h"
 #include "../model/model.h"
 
 #include <stdio.h>
 #include <stdlib.h>
 
-enum { GUARD_LENGTH = 64, SHOWN_ROWS = 24, SPANS = 5, TABLES = 7, SIDES = 2 };
+enum { GUARD_LENGTH = 64, SHOWN_ROWS = 24, SPANS = 5, TABLES = 7 };
 
 static const char *const side_names[SIDES] = {"core", "model"};
 
@@ -102,8 +101,8 @@ static void count_step(const layout *at, const uint8_t *state, const letter *tol
         return;
     unsigned status = state[AT_STATUS];
     reached.placed[row][status == JALLUMERE_STATUS_CROSS_SHARD ? 4 : 2 * (status - 1) + state_leads(at, state)]++;
-    reached.entered[state_of(1)[AT_STATUS]]++;
-    reached.lost_goodness[row] += model_good(SIZES(at), state_of(1), at->length) != JALLUMERE_DONE;
+    reached.entered[state_of[1][AT_STATUS]]++;
+    reached.lost_goodness[row] += model_good(SIZES(at), state_of[1], at->length) != JALLUMERE_DONE;
 }
 
 /* ---- differences ------------------------------------------------------------------------------------- */
@@ -226,38 +225,29 @@ void try_digest(const uint8_t *bytes, size_t length)
 /* ---- calls that write -------------------------------------------------------------------------------- */
 
 /* The bytes lent to each side lie between guards. */
-static uint8_t *state_area[SIDES], *out_area[SIDES], *pattern;
+uint8_t *state_of[SIDES], *out_of[SIDES];
+static uint8_t *pattern;
 
 void make_areas(void)
 {
     layout largest = lay_out(REPLICAS_MOST, GROUPS_MOST, CAPACITY_MOST);
     size_t most = largest.length + ample_room(&largest) + 2 * GUARD_LENGTH;
     for (int side = 0; side < SIDES; side++) {
-        state_area[side] = memory(most);
-        out_area[side] = memory(most);
+        state_of[side] = (uint8_t *)memory(most) + GUARD_LENGTH;
+        out_of[side] = (uint8_t *)memory(most) + GUARD_LENGTH;
     }
     pattern = memory(most);
     for (size_t i = 0; i < most; i++)
         pattern[i] = (uint8_t)(i * 37 + i / 256 + 11);
 }
 
-uint8_t *state_of(int side)
-{
-    return state_area[side] + GUARD_LENGTH;
-}
-
-uint8_t *out_of(int side)
-{
-    return out_area[side] + GUARD_LENGTH;
-}
-
 static void lend(const uint8_t *state, size_t length, size_t room)
 {
     for (int side = 0; side < SIDES; side++) {
-        memcpy(state_area[side], pattern, GUARD_LENGTH);
-        copy(state_of(side), state, length);
-        memcpy(state_of(side) + length, pattern, GUARD_LENGTH);
-        memcpy(out_area[side], pattern, room + 2 * GUARD_LENGTH);
+        memcpy(state_of[side] - GUARD_LENGTH, pattern, GUARD_LENGTH);
+        copy(state_of[side], state, length);
+        memcpy(state_of[side] + length, pattern, GUARD_LENGTH);
+        memcpy(out_of[side] - GUARD_LENGTH, pattern, room + 2 * GUARD_LENGTH);
     }
 }
 
@@ -265,16 +255,16 @@ static void lend(const uint8_t *state, size_t length, size_t room)
 static const char *misuse(int side, uint64_t answer, const uint8_t *state, size_t length, size_t room)
 {
     size_t sent = JALLUMERE_LENGTH(answer);
-    if (memcmp(state_area[side], pattern, GUARD_LENGTH) != 0 ||
-        memcmp(state_of(side) + length, pattern, GUARD_LENGTH) != 0)
+    if (memcmp(state_of[side] - GUARD_LENGTH, pattern, GUARD_LENGTH) != 0 ||
+        memcmp(state_of[side] + length, pattern, GUARD_LENGTH) != 0)
         return "written outside of the state";
     if (sent > room)
         return "outgoing length beyond the room";
-    if (memcmp(out_area[side], pattern, GUARD_LENGTH) != 0 ||
-        memcmp(out_of(side) + sent, pattern + GUARD_LENGTH + sent, room - sent + GUARD_LENGTH) != 0)
+    if (memcmp(out_of[side] - GUARD_LENGTH, pattern, GUARD_LENGTH) != 0 ||
+        memcmp(out_of[side] + sent, pattern + GUARD_LENGTH + sent, room - sent + GUARD_LENGTH) != 0)
         return "written behind the outgoing bytes";
     if (JALLUMERE_NUMBER(answer) != 0 &&
-        (sent != 0 || (length != 0 && memcmp(state_of(side), state, length) != 0)))
+        (sent != 0 || (length != 0 && memcmp(state_of[side], state, length) != 0)))
         return "a refusal that left something behind";
     return NULL;
 }
@@ -286,9 +276,9 @@ static uint64_t compare_sides(const char *call, const layout *at, const uint64_t
     char place[PLACE_ROOM];
     size_t byte = 0;
     const char *why = answers[0] != answers[1] ? "the answers differ" : NULL;
-    if (why == NULL && memcmp(state_of(0), state_of(1), length) != 0)
+    if (why == NULL && memcmp(state_of[0], state_of[1], length) != 0)
         why = "the states differ";
-    if (why == NULL && memcmp(out_of(0), out_of(1), room) != 0)
+    if (why == NULL && memcmp(out_of[0], out_of[1], room) != 0)
         why = "the outgoing buffers differ";
     for (int side = 0; side < SIDES && why == NULL; side++)
         why = misuse(side, answers[side], state, length, room);
@@ -297,15 +287,15 @@ static uint64_t compare_sides(const char *call, const layout *at, const uint64_t
     for (int side = 0; side < SIDES; side++)
         printf("%s: answer %u, outgoing length %zu\n", side_names[side], JALLUMERE_NUMBER(answers[side]),
                JALLUMERE_LENGTH(answers[side]));
-    while (byte < length && state_of(0)[byte] == state_of(1)[byte])
+    while (byte < length && state_of[0][byte] == state_of[1][byte])
         byte++;
     if (byte < length && length == at->length)
         printf("first byte of the state that differs: %zu, %s\n", byte,
-               describe_place(at, state_of(1), byte, place));
+               describe_place(at, state_of[1], byte, place));
     printf("room %zu\n", room);
     show_bytes("state before", state, NULL, length);
-    show_bytes("state after", state_of(0), state_of(1), length);
-    show_bytes("outgoing buffer", out_of(0), out_of(1), room);
+    show_bytes("state after", state_of[0], state_of[1], length);
+    show_bytes("outgoing buffer", out_of[0], out_of[1], room);
     end_with_difference(call, at, why, told->bytes, told->length);
 }
 
@@ -315,8 +305,8 @@ uint64_t try_step(const layout *at, const uint8_t *state, size_t length, const l
     letter given = alone(told->bytes, told->length);
     lend(state, length, room);
     const uint64_t answers[] = {
-        jallumere_step(SIZES(at), state_of(0), length, given.bytes, given.length, out_of(0), room),
-        model_step(SIZES(at), state_of(1), length, given.bytes, given.length, out_of(1), room)};
+        jallumere_step(SIZES(at), state_of[0], length, given.bytes, given.length, out_of[0], room),
+        model_step(SIZES(at), state_of[1], length, given.bytes, given.length, out_of[1], room)};
     uint64_t answer = compare_sides("step", at, answers, state, length, room, &given);
     count_step(at, state, told, answer, from);
     reached.exact += JALLUMERE_NUMBER(answer) == 0 && JALLUMERE_LENGTH(answer) == room;
@@ -328,18 +318,14 @@ void try_start(const layout *at, uint64_t group, uint64_t replica, size_t length
 {
     letter given = {0};
     lend(pattern, length, 0);
-    const uint64_t answers[] = {jallumere_start(SIZES(at), group, replica, state_of(0), length),
-                                model_start(SIZES(at), group, replica, state_of(1), length)};
+    const uint64_t answers[] = {jallumere_start(SIZES(at), group, replica, state_of[0], length),
+                                model_start(SIZES(at), group, replica, state_of[1], length)};
     reached.starts[compare_sides("start", at, answers, pattern, length, 0, &given) != JALLUMERE_DONE]++;
 }
 
-typedef uint64_t write_function(uint64_t, uint64_t, uint64_t, uint64_t, uint64_t, uint64_t, uint64_t, uint64_t,
-                                uint64_t, uint64_t, uint64_t, const uint8_t *, size_t, const uint8_t *, size_t,
-                                uint8_t *, size_t);
-
 uint64_t try_write(const layout *at, const message *made, size_t views_length, size_t entries_length, size_t room)
 {
-    static write_function *const writers[SIDES] = {jallumere_write, model_write};
+    static __typeof__(jallumere_write) *const writers[SIDES] = {jallumere_write, model_write};
     static const unsigned columns[ANSWERS] = {[0] = 3, [1] = 4, [2] = 5, [9] = 6};
     uint64_t answers[SIDES];
     letter given = {0};
@@ -349,7 +335,7 @@ uint64_t try_write(const layout *at, const message *made, size_t views_length, s
         answers[side] =
             writers[side](at->n, at->s, made->kind, made->to_group, made->to_mask, made->from_group,
                           made->from_replica, made->view, made->numbers[0], made->numbers[1], made->numbers[2],
-                          made->views, views_length, made->entries, entries_length, out_of(side), room);
+                          made->views, views_length, made->entries, entries_length, out_of[side], room);
     if (answers[0] != answers[1]) /* the bytes shown have no room for fields that are too wide */
         printf("kind %" PRIu64 " to %" PRIu64 " mask %" PRIu64 " from %" PRIu64 " %" PRIu64 " view %" PRIu64
                ", %zu bytes of views, %zu of entries\n",

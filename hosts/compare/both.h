@@ -27,8 +27,8 @@ extern uint64_t seed, steps_done;
 void make_areas(void);
 
 /* After a call: the state that a side was left with, and its outgoing buffer. */
-uint8_t *state_of(int side);
-uint8_t *out_of(int side);
+enum { SIDES = 2 };
+extern uint8_t *state_of[SIDES], *out_of[SIDES];
 
 /* The answer of both; sizes and lengths may be wrong ones. */
 uint64_t try_step(const layout *at, const uint8_t *state, size_t length, const letter *told, size_t room,

@@ -43,7 +43,7 @@ static void try_writing(const layout *at, const letter *told)
     else if (edited)
         entries_length = below(entries_length + 1);
     uint64_t answer = try_write(at, &made, views_length, entries_length, told->length + below(40));
-    bool same = JALLUMERE_LENGTH(answer) == told->length && memcmp(out_of(1), told->bytes, told->length) == 0;
+    bool same = JALLUMERE_LENGTH(answer) == told->length && memcmp(out_of[1], told->bytes, told->length) == 0;
     if (!edited && try_read(at, told) == JALLUMERE_DONE && !same)
         end_with_difference("write", at, "a message that reads well is not written as it stands", told->bytes,
                             told->length);
@@ -181,8 +181,8 @@ static void deliver(uint64_t to, const letter *told)
     uint64_t answer = try_step(at, state, at->length, told, ample_room(at), net.from);
     if (JALLUMERE_NUMBER(answer) == JALLUMERE_DONE) {
         static letter sent;
-        set_letter(&sent, out_of(1), JALLUMERE_LENGTH(answer));
-        memcpy(state, state_of(1), at->length);
+        set_letter(&sent, out_of[1], JALLUMERE_LENGTH(answer));
+        memcpy(state, state_of[1], at->length);
         if (chance(10))
             try_good(at, state, at->length, net.from);
         for (size_t length, place = 0; place < sent.length; place += length) {
@@ -284,7 +284,7 @@ static void begin_run(const layout *at)
     net.from = FROM_RUN;
     for (uint64_t i = 0; i < replicas; i++) {
         try_start(at, i / at->n, i % at->n, at->length);
-        memcpy(net.states + at->length * i, state_of(1), at->length);
+        memcpy(net.states + at->length * i, state_of[1], at->length);
     }
 }
 
@@ -326,7 +326,7 @@ static void run_built(const layout *at, uint64_t turns)
             try_around(at, state, &told, BUILT);
             uint64_t answer = try_step(at, state, at->length, &told, ample_room(at), BUILT);
             if (JALLUMERE_NUMBER(answer) == JALLUMERE_DONE && chance(40))
-                memcpy(state, state_of(1), at->length);
+                memcpy(state, state_of[1], at->length);
         }
     }
 }
@@ -458,10 +458,10 @@ static bool replay_step(const layout *at, uint8_t *state, records *from, bool sh
     set_letter(&told, take(from, length), length);
     const uint8_t *expected = take(from, 1 + 4 + 8 + 8);
     uint64_t answer = try_step(at, state, at->length, &told, room, RECORDED);
-    memcpy(state, state_of(1), at->length);
+    memcpy(state, state_of[1], at->length);
     bool same =
         JALLUMERE_NUMBER(answer) == expected[0] && JALLUMERE_LENGTH(answer) == load(expected + 1, 4) &&
-        jallumere_digest(JALLUMERE_DIGEST_START, out_of(1), JALLUMERE_LENGTH(answer)) == load(expected + 5, 8) &&
+        jallumere_digest(JALLUMERE_DIGEST_START, out_of[1], JALLUMERE_LENGTH(answer)) == load(expected + 5, 8) &&
         jallumere_digest(JALLUMERE_DIGEST_START, state, at->length) == load(expected + 13, 8);
     if (!same && !shown)
         printf("the record says otherwise at step %" PRIu64 ", of kind %u: expected answer %u and %" PRIu64
@@ -485,7 +485,7 @@ static uint64_t replay(const char *path)
             const uint8_t *told = take(&from, 6);
             at = lay_out(told[0], told[1], load(told + 2, 2));
             try_start(&at, told[4], told[5], at.length);
-            memcpy(spare_state, state_of(1), at.length);
+            memcpy(spare_state, state_of[1], at.length);
             starts++;
         } else if (record == 2 && at.length != 0)
             differences += replay_step(&at, spare_state, &from, differences != 0);

@@ -12,11 +12,6 @@ static uint64_t bit(uint64_t number)
     return UINT64_C(1) << number;
 }
 
-static uint64_t least_of(uint64_t one, uint64_t other)
-{
-    return one < other ? one : other;
-}
-
 uint64_t edge(const layout *at)
 {
     static const uint8_t powers[] = {0, 1, 2, 3, 4, 7, 8, 12, 16, 31, 32, 63};
@@ -263,8 +258,8 @@ static void build_votes(const layout *at, uint8_t *state)
         if (vote[0] == 1 || chance(40))
             continue;
         pick_table(table, &how);
-        uint64_t count = load(table, 4), sync = chance(60) ? below(count + 1) : least_of(below(4), count);
-        write_vote_head(vote, alike || chance(70) ? common : below(view), sync);
+        uint64_t count = load(table, 4), sync = chance(60) ? below(count + 1) : below(4);
+        write_vote_head(vote, alike || chance(70) ? common : below(view), sync < count ? sync : count);
         held++;
     }
 }

@@ -8,7 +8,6 @@
  */
 #include "../common/host.h"
 #include "../common/messages.h"
-#include "../common/places.h"
 #include "../model/model.h"
 
 #include <stdio.h>
