@@ -19,17 +19,9 @@
 #include <time.h>
 #include <unistd.h>
 
-enum {
-    COPIES_MOST = 64,
-    COPIES_BYTES = 1 << 20,
-    PASSES = 3,
-    TURNS_LEAST = 2,
-    SHAPES = 2,
-    CAPACITIES = 3,
-    FILLS = 5,
-    SHOWN = 3,
-    OWN_VIEW = 2 /* of every state here, after view 1 */
-};
+enum { COPIES_MOST = 64, COPIES_BYTES = 1 << 20, PASSES = 3, TURNS_LEAST = 2 };
+enum { SHAPES = 2, CAPACITIES = 3, FILLS = 5, SHOWN = 3 };
+enum { OWN_VIEW = 2 }; /* of every state here, after view 1 */
 
 #define TURN_TIME 8e7 /* nanoseconds after which a cell has had turns enough in a pass */
 
@@ -114,15 +106,10 @@ static uint64_t amount_of(enum amount amount, const layout *at)
     return amounts[amount];
 }
 
-/* Timestamp notes and what verifies a new view come from another group. */
-static bool is_among_groups(uint64_t kind)
-{
-    return kind == JALLUMERE_TIMESTAMP_NOTE || kind == JALLUMERE_VERIFY_REQUEST || kind == JALLUMERE_VERIFY_REPLY;
-}
-
+/* What comes from another group does not where there is none. */
 static bool can_happen(unsigned which, int shape)
 {
-    return !is_among_groups(rows[which].kind) || shapes[shape][1] > 1;
+    return forms[rows[which].kind].sender != OTHER_LEADER || shapes[shape][1] > 1;
 }
 
 /* With an empty log a commit point cannot rise: there is nothing to do. */
@@ -257,7 +244,8 @@ static void put_row(scene *now, const row *of)
     made.to_group = 0;
     made.to_mask = of->leads || of->elsewhere ? 1 : 2;
     if (forms[kind].path == INSIDE) {
-        made.from_group = kind == JALLUMERE_VERIFY_REQUEST ? 1 : is_among_groups(kind) ? now->at.s - 1 : 0;
+        bool from_other_group = forms[kind].sender == OTHER_LEADER;
+        made.from_group = kind == JALLUMERE_VERIFY_REQUEST ? 1 : from_other_group ? now->at.s - 1 : 0;
         made.from_replica = kind == JALLUMERE_VOTE          ? now->at.n - 1
                             : kind != JALLUMERE_SYNC_STATUS ? 0
                             : of->leads                     ? 1

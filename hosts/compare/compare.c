@@ -399,15 +399,6 @@ static void try_long_logs(void)
     free(entries);
 }
 
-/* The greatest capacity comes up in every run, however short. */
-static void run_largest(void)
-{
-    layout smallest_shape = lay_out(3, 1, 4096), largest_shape = lay_out(7, 8, 4096);
-    try_long_logs();
-    run_built(&smallest_shape, 4);
-    run_built(&largest_shape, 2);
-}
-
 /* Small capacities mostly: there tables are full soon. */
 static void run_some(void)
 {
@@ -447,8 +438,7 @@ static const uint8_t *take(records *from, size_t length)
     return from->bytes - length;
 }
 
-/* Where core and model agree and the record says otherwise, the first such step is shown; gives whether it is one.
- */
+/* Gives whether core and model agree and the record says otherwise; the first such step is shown. */
 static bool replay_step(const layout *at, uint8_t *state, records *from, bool shown)
 {
     static letter told;
@@ -506,7 +496,7 @@ int main(int count, char **words)
                               {"--seed", &seed, 0, UINT64_MAX, NULL, NULL},
                               {.name = "--traces", .word = &traces},
                               {.name = NULL}};
-    layout largest = lay_out(REPLICAS_MOST, GROUPS_MOST, CAPACITY_MOST);
+    layout smallest = lay_out(3, 1, CAPACITY_MOST), largest = lay_out(REPLICAS_MOST, GROUPS_MOST, CAPACITY_MOST);
     read_words(count, words, options, NULL);
     seconds();
     seed_chance(seed);
@@ -515,7 +505,9 @@ int main(int count, char **words)
     built_state = memory(largest.length);
     if (traces != NULL)
         return replay(traces) == 0 ? 0 : 1;
-    run_largest();
+    try_long_logs(); /* the greatest capacity comes up in every run, however short */
+    run_built(&smallest, 4);
+    run_built(&largest, 2);
     run_shares();
     while (steps_done < steps_wanted) {
         run_some();

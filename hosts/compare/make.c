@@ -2,8 +2,7 @@
 
 #include <stdlib.h>
 
-/* A past's requests are below the first of these; transactions that it does not have take theirs from the others.
- */
+/* A past's requests are below the first of these; transactions that it does not have have the others. */
 enum { REQUESTS = 65536, LATE_REQUESTS = 100000, EARLY_REQUESTS = 150000, NEW_REQUESTS = 200000 };
 enum { PAST_MOST = 2 * CAPACITY_MOST + 8 };
 
