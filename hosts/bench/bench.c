@@ -142,7 +142,7 @@ static void put_entry(const scene *now, uint8_t *bytes, uint64_t position, uint6
                                .command = position * UINT64_C(0x9e3779b97f4a7c15),
                                .request = position + 1,
                                .coordinator = 3 - position % 4,
-                               .mask = (UINT64_C(1) << now->at.s) - 1});
+                               .mask = bit(now->at.s) - 1});
 }
 
 /* A count and so many entries from a position on. */

@@ -57,6 +57,17 @@ static inline void store(uint8_t *bytes, uint64_t value, unsigned width)
     memcpy(bytes, &value, width);
 }
 
+/* Sets of groups, replicas or statuses: the set of one, and whether it is in a set. */
+static inline uint64_t bit(uint64_t number)
+{
+    return UINT64_C(1) << number;
+}
+
+static inline bool holds(uint64_t set, uint64_t number)
+{
+    return set >> number & 1;
+}
+
 /* A slice of length 0 may have a null pointer, which memcpy does not take. */
 static inline void copy(uint8_t *to, const uint8_t *from, size_t length)
 {

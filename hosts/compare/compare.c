@@ -167,7 +167,7 @@ static void post(const uint8_t *bytes, size_t length, uint64_t to)
 static void post_to_mask(const uint8_t *bytes, size_t length)
 {
     for (uint64_t replica = 0; replica < net.at.n && bytes[1] != JALLUMERE_OUTSIDE; replica++)
-        if (bytes[2] >> replica & 1)
+        if (holds(bytes[2], replica))
             post(bytes, length, bytes[1] * net.at.n + replica);
     if (chance(2))
         post(bytes, length, below(net.at.n * net.at.s));
@@ -204,7 +204,7 @@ static void post_to_groups(message *made, uint64_t mask)
     made->to_mask = (1 << net.at.n) - 1;
     for (made->to_group = 0; made->to_group < net.at.s; made->to_group++) {
         compose(&told, made);
-        if (mask >> made->to_group & 1)
+        if (holds(mask, made->to_group))
             post_to_mask(told.bytes, told.length);
     }
 }

@@ -6,11 +6,6 @@
 enum { REQUESTS = 65536, LATE_REQUESTS = 100000, EARLY_REQUESTS = 150000, NEW_REQUESTS = 200000 };
 enum { PAST_MOST = 2 * CAPACITY_MOST + 8 };
 
-static uint64_t bit(uint64_t number)
-{
-    return UINT64_C(1) << number;
-}
-
 uint64_t edge(const layout *at)
 {
     static const uint8_t powers[] = {0, 1, 2, 3, 4, 7, 8, 12, 16, 31, 32, 63};
@@ -161,7 +156,7 @@ static uint64_t build_early_notes(const layout *at, uint8_t *state)
         bool complete = true, all = chance(agreed);
         memcpy(note, bytes + AT_TRANSACTION, TRANSACTION_LENGTH);
         for (uint64_t group = 0; group < at->s; group++) {
-            bool masked = mask >> group & 1, held = group == state[AT_GROUP] || (all ? masked : chance(50));
+            bool masked = holds(mask, group), held = group == state[AT_GROUP] || (all ? masked : chance(50));
             uint64_t timestamp = group == state[AT_GROUP] || chance(50) ? own : some_time();
             write_marked(note + note_group(group), held, timestamp);
             complete = complete && (held || !masked);

@@ -37,7 +37,7 @@ static void print_groups(uint64_t mask, uint64_t groups)
 {
     int width = printf("groups %s", mask == 0 ? "none" : "");
     for (unsigned group = 0; mask >> group != 0; group++)
-        if ((mask >> group & 1) == 1)
+        if (holds(mask, group))
             width += printf("%u%s", group, mask >> group == 1 ? "" : ",");
     printf("%*s", width < 7 + 2 * (int)groups ? 7 + 2 * (int)groups - width : 0, "");
 }

@@ -284,7 +284,7 @@ static void send_out(size_t which, bool again)
     if (told.to_group == JALLUMERE_OUTSIDE)
         send_to(which, -1, again);
     for (uint64_t replica = 0; told.to_group != JALLUMERE_OUTSIDE && replica < at.n; replica++)
-        if ((told.to_mask >> replica & 1) == 1)
+        if (holds(told.to_mask, replica))
             send_to(which, site_of(told.to_group, replica), again);
 }
 
@@ -562,7 +562,7 @@ static uint64_t open_groups(void)
     uint64_t open = 0, limit = 3 * at.c / 4;
     for (uint64_t group = 0; group < at.s; group++)
         if (scene == FILLING ? !planned_leader(group)->full : asked_of[group] < limit)
-            open |= UINT64_C(1) << group;
+            open |= bit(group);
     return scene == STOPPED ? 0 : open;
 }
 
@@ -573,9 +573,9 @@ static void submit(const event *of)
     char named[4 * GROUPS_MOST] = "";
     message made = message_of_kind(JALLUMERE_TRANSACTION, at.s);
     entry sent = {.command = draw() >> 32, .coordinator = below(COORDINATORS)};
-    uint64_t mask = 1 + below((UINT64_C(1) << at.s) - 1);
+    uint64_t mask = 1 + below(bit(at.s) - 1);
     if (groups > 2 && below(3) != 0) /* mostly in one group or two */
-        mask = UINT64_C(1) << below(at.s) | UINT64_C(1) << below(at.s);
+        mask = bit(below(at.s)) | bit(below(at.s));
     sent.mask = mask & open_groups();
     plan((event){.at = now + (unsigned)(scene == FILLING ? 1 + below(16 / at.s) : 25 + below(40)),
                  .happen = of->happen});
@@ -589,11 +589,11 @@ static void submit(const event *of)
     made.numbers[0] = now;
     made.numbers[1] = BOUND;
     for (unsigned group = 0; group < at.s; group++)
-        if ((sent.mask >> group & 1) == 1) {
+        if (holds(sent.mask, group)) {
             snprintf(named + strlen(named), sizeof named - strlen(named), " %u", group);
             asked_of[group]++;
             asked = grown(asked, asked_count, sizeof *asked);
-            asked[asked_count] = write_letter(&made, group, (UINT64_C(1) << at.n) - 1, FROM_COORDINATORS);
+            asked[asked_count] = write_letter(&made, group, bit(at.n) - 1, FROM_COORDINATORS);
             send_first(asked[asked_count++]);
         }
     note(-1, "coordinator %u sends transaction %u.%u to group%s, due at %u", (unsigned)sent.coordinator,
@@ -607,7 +607,7 @@ static void tick(const event *of)
     made.numbers[0] = now + own->skew;
     plan((event){.at = now + TICK_TIME, .happen = tick, .site = of->site});
     if (!own->silent)
-        take_step(of->site, write_letter(&made, own->is.group, UINT64_C(1) << own->is.replica, FROM_CLOCK));
+        take_step(of->site, write_letter(&made, own->is.group, bit(own->is.replica), FROM_CLOCK));
 }
 
 /* Whether a majority of each group has started the planned view. */
@@ -644,7 +644,7 @@ static void plan_view(const event *of)
     note(-1, "the view manager plans view %u, leader of group 0 is replica %u", planned_view,
          (unsigned)leader_of(planned_views, 0, at.n));
     for (uint64_t group = 0; group < at.s; group++)
-        send_first(write_letter(&made, group, (UINT64_C(1) << at.n) - 1, FROM_MANAGER));
+        send_first(write_letter(&made, group, bit(at.n) - 1, FROM_MANAGER));
     plan((event){.at = now + WATCH_TIME, .happen = plan_view, .which = planned_view});
 }
 
