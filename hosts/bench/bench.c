@@ -106,7 +106,7 @@ static uint64_t amount_of(enum amount amount, const layout *at)
     return amounts[amount];
 }
 
-/* What comes from another group does not where there is none. */
+/* With one group alone nothing comes from another. */
 static bool can_happen(unsigned which, int shape)
 {
     return forms[rows[which].kind].sender != OTHER_LEADER || shapes[shape][1] > 1;

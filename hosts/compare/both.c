@@ -16,9 +16,7 @@ static void grow(letter *to, size_t length)
 {
     if (length > to->room) {
         to->room = 2 * length + 64;
-        to->bytes = realloc(to->bytes, to->room);
-        if (to->bytes == NULL)
-            stop("out of memory");
+        to->bytes = enlarged(to->bytes, to->room);
     }
     to->length = length;
 }

@@ -116,10 +116,7 @@ static void *grown(void *list, size_t count, size_t width)
 {
     if (count != 0 && (count & (count - 1)) != 0)
         return list;
-    list = realloc(list, (count == 0 ? 1 : 2 * count) * width);
-    if (list == NULL)
-        stop("out of memory");
-    return list;
+    return enlarged(list, (count == 0 ? 1 : 2 * count) * width);
 }
 
 static int site_of(uint64_t group, uint64_t replica)
