@@ -19,17 +19,9 @@
 #include <time.h>
 #include <unistd.h>
 
-enum {
-    COPIES_MOST = 64,
-    COPIES_BYTES = 1 << 20,
-    PASSES = 3,
-    TURNS_LEAST = 2,
-    SHAPES = 2,
-    CAPACITIES = 3,
-    FILLS = 5,
-    SHOWN = 3,
-    OWN_VIEW = 2 /* of every state here, after view 1 */
-};
+enum { COPIES_MOST = 64, COPIES_BYTES = 1 << 20, PASSES = 3, TURNS_LEAST = 2 };
+enum { SHAPES = 2, CAPACITIES = 3, FILLS = 5, SHOWN = 3 };
+enum { OWN_VIEW = 2 }; /* of every state here, after view 1 */
 
 #define TURN_TIME 8e7 /* nanoseconds after which a cell has had turns enough in a pass */
 
@@ -114,15 +106,10 @@ static uint64_t amount_of(enum amount amount, const layout *at)
     return amounts[amount];
 }
 
-/* Timestamp notes and what verifies a new view come from another group. */
-static bool is_among_groups(uint64_t kind)
-{
-    return kind == JALLUMERE_TIMESTAMP_NOTE || kind == JALLUMERE_VERIFY_REQUEST || kind == JALLUMERE_VERIFY_REPLY;
-}
-
+/* With one group alone nothing comes from another. */
 static bool can_happen(unsigned which, int shape)
 {
-    return !is_among_groups(rows[which].kind) || shapes[shape][1] > 1;
+    return forms[rows[which].kind].sender != OTHER_LEADER || shapes[shape][1] > 1;
 }
 
 /* With an empty log a commit point cannot rise: there is nothing to do. */
@@ -155,7 +142,7 @@ static void put_entry(const scene *now, uint8_t *bytes, uint64_t position, uint6
                                .command = position * UINT64_C(0x9e3779b97f4a7c15),
                                .request = position + 1,
                                .coordinator = 3 - position % 4,
-                               .mask = (UINT64_C(1) << now->at.s) - 1});
+                               .mask = bit(now->at.s) - 1});
 }
 
 /* A count and so many entries from a position on. */
@@ -211,12 +198,6 @@ static void put_change(const scene *now, const row *of)
     }
 }
 
-/* More than any step sends. */
-static size_t outgoing_room(const layout *at)
-{
-    return (size_t)(at->c * (72 + 4 * at->s + ENTRY_LENGTH) + 256);
-}
-
 /* Every group's leader is replica 0; a follower here is replica 1. */
 static void put_state(scene *now, const row *of)
 {
@@ -263,7 +244,8 @@ static void put_row(scene *now, const row *of)
     made.to_group = 0;
     made.to_mask = of->leads || of->elsewhere ? 1 : 2;
     if (forms[kind].path == INSIDE) {
-        made.from_group = kind == JALLUMERE_VERIFY_REQUEST ? 1 : is_among_groups(kind) ? now->at.s - 1 : 0;
+        bool from_other_group = forms[kind].sender == OTHER_LEADER;
+        made.from_group = kind == JALLUMERE_VERIFY_REQUEST ? 1 : from_other_group ? now->at.s - 1 : 0;
         made.from_replica = kind == JALLUMERE_VOTE          ? now->at.n - 1
                             : kind != JALLUMERE_SYNC_STATUS ? 0
                             : of->leads                     ? 1
@@ -282,13 +264,12 @@ static void put_row(scene *now, const row *of)
     put_opening(now->message, &made);
     now->message_length = length_of(&made) - of->message_cut;
     now->state_length = now->at.length - of->state_cut;
-    now->room = of->no_room ? 0 : outgoing_room(&now->at);
+    now->room = of->no_room ? 0 : ample_room(&now->at);
 }
 
 /* ---- measuring ---------------------------------------------------------------------------------------- */
 
-static uint64_t (*const steps[2])(uint64_t, uint64_t, uint64_t, uint8_t *, size_t, const uint8_t *, size_t,
-                                  uint8_t *, size_t) = {jallumere_step, model_step};
+static __typeof__(jallumere_step) *const steps[2] = {jallumere_step, model_step};
 
 /* Nanoseconds of core and model; 0 before they are measured. What reading the clock takes of a measured time. */
 static double cells[SHAPES][ROWS][CAPACITIES][FILLS][2], clock_time;
@@ -311,8 +292,8 @@ static double time_side(const scene *now, int side, size_t count, uint64_t *answ
         memcpy(copies[side] + length * i, now->state, length);
     double before = thread_time();
     for (size_t i = 0; i < count; i++)
-        *answer = steps[side](now->at.n, now->at.s, now->at.c, copies[side] + length * i, now->state_length,
-                              now->message, now->message_length, out[side], now->room);
+        *answer = steps[side](SIZES(&now->at), copies[side] + length * i, now->state_length, now->message,
+                              now->message_length, out[side], now->room);
     double taken = thread_time() - before - clock_time;
     return (taken < 1 ? 1 : taken) / (double)count;
 }
@@ -372,7 +353,7 @@ static void measure_all(void)
                  .message = memory(opening_length(GROUPS_MOST, NUMBERS_MOST) + most.table)};
     for (int side = 0; side < 2; side++) {
         copies[side] = memory(most.length > COPIES_BYTES ? most.length : COPIES_BYTES);
-        out[side] = memory(outgoing_room(&most));
+        out[side] = memory(ample_room(&most));
     }
     clock_time = 1e300;
     for (int i = 0; i < 1000; i++) {

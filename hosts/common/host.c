@@ -22,31 +22,33 @@ _Noreturn void stop(const char *format, ...)
     exit(2);
 }
 
-void *memory(size_t length)
+void *enlarged(void *lent, size_t length)
 {
-    void *lent = calloc(1, length == 0 ? 1 : length);
+    lent = realloc(lent, length);
     if (lent == NULL)
         stop("out of memory");
     return lent;
 }
 
+void *memory(size_t length)
+{
+    size_t exact = length == 0 ? 1 : length; /* and no more, so that a tool sees what is read past it */
+    return memset(enlarged(NULL, exact), 0, exact);
+}
+
 uint8_t *read_file(const char *path, size_t *length)
 {
     FILE *file = strcmp(path, "-") == 0 ? stdin : fopen(path, "rb");
-    size_t room = 1 << 16;
-    uint8_t *bytes = malloc(room);
+    size_t room = 0;
+    uint8_t *bytes = NULL;
     if (file == NULL)
         stop("'%s' cannot be opened", path);
     *length = 0;
-    while (bytes != NULL) {
+    do {
+        room = 2 * room + (1 << 16);
+        bytes = enlarged(bytes, room);
         *length += fread(bytes + *length, 1, room - *length, file);
-        if (*length < room)
-            break;
-        room *= 2;
-        bytes = realloc(bytes, room);
-    }
-    if (bytes == NULL)
-        stop("out of memory");
+    } while (*length == room);
     if (ferror(file))
         stop("'%s' cannot be read", path);
     if (file != stdin)

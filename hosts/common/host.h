@@ -15,8 +15,9 @@ extern const char program_name[];
 /* Says why on the standard error, behind the program's name, and ends with status 2. */
 _Noreturn void stop(const char *format, ...) __attribute__((format(printf, 1, 2)));
 
-/* Zeros, or the program stops. */
+/* Zeros; and memory that was lent, or NULL, with another length. The program stops where there is none. */
 void *memory(size_t length);
+void *enlarged(void *lent, size_t length);
 
 /* A whole file, - for the standard input; the program stops where it cannot be read. */
 uint8_t *read_file(const char *path, size_t *length);

@@ -38,33 +38,34 @@ static const field_place entry_fields[] = {
 
 /* ---- bytes ------------------------------------------------------------------------------------------- */
 
-/* Written out, since compilers make one load of this and not of a loop. */
-static inline uint64_t load32(const uint8_t *bytes)
+/* Numbers have their low byte first. With a width that the compiler knows, each of these is one instruction. */
+static inline uint64_t low_byte_first(uint64_t value)
 {
-    return (uint32_t)bytes[0] | (uint32_t)bytes[1] << 8 | (uint32_t)bytes[2] << 16 | (uint32_t)bytes[3] << 24;
-}
-
-static inline uint64_t load64(const uint8_t *bytes)
-{
-    return load32(bytes) | load32(bytes + 4) << 32;
+    return __BYTE_ORDER__ == __ORDER_BIG_ENDIAN__ ? __builtin_bswap64(value) : value;
 }
 
 static inline uint64_t load(const uint8_t *bytes, unsigned width)
 {
     uint64_t value = 0;
-    if (width == 8)
-        return load64(bytes);
-    if (width == 4)
-        return load32(bytes);
-    while (width-- > 0)
-        value = value << 8 | bytes[width];
-    return value;
+    memcpy(&value, bytes, width);
+    return low_byte_first(value);
 }
 
 static inline void store(uint8_t *bytes, uint64_t value, unsigned width)
 {
-    for (unsigned i = 0; i < width; i++)
-        bytes[i] = (uint8_t)(value >> 8 * i);
+    value = low_byte_first(value);
+    memcpy(bytes, &value, width);
+}
+
+/* Sets of groups, replicas or statuses: the set of one, and whether it is in a set. */
+static inline uint64_t bit(uint64_t number)
+{
+    return UINT64_C(1) << number;
+}
+
+static inline bool holds(uint64_t set, uint64_t number)
+{
+    return set >> number & 1;
 }
 
 /* A slice of length 0 may have a null pointer, which memcpy does not take. */
@@ -81,6 +82,9 @@ typedef struct {
     size_t table, note, vote, reply;                                             /* lengths of one of each */
     size_t views, heard, log, early, late, notes, votes, draft, replies, length; /* where each begins */
 } layout;
+
+/* As the core's functions take them. */
+#define SIZES(at) (at)->n, (at)->s, (at)->c
 
 static inline bool replicas_and_groups_right(uint64_t n, uint64_t s)
 {
@@ -230,5 +234,10 @@ static inline uint64_t majority_of(uint64_t n)
 {
     return (n - 1) / 2 + 1;
 }
+
+/* In words, for people: the section with the field, or with the entry, note, vote or reply that a state's byte
+ * belongs to, and what that says. */
+enum { PLACE_ROOM = 160 };
+const char *describe_place(const layout *at, const uint8_t *state, size_t byte, char room[PLACE_ROOM]);
 
 #endif

@@ -12,8 +12,7 @@ enum { HEADER_LENGTH = 12, NUMBERS_MOST = 3 };
 enum path { INSIDE, INBOUND, OUTBOUND };       /* from and to groups, from outside, to outside */
 enum entries { NO_ENTRY, ONE_ENTRY, ANY_LOG }; /* a kind's entries: their number, but for a log */
 
-/* Who sends a kind within the groups: to followers their leader, to a leader another replica or another group's.
- */
+/* Who sends a kind within the groups: to followers their leader, to a leader a replica or another leader. */
 enum sender { NOBODY, OWN_LEADER, OTHER_REPLICA, OTHER_LEADER };
 
 typedef struct {
@@ -98,6 +97,13 @@ static inline size_t length_of_kind(uint64_t kind, uint64_t s, uint64_t count)
     return opening_length(forms[kind].has_views ? s : 0, forms[kind].numbers) + ENTRY_LENGTH * (size_t)count;
 }
 
+/* Enough for a leader that releases a full log, which sends most: a fast reply for each, and the log once more. */
+static inline size_t ample_room(const layout *at)
+{
+    return length_of_kind(JALLUMERE_FAST_REPLY, at->s, 1) * (size_t)at->c +
+           length_of_kind(JALLUMERE_REPLICA_SYNC, at->s, at->c);
+}
+
 /* Writes everything before the entries and gives the place where they go. */
 static inline uint8_t *put_opening(uint8_t *to, const message *made)
 {
@@ -126,8 +132,7 @@ static inline uint8_t *put_message(uint8_t *to, const message *made)
     return to + ENTRY_LENGTH * made->count;
 }
 
-/* Takes a message apart by its counts; false where they do not fit its length. The three zeros are not looked at.
- */
+/* Takes a message apart by its counts; false where they do not fit its length. The zeros are not looked at. */
 static inline bool take_apart(const uint8_t *bytes, size_t length, message *told)
 {
     if (length < opening_length(0, 0))

@@ -1,4 +1,4 @@
-#include "places.h"
+#include "layout.h"
 
 #include <inttypes.h>
 #include <stdio.h>
@@ -55,7 +55,7 @@ const char *describe_place(const layout *at, const uint8_t *state, size_t byte, 
         snprintf(room, PLACE_ROOM, "%s: %" PRIu64, here->name, load(state + here->begin, (unsigned)here->width));
         return room;
     }
-    if (here->width == ENTRY_LENGTH) {
+    if (here->width == ENTRY_LENGTH && here->begin != at->notes) { /* with two groups a note is as long */
         describe_table(state + here->begin, within, room + snprintf(room, PLACE_ROOM, "%s", here->name), 128);
         return room;
     }

@@ -1,11 +1,10 @@
 #include "both.h"
-#include "../common/places.h"
 #include "../model/model.h"
 
 #include <stdio.h>
 #include <stdlib.h>
 
-enum { GUARD_LENGTH = 64, SHOWN_ROWS = 24, SPANS = 5, TABLES = 7, SIDES = 2 };
+enum { GUARD_LENGTH = 64, SHOWN_ROWS = 24, SPANS = 5, TABLES = 7 };
 
 static const char *const side_names[SIDES] = {"core", "model"};
 
@@ -17,9 +16,7 @@ static void grow(letter *to, size_t length)
 {
     if (length > to->room) {
         to->room = 2 * length + 64;
-        to->bytes = realloc(to->bytes, to->room);
-        if (to->bytes == NULL)
-            stop("out of memory");
+        to->bytes = enlarged(to->bytes, to->room);
     }
     to->length = length;
 }
@@ -102,8 +99,8 @@ static void count_step(const layout *at, const uint8_t *state, const letter *tol
         return;
     unsigned status = state[AT_STATUS];
     reached.placed[row][status == JALLUMERE_STATUS_CROSS_SHARD ? 4 : 2 * (status - 1) + state_leads(at, state)]++;
-    reached.entered[state_of(1)[AT_STATUS]]++;
-    reached.lost_goodness[row] += model_good(at->n, at->s, at->c, state_of(1), at->length) != JALLUMERE_DONE;
+    reached.entered[state_of[1][AT_STATUS]]++;
+    reached.lost_goodness[row] += model_good(SIZES(at), state_of[1], at->length) != JALLUMERE_DONE;
 }
 
 /* ---- differences ------------------------------------------------------------------------------------- */
@@ -147,13 +144,23 @@ void end_with_difference(const char *call, const layout *at, const char *why, co
 
 /* ---- calls that write nothing ------------------------------------------------------------------------ */
 
-static uint64_t agree(const char *call, const layout *at, uint64_t core, uint64_t model, const letter *given)
+static uint64_t agree(const char *call, const layout *at, uint64_t core, uint64_t model, letter given)
 {
     char why[96];
     snprintf(why, sizeof why, "the core answers %" PRIu64 ", the model %" PRIu64, core, model);
     if (core != model)
-        end_with_difference(call, at, why, given->bytes, given->length);
+        end_with_difference(call, at, why, given.bytes, given.length);
     return core;
+}
+
+/* What both answer to the same call, about some given bytes. */
+#define AGREE(call, at, given, ...)                                                                               \
+    agree(#call, at, jallumere_##call(__VA_ARGS__), model_##call(__VA_ARGS__), given)
+
+/* Bytes as they lie, to be shown. */
+static letter lying(const uint8_t *bytes, size_t length)
+{
+    return (letter){(uint8_t *)bytes, length, length};
 }
 
 /* Of its own memory, so that reading past its end can be noticed. */
@@ -166,16 +173,12 @@ static letter alone(const uint8_t *bytes, size_t length)
 
 void try_state_length(const layout *at)
 {
-    letter none = {0};
-    agree("state_length", at, jallumere_state_length(at->n, at->s, at->c), model_state_length(at->n, at->s, at->c),
-          &none);
+    AGREE(state_length, at, lying(NULL, 0), SIZES(at));
 }
 
 bool try_good(const layout *at, const uint8_t *state, size_t length, enum origin from)
 {
-    letter given = {(uint8_t *)state, length, length};
-    uint64_t answer = agree("good", at, jallumere_good(at->n, at->s, at->c, state, length),
-                            model_good(at->n, at->s, at->c, state, length), &given);
+    uint64_t answer = AGREE(good, at, lying(state, length), SIZES(at), state, length);
     reached.good[from][answer != JALLUMERE_DONE]++;
     if (chance(20))
         try_state_readers(at, state, length);
@@ -185,32 +188,25 @@ bool try_good(const layout *at, const uint8_t *state, size_t length, enum origin
 /* Every field, group and field of an entry, and numbers next to these; of entries a few positions. */
 void try_state_readers(const layout *at, const uint8_t *state, size_t length)
 {
-    uint64_t n = at->n, s = at->s, c = at->c;
-    letter given = {(uint8_t *)state, length, length};
+    letter given = lying(state, length);
     for (uint64_t i = 0; i <= JALLUMERE_FIELD_LEADER + 1; i++) {
-        agree("field", at, jallumere_field(n, s, c, i, state, length), model_field(n, s, c, i, state, length),
-              &given);
-        agree("group_view", at, jallumere_group_view(n, s, c, i, state, length),
-              model_group_view(n, s, c, i, state, length), &given);
+        AGREE(field, at, given, SIZES(at), i, state, length);
+        AGREE(group_view, at, given, SIZES(at), i, state, length);
     }
-    uint64_t logged = model_field(n, s, c, JALLUMERE_FIELD_LOG_LENGTH, state, length), any = draw();
-    const uint64_t positions[] = {0, 1, below(logged), logged, logged + 1, c, c + 1, any};
+    uint64_t logged = model_field(SIZES(at), JALLUMERE_FIELD_LOG_LENGTH, state, length), any = draw();
+    const uint64_t positions[] = {0, 1, below(logged), logged, logged + 1, at->c, at->c + 1, any};
     for (unsigned i = 0; i < 8; i++)
         for (uint64_t field = 0; field <= JALLUMERE_ENTRY_MASK + 1; field++)
-            agree("entry", at, jallumere_entry(n, s, c, positions[i], field, state, length),
-                  model_entry(n, s, c, positions[i], field, state, length), &given);
-    agree("field", at, jallumere_field(n, s, c, any, state, length), model_field(n, s, c, any, state, length),
-          &given);
+            AGREE(entry, at, given, SIZES(at), positions[i], field, state, length);
+    AGREE(field, at, given, SIZES(at), any, state, length);
     reached.readings++;
 }
 
 uint64_t try_read(const layout *at, const letter *told)
 {
     letter given = alone(told->bytes, told->length);
-    uint64_t answer = agree("read", at, jallumere_read(at->n, at->s, given.bytes, given.length),
-                            model_read(at->n, at->s, given.bytes, given.length), &given);
-    agree("message_length", at, jallumere_message_length(at->n, at->s, given.bytes, given.length),
-          model_message_length(at->n, at->s, given.bytes, given.length), &given);
+    uint64_t answer = AGREE(read, at, given, at->n, at->s, given.bytes, given.length);
+    AGREE(message_length, at, given, at->n, at->s, given.bytes, given.length);
     free(given.bytes);
     reached.messages[kind_row(told->bytes, told->length)][answer]++;
     return answer;
@@ -219,53 +215,37 @@ uint64_t try_read(const layout *at, const letter *told)
 void try_digest(const uint8_t *bytes, size_t length)
 {
     uint64_t start = chance(50) ? JALLUMERE_DIGEST_START : draw();
-    letter given = {(uint8_t *)bytes, length, length};
     layout none = {0};
-    agree("digest", &none, jallumere_digest(start, bytes, length), model_digest(start, bytes, length), &given);
+    AGREE(digest, &none, lying(bytes, length), start, bytes, length);
     reached.digests++;
 }
 
 /* ---- calls that write -------------------------------------------------------------------------------- */
 
 /* The bytes lent to each side lie between guards. */
-static uint8_t *state_area[SIDES], *out_area[SIDES], *pattern;
+uint8_t *state_of[SIDES], *out_of[SIDES];
+static uint8_t *pattern;
 
 void make_areas(void)
 {
     layout largest = lay_out(REPLICAS_MOST, GROUPS_MOST, CAPACITY_MOST);
     size_t most = largest.length + ample_room(&largest) + 2 * GUARD_LENGTH;
     for (int side = 0; side < SIDES; side++) {
-        state_area[side] = memory(most);
-        out_area[side] = memory(most);
+        state_of[side] = (uint8_t *)memory(most) + GUARD_LENGTH;
+        out_of[side] = (uint8_t *)memory(most) + GUARD_LENGTH;
     }
     pattern = memory(most);
     for (size_t i = 0; i < most; i++)
         pattern[i] = (uint8_t)(i * 37 + i / 256 + 11);
 }
 
-uint8_t *state_of(int side)
-{
-    return state_area[side] + GUARD_LENGTH;
-}
-
-uint8_t *out_of(int side)
-{
-    return out_area[side] + GUARD_LENGTH;
-}
-
-size_t ample_room(const layout *at)
-{
-    return length_of_kind(JALLUMERE_FAST_REPLY, at->s, 1) * at->c +
-           length_of_kind(JALLUMERE_REPLICA_SYNC, at->s, at->c) + 256;
-}
-
 static void lend(const uint8_t *state, size_t length, size_t room)
 {
     for (int side = 0; side < SIDES; side++) {
-        memcpy(state_area[side], pattern, GUARD_LENGTH);
-        copy(state_of(side), state, length);
-        memcpy(state_of(side) + length, pattern, GUARD_LENGTH);
-        memcpy(out_area[side], pattern, room + 2 * GUARD_LENGTH);
+        memcpy(state_of[side] - GUARD_LENGTH, pattern, GUARD_LENGTH);
+        copy(state_of[side], state, length);
+        memcpy(state_of[side] + length, pattern, GUARD_LENGTH);
+        memcpy(out_of[side] - GUARD_LENGTH, pattern, room + 2 * GUARD_LENGTH);
     }
 }
 
@@ -273,16 +253,16 @@ static void lend(const uint8_t *state, size_t length, size_t room)
 static const char *misuse(int side, uint64_t answer, const uint8_t *state, size_t length, size_t room)
 {
     size_t sent = JALLUMERE_LENGTH(answer);
-    if (memcmp(state_area[side], pattern, GUARD_LENGTH) != 0 ||
-        memcmp(state_of(side) + length, pattern, GUARD_LENGTH) != 0)
+    if (memcmp(state_of[side] - GUARD_LENGTH, pattern, GUARD_LENGTH) != 0 ||
+        memcmp(state_of[side] + length, pattern, GUARD_LENGTH) != 0)
         return "written outside of the state";
     if (sent > room)
         return "outgoing length beyond the room";
-    if (memcmp(out_area[side], pattern, GUARD_LENGTH) != 0 ||
-        memcmp(out_of(side) + sent, pattern + GUARD_LENGTH + sent, room - sent + GUARD_LENGTH) != 0)
+    if (memcmp(out_of[side] - GUARD_LENGTH, pattern, GUARD_LENGTH) != 0 ||
+        memcmp(out_of[side] + sent, pattern + GUARD_LENGTH + sent, room - sent + GUARD_LENGTH) != 0)
         return "written behind the outgoing bytes";
     if (JALLUMERE_NUMBER(answer) != 0 &&
-        (sent != 0 || (length != 0 && memcmp(state_of(side), state, length) != 0)))
+        (sent != 0 || (length != 0 && memcmp(state_of[side], state, length) != 0)))
         return "a refusal that left something behind";
     return NULL;
 }
@@ -294,9 +274,9 @@ static uint64_t compare_sides(const char *call, const layout *at, const uint64_t
     char place[PLACE_ROOM];
     size_t byte = 0;
     const char *why = answers[0] != answers[1] ? "the answers differ" : NULL;
-    if (why == NULL && memcmp(state_of(0), state_of(1), length) != 0)
+    if (why == NULL && memcmp(state_of[0], state_of[1], length) != 0)
         why = "the states differ";
-    if (why == NULL && memcmp(out_of(0), out_of(1), room) != 0)
+    if (why == NULL && memcmp(out_of[0], out_of[1], room) != 0)
         why = "the outgoing buffers differ";
     for (int side = 0; side < SIDES && why == NULL; side++)
         why = misuse(side, answers[side], state, length, room);
@@ -305,15 +285,15 @@ static uint64_t compare_sides(const char *call, const layout *at, const uint64_t
     for (int side = 0; side < SIDES; side++)
         printf("%s: answer %u, outgoing length %zu\n", side_names[side], JALLUMERE_NUMBER(answers[side]),
                JALLUMERE_LENGTH(answers[side]));
-    while (byte < length && state_of(0)[byte] == state_of(1)[byte])
+    while (byte < length && state_of[0][byte] == state_of[1][byte])
         byte++;
     if (byte < length && length == at->length)
         printf("first byte of the state that differs: %zu, %s\n", byte,
-               describe_place(at, state_of(1), byte, place));
+               describe_place(at, state_of[1], byte, place));
     printf("room %zu\n", room);
     show_bytes("state before", state, NULL, length);
-    show_bytes("state after", state_of(0), state_of(1), length);
-    show_bytes("outgoing buffer", out_of(0), out_of(1), room);
+    show_bytes("state after", state_of[0], state_of[1], length);
+    show_bytes("outgoing buffer", out_of[0], out_of[1], room);
     end_with_difference(call, at, why, told->bytes, told->length);
 }
 
@@ -323,8 +303,8 @@ uint64_t try_step(const layout *at, const uint8_t *state, size_t length, const l
     letter given = alone(told->bytes, told->length);
     lend(state, length, room);
     const uint64_t answers[] = {
-        jallumere_step(at->n, at->s, at->c, state_of(0), length, given.bytes, given.length, out_of(0), room),
-        model_step(at->n, at->s, at->c, state_of(1), length, given.bytes, given.length, out_of(1), room)};
+        jallumere_step(SIZES(at), state_of[0], length, given.bytes, given.length, out_of[0], room),
+        model_step(SIZES(at), state_of[1], length, given.bytes, given.length, out_of[1], room)};
     uint64_t answer = compare_sides("step", at, answers, state, length, room, &given);
     count_step(at, state, told, answer, from);
     reached.exact += JALLUMERE_NUMBER(answer) == 0 && JALLUMERE_LENGTH(answer) == room;
@@ -336,18 +316,14 @@ void try_start(const layout *at, uint64_t group, uint64_t replica, size_t length
 {
     letter given = {0};
     lend(pattern, length, 0);
-    const uint64_t answers[] = {jallumere_start(at->n, at->s, at->c, group, replica, state_of(0), length),
-                                model_start(at->n, at->s, at->c, group, replica, state_of(1), length)};
+    const uint64_t answers[] = {jallumere_start(SIZES(at), group, replica, state_of[0], length),
+                                model_start(SIZES(at), group, replica, state_of[1], length)};
     reached.starts[compare_sides("start", at, answers, pattern, length, 0, &given) != JALLUMERE_DONE]++;
 }
 
-typedef uint64_t write_function(uint64_t, uint64_t, uint64_t, uint64_t, uint64_t, uint64_t, uint64_t, uint64_t,
-                                const uint64_t *, size_t, const uint8_t *, size_t, const uint8_t *, size_t,
-                                uint8_t *, size_t);
-
 uint64_t try_write(const layout *at, const message *made, size_t views_length, size_t entries_length, size_t room)
 {
-    static write_function *const writers[SIDES] = {jallumere_write, model_write};
+    static __typeof__(jallumere_write) *const writers[SIDES] = {jallumere_write, model_write};
     static const unsigned columns[ANSWERS] = {[0] = 3, [1] = 4, [2] = 5, [9] = 6};
     uint64_t answers[SIDES];
     letter given = {0};
@@ -357,7 +333,7 @@ uint64_t try_write(const layout *at, const message *made, size_t views_length, s
         answers[side] =
             writers[side](at->n, at->s, made->kind, made->to_group, made->to_mask, made->from_group,
                           made->from_replica, made->view, made->numbers, made->number_count, made->views, views_length,
-                          made->entries, entries_length, out_of(side), room);
+                          made->entries, entries_length, out_of[side], room);
     if (answers[0] != answers[1]) /* the bytes shown have no room for fields that are too wide */
         printf("kind %" PRIu64 " to %" PRIu64 " mask %" PRIu64 " from %" PRIu64 " %" PRIu64 " view %" PRIu64
                ", %zu bytes of views, %zu of entries\n",

@@ -27,11 +27,8 @@ extern uint64_t seed, steps_done;
 void make_areas(void);
 
 /* After a call: the state that a side was left with, and its outgoing buffer. */
-uint8_t *state_of(int side);
-uint8_t *out_of(int side);
-
-/* Enough for a leader that releases a full log: a fast reply for each, and the log once more. */
-size_t ample_room(const layout *at);
+enum { SIDES = 2 };
+extern uint8_t *state_of[SIDES], *out_of[SIDES];
 
 /* The answer of both; sizes and lengths may be wrong ones. */
 uint64_t try_step(const layout *at, const uint8_t *state, size_t length, const letter *told, size_t room,

@@ -20,7 +20,7 @@ const char program_name[] = "compare";
 enum { POOL = 3000 };
 
 static uint64_t steps_wanted = 100000;
-static uint8_t *spare_state;
+static uint8_t *spare_state, *built_state;
 
 /* ---- one message at one replica, in every variation -------------------------------------------------- */
 
@@ -45,7 +45,7 @@ static void try_writing(const layout *at, const letter *told)
     else if (edited)
         entries_length = below(entries_length + 1);
     uint64_t answer = try_write(at, &made, views_length, entries_length, told->length + below(40));
-    bool same = JALLUMERE_LENGTH(answer) == told->length && memcmp(out_of(1), told->bytes, told->length) == 0;
+    bool same = JALLUMERE_LENGTH(answer) == told->length && memcmp(out_of[1], told->bytes, told->length) == 0;
     if (!edited && try_read(at, told) == JALLUMERE_DONE && !same)
         end_with_difference("write", at, "a message that reads well is not written as it stands", told->bytes,
                             told->length);
@@ -92,7 +92,7 @@ static void try_rooms(const layout *at, const uint8_t *state, const letter *told
 
 static void try_damage(const layout *at, const uint8_t *state, const letter *told)
 {
-    letter odd = {0};
+    static letter odd;
     set_letter(&odd, told->bytes, told->length);
     if (chance(50)) {
         for (uint64_t i = chance(80) ? 1 : 2; i > 0; i--)
@@ -106,7 +106,6 @@ static void try_damage(const layout *at, const uint8_t *state, const letter *tol
         try_good(at, spare_state, at->length, DAMAGED_STATE);
         try_step(at, spare_state, at->length, &odd, ample_room(at), DAMAGED_STATE);
     }
-    free(odd.bytes);
 }
 
 /* All that is tried with a message besides taking it. */
@@ -170,7 +169,7 @@ static void post(const uint8_t *bytes, size_t length, uint64_t to)
 static void post_to_mask(const uint8_t *bytes, size_t length)
 {
     for (uint64_t replica = 0; replica < net.at.n && bytes[1] != JALLUMERE_OUTSIDE; replica++)
-        if (bytes[2] >> replica & 1)
+        if (holds(bytes[2], replica))
             post(bytes, length, bytes[1] * net.at.n + replica);
     if (chance(2))
         post(bytes, length, below(net.at.n * net.at.s));
@@ -183,9 +182,9 @@ static void deliver(uint64_t to, const letter *told)
     try_around(at, state, told, net.from);
     uint64_t answer = try_step(at, state, at->length, told, ample_room(at), net.from);
     if (JALLUMERE_NUMBER(answer) == JALLUMERE_DONE) {
-        letter sent = {0};
-        set_letter(&sent, out_of(1), JALLUMERE_LENGTH(answer));
-        memcpy(state, state_of(1), at->length);
+        static letter sent;
+        set_letter(&sent, out_of[1], JALLUMERE_LENGTH(answer));
+        memcpy(state, state_of[1], at->length);
         if (chance(10))
             try_good(at, state, at->length, net.from);
         for (size_t length, place = 0; place < sent.length; place += length) {
@@ -195,7 +194,6 @@ static void deliver(uint64_t to, const letter *told)
                                     sent.length);
             post_to_mask(sent.bytes + place, length);
         }
-        free(sent.bytes);
     }
     if (chance(net.odd) && make_odd(at, state))
         net.from = FROM_EDIT;
@@ -204,14 +202,13 @@ static void deliver(uint64_t to, const letter *told)
 /* From outside to all replicas of the masked groups. */
 static void post_to_groups(message *made, uint64_t mask)
 {
-    letter told = {0};
+    static letter told;
     made->to_mask = (1 << net.at.n) - 1;
     for (made->to_group = 0; made->to_group < net.at.s; made->to_group++) {
         compose(&told, made);
-        if (mask >> made->to_group & 1)
+        if (holds(mask, made->to_group))
             post_to_mask(told.bytes, told.length);
     }
-    free(told.bytes);
 }
 
 static void submit_transaction(void)
@@ -230,7 +227,7 @@ static void submit_transaction(void)
 
 static void tick(void)
 {
-    letter told = {0};
+    static letter told;
     uint64_t to = below(net.at.n * net.at.s), early = below(8);
     message made = message_of_kind(JALLUMERE_TICK, net.at.s);
     net.time += below(4);
@@ -242,7 +239,6 @@ static void tick(void)
                                          : 0;
     compose(&told, &made);
     deliver(to, &told);
-    free(told.bytes);
 }
 
 static void change_view(void)
@@ -260,7 +256,7 @@ static void change_view(void)
 
 static void deliver_some(void)
 {
-    letter told = {0};
+    static letter told;
     if (net.waiting == 0)
         return;
     size_t place = (size_t)below(net.waiting);
@@ -273,7 +269,6 @@ static void deliver_some(void)
     }
     if (!chance(net.loss))
         deliver(to, &told);
-    free(told.bytes);
 }
 
 static void begin_run(const layout *at)
@@ -291,7 +286,7 @@ static void begin_run(const layout *at)
     net.from = FROM_RUN;
     for (uint64_t i = 0; i < replicas; i++) {
         try_start(at, i / at->n, i % at->n, at->length);
-        memcpy(net.states + at->length * i, state_of(1), at->length);
+        memcpy(net.states + at->length * i, state_of[1], at->length);
     }
 }
 
@@ -318,27 +313,24 @@ static void run_groups(const layout *at, uint64_t turns)
 
 static void run_built(const layout *at, uint64_t turns)
 {
-    uint8_t *state = memory(at->length);
-    letter told = {0};
+    uint8_t *state = built_state;
+    static letter told;
     uint64_t group = below(at->s);
-    history from = make_history(at, group);
+    make_past(at, group);
     for (uint64_t turn = 0; turn < turns; turn++) {
         if (turn % 4 == 0)
-            build_any_state(at, state, &from, group);
+            build_any_state(at, state, group);
         if (turn % 4 == 2 && chance(50))
             make_odd(at, state);
         try_good(at, state, at->length, BUILT);
         for (int i = 0; i < 3; i++) {
-            make_fitting(at, state, &from, some_kind(at, state), &told);
+            make_fitting(at, state, some_kind(at, state), &told);
             try_around(at, state, &told, BUILT);
             uint64_t answer = try_step(at, state, at->length, &told, ample_room(at), BUILT);
             if (JALLUMERE_NUMBER(answer) == JALLUMERE_DONE && chance(40))
-                memcpy(state, state_of(1), at->length);
+                memcpy(state, state_of[1], at->length);
         }
     }
-    free(told.bytes);
-    forget_history(&from);
-    free(state);
 }
 
 /*
@@ -347,14 +339,14 @@ static void run_built(const layout *at, uint64_t turns)
  */
 static void run_kind(const layout *at, uint64_t kind, uint64_t wanted)
 {
-    uint8_t *state = memory(at->length);
-    letter told = {0};
+    uint8_t *state = built_state;
+    static letter told;
     uint64_t done = 0, group = below(at->s);
-    history from = make_history(at, group);
+    make_past(at, group);
     for (uint64_t tries = 0; done < wanted && tries < 20 * wanted; tries++) {
-        build_state_for(at, state, &from, group, kind);
+        build_state_for(at, state, group, kind);
         try_good(at, state, at->length, BUILT);
-        make_fitting(at, state, &from, kind, &told);
+        make_fitting(at, state, kind, &told);
         uint64_t answer = try_step(at, state, at->length, &told, ample_room(at), BUILT);
         bool taken = JALLUMERE_NUMBER(answer) == JALLUMERE_DONE;
         done += taken;
@@ -364,9 +356,6 @@ static void run_kind(const layout *at, uint64_t kind, uint64_t wanted)
             try_damage(at, state, &told);
         show_progress(steps_done, steps_wanted, "steps");
     }
-    free(told.bytes);
-    forget_history(&from);
-    free(state);
 }
 
 /* Each kind that a site takes, in each shape, and more where a step costs less; 3, 18 and 19 come from another
@@ -392,7 +381,7 @@ static void try_long_logs(void)
     static const uint64_t counts[] = {4096, 4097, 6000, 8193, 9000};
     layout at = lay_out(3, 2, 4096);
     uint8_t views[8] = {0}, *entries = memory(ENTRY_LENGTH * 9000);
-    letter told = {0};
+    static letter told;
     message made = message_of_kind(JALLUMERE_REPLICA_SYNC, 2);
     made.to_group = made.from_group = made.from_replica = 0;
     made.views = views;
@@ -409,17 +398,7 @@ static void try_long_logs(void)
         compose(&told, &made);
         try_read(&at, &told);
     }
-    free(told.bytes);
     free(entries);
-}
-
-/* The greatest capacity comes up in every run, however short. */
-static void run_largest(void)
-{
-    layout smallest_shape = lay_out(3, 1, 4096), largest_shape = lay_out(7, 8, 4096);
-    try_long_logs();
-    run_built(&smallest_shape, 4);
-    run_built(&largest_shape, 2);
 }
 
 /* Small capacities mostly: there tables are full soon. */
@@ -461,28 +440,26 @@ static const uint8_t *take(records *from, size_t length)
     return from->bytes - length;
 }
 
-/* Where core and model agree and the record says otherwise, the first such step is shown; gives whether it is one.
- */
+/* Gives whether core and model agree and the record says otherwise; the first such step is shown. */
 static bool replay_step(const layout *at, uint8_t *state, records *from, bool shown)
 {
-    letter told = {0};
+    static letter told;
     size_t room = load(take(from, 4), 4), length = load(take(from, 4), 4);
     if (room > ample_room(at))
         stop("a record asks for more room than any step needs");
     set_letter(&told, take(from, length), length);
     const uint8_t *expected = take(from, 1 + 4 + 8 + 8);
     uint64_t answer = try_step(at, state, at->length, &told, room, RECORDED);
-    memcpy(state, state_of(1), at->length);
+    memcpy(state, state_of[1], at->length);
     bool same =
         JALLUMERE_NUMBER(answer) == expected[0] && JALLUMERE_LENGTH(answer) == load(expected + 1, 4) &&
-        jallumere_digest(JALLUMERE_DIGEST_START, out_of(1), JALLUMERE_LENGTH(answer)) == load(expected + 5, 8) &&
+        jallumere_digest(JALLUMERE_DIGEST_START, out_of[1], JALLUMERE_LENGTH(answer)) == load(expected + 5, 8) &&
         jallumere_digest(JALLUMERE_DIGEST_START, state, at->length) == load(expected + 13, 8);
     if (!same && !shown)
         printf("the record says otherwise at step %" PRIu64 ", of kind %u: expected answer %u and %" PRIu64
                " bytes to send, given %u and %zu, or other bytes\n",
                steps_done, length == 0 ? 0 : told.bytes[0], expected[0], load(expected + 1, 4),
                JALLUMERE_NUMBER(answer), JALLUMERE_LENGTH(answer));
-    free(told.bytes);
     return !same;
 }
 
@@ -500,7 +477,7 @@ static uint64_t replay(const char *path)
             const uint8_t *told = take(&from, 6);
             at = lay_out(told[0], told[1], load(told + 2, 2));
             try_start(&at, told[4], told[5], at.length);
-            memcpy(spare_state, state_of(1), at.length);
+            memcpy(spare_state, state_of[1], at.length);
             starts++;
         } else if (record == 2 && at.length != 0)
             differences += replay_step(&at, spare_state, &from, differences != 0);
@@ -521,15 +498,18 @@ int main(int count, char **words)
                               {"--seed", &seed, 0, UINT64_MAX, NULL, NULL},
                               {.name = "--traces", .word = &traces},
                               {.name = NULL}};
-    layout largest = lay_out(REPLICAS_MOST, GROUPS_MOST, CAPACITY_MOST);
+    layout smallest = lay_out(3, 1, CAPACITY_MOST), largest = lay_out(REPLICAS_MOST, GROUPS_MOST, CAPACITY_MOST);
     read_words(count, words, options, NULL);
     seconds();
     seed_chance(seed);
     make_areas();
     spare_state = memory(largest.length);
+    built_state = memory(largest.length);
     if (traces != NULL)
         return replay(traces) == 0 ? 0 : 1;
-    run_largest();
+    try_long_logs(); /* the greatest capacity comes up in every run, however short */
+    run_built(&smallest, 4);
+    run_built(&largest, 2);
     run_shares();
     while (steps_done < steps_wanted) {
         run_some();

@@ -2,19 +2,9 @@
 
 #include <stdlib.h>
 
-/* A past's requests are below the first of these; transactions that it does not have take theirs from the others.
- */
+/* A past's requests are below the first of these; transactions that it does not have have the others. */
 enum { REQUESTS = 65536, LATE_REQUESTS = 100000, EARLY_REQUESTS = 150000, NEW_REQUESTS = 200000 };
-
-static uint64_t bit(uint64_t number)
-{
-    return UINT64_C(1) << number;
-}
-
-static uint64_t least_of(uint64_t one, uint64_t other)
-{
-    return one < other ? one : other;
-}
+enum { PAST_MOST = 2 * CAPACITY_MOST + 8 };
 
 uint64_t edge(const layout *at)
 {
@@ -24,56 +14,57 @@ uint64_t edge(const layout *at)
                       : bit(powers[below(sizeof powers)]) + below(3) - 1;
 }
 
-/* ---- histories --------------------------------------------------------------------------------------- */
+/* ---- the past ---------------------------------------------------------------------------------------- */
 
-/* Puts an entry whose timestamp has grown behind those that it passed. */
-static void sink(uint8_t *entries, uint64_t place, uint64_t count)
+/*
+ * A row of entries with timestamps that never fall, of which logs, votes, drafts and replies are parts; and the
+ * same transactions once more, some of them at later timestamps.
+ */
+static struct {
+    uint8_t entries[ENTRY_LENGTH * PAST_MOST], moved[ENTRY_LENGTH * PAST_MOST];
+    uint64_t count;
+} past;
+
+/* Puts a moved entry, whose timestamp has grown, behind those that it passed. */
+static void sink(uint64_t place)
 {
-    uint8_t kept[ENTRY_LENGTH], *here = entries + ENTRY_LENGTH * place, *end = entries + ENTRY_LENGTH * count;
+    uint8_t kept[ENTRY_LENGTH], *here = past.moved + ENTRY_LENGTH * place,
+                                *end = past.moved + ENTRY_LENGTH * past.count;
     memcpy(kept, here, ENTRY_LENGTH);
     for (; here + ENTRY_LENGTH < end && load(here + ENTRY_LENGTH, 8) <= load(kept, 8); here += ENTRY_LENGTH)
         memcpy(here, here + ENTRY_LENGTH, ENTRY_LENGTH);
     memcpy(here, kept, ENTRY_LENGTH);
 }
 
-history make_history(const layout *at, uint64_t group)
+void make_past(const layout *at, uint64_t group)
 {
-    history made = {.count = at->c + 8 + below(at->c)};
-    uint64_t timestamp = chance(90) ? 1 : GREATEST_TIMESTAMP - 4 * made.count, ties = below(90),
+    past.count = at->c + 8 + below(at->c);
+    uint64_t timestamp = chance(90) ? 1 : GREATEST_TIMESTAMP - 4 * past.count, ties = below(90),
              still = 40 + below(50);
-    made.entries = memory(ENTRY_LENGTH * made.count);
-    made.moved = memory(ENTRY_LENGTH * made.count);
-    for (uint64_t i = 0; i < made.count; i++) {
+    for (uint64_t i = 0; i < past.count; i++) {
         uint64_t mask = bit(group) | (chance(60) ? bit(at->s) - 1 : below(bit(at->s)));
         timestamp += chance(ties) ? 0 : 1 + below(3);
         entry one = {timestamp, draw(), (i * 7919 + 13) % 65521 + 1, chance(90) ? below(3) : 65534, mask};
-        write_entry(made.entries + ENTRY_LENGTH * i, one);
+        write_entry(past.entries + ENTRY_LENGTH * i, one);
     }
-    memcpy(made.moved, made.entries, ENTRY_LENGTH * made.count);
-    for (uint64_t i = made.count; i-- > 0;) {
+    memcpy(past.moved, past.entries, ENTRY_LENGTH * past.count);
+    for (uint64_t i = past.count; i-- > 0;) {
         uint64_t later = i + below(24);
-        if (later >= made.count || chance(still))
+        if (later >= past.count || chance(still))
             continue;
-        memcpy(made.moved + ENTRY_LENGTH * i, made.entries + ENTRY_LENGTH * later, 8);
-        sink(made.moved, i, made.count);
+        memcpy(past.moved + ENTRY_LENGTH * i, past.entries + ENTRY_LENGTH * later, 8);
+        sink(i);
     }
-    return made;
 }
 
-void forget_history(history *made)
+static const uint8_t *some_past(void)
 {
-    free(made->entries);
-    free(made->moved);
+    return past.entries + ENTRY_LENGTH * below(past.count);
 }
 
-static const uint8_t *some_past(const history *from)
+static uint64_t some_time(void)
 {
-    return from->entries + ENTRY_LENGTH * below(from->count);
-}
-
-static uint64_t some_time(const history *from)
-{
-    uint64_t time = load(some_past(from), 8), near = time + below(9) - 4;
+    uint64_t time = load(some_past(), 8), near = time + below(9) - 4;
     return chance(70) || near - 1 >= GREATEST_TIMESTAMP ? time : near;
 }
 
@@ -91,9 +82,9 @@ typedef struct {
     uint64_t most, keep, change, needed;
 } picking;
 
-static picking pick_from(const history *from, bool others, uint64_t most, uint64_t keep, uint64_t change)
+static picking pick_from(bool others, uint64_t most, uint64_t keep, uint64_t change)
 {
-    return (picking){others && chance(50) ? from->moved : from->entries, from->count, 0, most, keep, change, 0};
+    return (picking){others && chance(50) ? past.moved : past.entries, past.count, 0, most, keep, change, 0};
 }
 
 /* Some copies have another command or stand at their neighbour's time. */
@@ -129,7 +120,7 @@ static uint64_t view_with_role(const layout *at, const uint8_t *state, bool lead
     return state[AT_REPLICA] + (leads ? 0 : 1 + below(at->n - 1)) + at->n * below(4);
 }
 
-static void build_head(const layout *at, uint8_t *state, const history *from, bool leads)
+static void build_head(const layout *at, uint8_t *state, bool leads)
 {
     bool normal = state[AT_STATUS] == JALLUMERE_STATUS_NORMAL,
          drafts = state[AT_STATUS] == JALLUMERE_STATUS_CROSS_SHARD;
@@ -140,8 +131,8 @@ static void build_head(const layout *at, uint8_t *state, const history *from, bo
         store(state + at->views + 4 * state[AT_GROUP], view_with_role(at, state, leads), 4);
     store(state + AT_VIEW, view, 4);
     store(state + AT_LAST_NORMAL, normal ? view : below(view), 4);
-    store(state + AT_CLOCK, chance(70) ? some_time(from) : 0, 8);
-    store(state + AT_BOUNDARY, drafts || chance(10) ? some_time(from) : 0, 8);
+    store(state + AT_CLOCK, chance(70) ? some_time() : 0, 8);
+    store(state + AT_BOUNDARY, drafts || chance(10) ? some_time() : 0, 8);
 }
 
 static void build_log(const layout *at, uint8_t *state, picking *how)
@@ -156,7 +147,7 @@ static void build_log(const layout *at, uint8_t *state, picking *how)
 }
 
 /* Notes for the early entries, complete or not; gives their number. */
-static uint64_t build_early_notes(const layout *at, uint8_t *state, const history *from)
+static uint64_t build_early_notes(const layout *at, uint8_t *state)
 {
     uint64_t agreed = below(101), count = load(state + at->early, 4);
     for (uint64_t i = 0; i < count; i++) {
@@ -165,8 +156,8 @@ static uint64_t build_early_notes(const layout *at, uint8_t *state, const histor
         bool complete = true, all = chance(agreed);
         memcpy(note, bytes + AT_TRANSACTION, TRANSACTION_LENGTH);
         for (uint64_t group = 0; group < at->s; group++) {
-            bool masked = mask >> group & 1, held = group == state[AT_GROUP] || (all ? masked : chance(50));
-            uint64_t timestamp = group == state[AT_GROUP] || chance(50) ? own : some_time(from);
+            bool masked = holds(mask, group), held = group == state[AT_GROUP] || (all ? masked : chance(50));
+            uint64_t timestamp = group == state[AT_GROUP] || chance(50) ? own : some_time();
             write_marked(note + note_group(group), held, timestamp);
             complete = complete && (held || !masked);
             greatest = held && masked && timestamp > greatest ? timestamp : greatest;
@@ -185,13 +176,13 @@ static void mark_requests(const uint8_t *table, uint8_t *marks, uint8_t value)
 }
 
 /* Notes for transactions that have not come yet, from some groups, from all others or even from the own. */
-static void build_notes(const layout *at, uint8_t *state, const history *from, bool for_early)
+static void build_notes(const layout *at, uint8_t *state, bool for_early)
 {
     static uint8_t early[REQUESTS];
-    uint64_t count = for_early ? build_early_notes(at, state, from) : 0, most = fill(at);
+    uint64_t count = for_early ? build_early_notes(at, state) : 0, most = fill(at);
     mark_requests(state + at->early, early, 1);
-    for (uint64_t i = 0; count < most && i < from->count; i++) {
-        const uint8_t *transaction = from->entries + ENTRY_LENGTH * i + AT_TRANSACTION;
+    for (uint64_t i = 0; count < most && i < past.count; i++) {
+        const uint8_t *transaction = past.entries + ENTRY_LENGTH * i + AT_TRANSACTION;
         uint8_t *note = state + note_place(at, count);
         uint64_t sure = below(at->s);
         bool all = chance(50);
@@ -200,7 +191,7 @@ static void build_notes(const layout *at, uint8_t *state, const history *from, b
         memcpy(note, transaction, TRANSACTION_LENGTH);
         for (uint64_t group = 0; group < at->s; group++) {
             bool held = group == sure || (group == state[AT_GROUP] ? chance(20) : all || chance(30));
-            write_marked(note + note_group(group), held, some_time(from));
+            write_marked(note + note_group(group), held, some_time());
         }
         count++;
     }
@@ -217,15 +208,15 @@ static void exchange(uint8_t *one, uint8_t *other)
 }
 
 /* Part of the past, and entries that the past does not have, as many as are asked for or some; in no order. */
-static void build_buffer(const layout *at, uint8_t *state, bool late, const history *from, picking *how)
+static void build_buffer(const layout *at, uint8_t *state, bool late, picking *how)
 {
     uint8_t *table = state + (late ? at->late : at->early), bytes[ENTRY_LENGTH];
-    uint64_t last = load(from->entries + ENTRY_LENGTH * (from->count - 1), 8);
+    uint64_t last = load(past.entries + ENTRY_LENGTH * (past.count - 1), 8);
     bool top = chance(30);
     how->most = fill(at);
     pick_table(table, how);
     while (load(table, 4) < at->c && (top ? load(table, 4) < how->most : late && chance(80))) {
-        write_entry(bytes, (entry){late ? some_time(from) : last, draw(),
+        write_entry(bytes, (entry){late ? some_time() : last, draw(),
                                    (late ? LATE_REQUESTS : EARLY_REQUESTS) + load(table, 4), below(3),
                                    bit(state[AT_GROUP]) | (late ? 0 : below(bit(at->s)))});
         append_entry(table, bytes);
@@ -234,19 +225,19 @@ static void build_buffer(const layout *at, uint8_t *state, bool late, const hist
         exchange(table + entry_place(i - 1), table + entry_place(below(i)));
 }
 
-static void build_buffers(const layout *at, uint8_t *state, const history *from, picking *how)
+static void build_buffers(const layout *at, uint8_t *state, picking *how)
 {
     bool for_early = state[AT_STATUS] == JALLUMERE_STATUS_NORMAL && state_leads(at, state);
     how->keep = 60;
     how->change = 0;
-    build_buffer(at, state, false, from, how);
-    build_buffer(at, state, true, from, how);
+    build_buffer(at, state, false, how);
+    build_buffer(at, state, true, how);
     if (for_early || chance(30))
-        build_notes(at, state, from, for_early || chance(30));
+        build_notes(at, state, for_early || chance(30));
 }
 
 /* Often one short of what is waited for, so that the next message completes it. */
-static void build_votes(const layout *at, uint8_t *state, const history *from)
+static void build_votes(const layout *at, uint8_t *state)
 {
     uint64_t view = load(state + AT_VIEW, 4), faults = majority_of(at->n) - 1, common = below(view),
              length = fill(at);
@@ -257,24 +248,24 @@ static void build_votes(const layout *at, uint8_t *state, const history *from)
         most = chance(70) ? faults : below(faults + 1);
     for (uint64_t i = 0; i < 2 * at->n && held < most && view != 0; i++) {
         uint8_t *vote = state + vote_place(at, i % at->n), *table = vote + VOTE_HEAD_LENGTH;
-        picking how = pick_from(from, true, alike || chance(40) ? length : fill(at), keep, change);
+        picking how = pick_from(true, alike || chance(40) ? length : fill(at), keep, change);
         if (vote[0] == 1 || chance(40))
             continue;
         pick_table(table, &how);
-        uint64_t count = load(table, 4), sync = chance(60) ? below(count + 1) : least_of(below(4), count);
-        write_vote_head(vote, alike || chance(70) ? common : below(view), sync);
+        uint64_t count = load(table, 4), sync = chance(60) ? below(count + 1) : below(4);
+        write_vote_head(vote, alike || chance(70) ? common : below(view), sync < count ? sync : count);
         held++;
     }
 }
 
-static void build_draft_and_replies(const layout *at, uint8_t *state, const history *from)
+static void build_draft_and_replies(const layout *at, uint8_t *state)
 {
     bool drafts = state[AT_STATUS] == JALLUMERE_STATUS_CROSS_SHARD;
     uint64_t most = drafts       ? at->s - 2
                     : chance(10) ? at->s
                                  : 0,
              held = 0, keep = 30 + below(71), change = below(30);
-    picking how = pick_from(from, false, fill(at), keep, change);
+    picking how = pick_from(false, fill(at), keep, change);
     if (drafts || chance(10))
         pick_table(state + at->draft, &how);
     if (chance(30))
@@ -284,7 +275,7 @@ static void build_draft_and_replies(const layout *at, uint8_t *state, const hist
         uint8_t *reply = state + reply_place(at, group);
         if (group == state[AT_GROUP] || reply[0] == 1 || chance(30))
             continue;
-        how = pick_from(from, true, fill(at), keep, change);
+        how = pick_from(true, fill(at), keep, change);
         how.needed = bit(group);
         reply[0] = 1;
         pick_table(reply + 1, &how);
@@ -292,52 +283,51 @@ static void build_draft_and_replies(const layout *at, uint8_t *state, const hist
     }
 }
 
-static void build_state(const layout *at, uint8_t *state, const history *from, uint64_t group, unsigned status,
-                        bool leads)
+static void build_state(const layout *at, uint8_t *state, uint64_t group, unsigned status, bool leads)
 {
-    picking how = pick_from(from, false, fill(at), 85, 5);
+    picking how = pick_from(false, fill(at), 85, 5);
     memset(state, 0, at->length);
     state[AT_GROUP] = (uint8_t)group;
     state[AT_REPLICA] = (uint8_t)below(at->n);
     state[AT_STATUS] = (uint8_t)status;
-    build_head(at, state, from, leads);
+    build_head(at, state, leads);
     build_log(at, state, &how);
     if (status == JALLUMERE_STATUS_NORMAL || chance(20))
-        build_buffers(at, state, from, &how);
-    build_votes(at, state, from);
-    build_draft_and_replies(at, state, from);
+        build_buffers(at, state, &how);
+    build_votes(at, state);
+    build_draft_and_replies(at, state);
 }
 
-void build_any_state(const layout *at, uint8_t *state, const history *from, uint64_t group)
+void build_any_state(const layout *at, uint8_t *state, uint64_t group)
 {
     unsigned status = 1 + (unsigned)below(at->s == 1 ? 2 : 3);
-    build_state(at, state, from, group, status, status == JALLUMERE_STATUS_CROSS_SHARD || chance(60));
+    build_state(at, state, group, status, status == JALLUMERE_STATUS_CROSS_SHARD || chance(60));
 }
 
 /* Kinds 8 and 9 also open a greater view in any other state. */
-void build_state_for(const layout *at, uint8_t *state, const history *from, uint64_t group, uint64_t kind)
+void build_state_for(const layout *at, uint8_t *state, uint64_t group, uint64_t kind)
 {
     bool opens = kind == JALLUMERE_VOTE || kind == JALLUMERE_START_VIEW;
     if (kind == JALLUMERE_CHANGE_VIEW || (opens && chance(20)))
-        build_any_state(at, state, from, group);
+        build_any_state(at, state, group);
     else if (opens)
-        build_state(at, state, from, group, JALLUMERE_STATUS_VIEW_CHANGE, kind == JALLUMERE_VOTE);
+        build_state(at, state, group, JALLUMERE_STATUS_VIEW_CHANGE, kind == JALLUMERE_VOTE);
     else if (kind == JALLUMERE_VERIFY_REPLY || (kind == JALLUMERE_VERIFY_REQUEST && chance(50)))
-        build_state(at, state, from, group, JALLUMERE_STATUS_CROSS_SHARD, true);
+        build_state(at, state, group, JALLUMERE_STATUS_CROSS_SHARD, true);
     else
-        build_state(at, state, from, group, JALLUMERE_STATUS_NORMAL,
+        build_state(at, state, group, JALLUMERE_STATUS_NORMAL,
                     forms[kind].path == INBOUND ? chance(50) : forms[kind].sender != OWN_LEADER);
 }
 
 /* ---- messages that fit a state ----------------------------------------------------------------------- */
 
 /* A transaction of the log, of a buffer, of a note, of the past, or a new one. */
-static void some_transaction(const layout *at, const uint8_t *state, const history *from, uint8_t *bytes)
+static void some_transaction(const layout *at, const uint8_t *state, uint8_t *bytes)
 {
     const size_t tables[] = {at->log, at->early, at->early, at->late};
     const uint8_t *table = state + tables[below(4)];
     uint64_t count = load(table, 4), noted = load(state + at->notes, 4);
-    memcpy(bytes, some_past(from), ENTRY_LENGTH);
+    memcpy(bytes, some_past(), ENTRY_LENGTH);
     if (chance(45) && count != 0)
         memcpy(bytes, table + entry_place(below(count)), ENTRY_LENGTH);
     else if (chance(40) && noted != 0)
@@ -399,25 +389,24 @@ static void misfit(const layout *at, message *made, uint8_t *views)
         store(views + 4 * below(at->s), below(40), 4);
 }
 
-static void fit_one_entry(const layout *at, const uint8_t *state, const history *from, message *made,
-                          uint8_t *entries)
+static void fit_one_entry(const layout *at, const uint8_t *state, message *made, uint8_t *entries)
 {
-    some_transaction(at, state, from, entries);
+    some_transaction(at, state, entries);
     made->count = 1;
     if (made->kind == JALLUMERE_TIMESTAMP_NOTE) {
         store(entries + AT_MASK, load(entries + AT_MASK, 2) | bit(made->from_group), 2);
         if (chance(50))
-            store(entries, some_time(from), 8);
+            store(entries, some_time(), 8);
     }
     if (made->kind != JALLUMERE_TRANSACTION)
         return;
-    uint64_t due = chance(90) ? some_time(from) : chance(50) ? GREATEST_TIMESTAMP + below(3) - 1 : below(2);
+    uint64_t due = chance(90) ? some_time() : chance(50) ? GREATEST_TIMESTAMP + below(3) - 1 : below(2);
     made->numbers[0] = below(due + 1);
     made->numbers[1] = due - made->numbers[0];
     store(entries, 0, 8);
 }
 
-static void fit_log(const layout *at, const uint8_t *state, const history *from, message *made, uint8_t *entries)
+static void fit_log(const layout *at, const uint8_t *state, message *made, uint8_t *entries)
 {
     const uint8_t *vote = state + vote_place(at, below(at->n));
     uint64_t last_normal = load(vote + AT_VOTE_LAST_NORMAL, 4);
@@ -426,7 +415,7 @@ static void fit_log(const layout *at, const uint8_t *state, const history *from,
         most = load(vote + VOTE_HEAD_LENGTH, 4) + below(3);
     if (chance(5))
         most = at->c + 1 + below(at->c);
-    picking how = pick_from(from, true, most, chance(50) ? 95 : 50 + below(51), below(20));
+    picking how = pick_from(true, most, chance(50) ? 95 : 50 + below(51), below(20));
     how.needed = made->kind == JALLUMERE_VERIFY_REPLY ? bit(made->from_group) : 0;
     made->count = pick_log(entries, &how);
     if (made->kind != JALLUMERE_VOTE)
@@ -435,7 +424,7 @@ static void fit_log(const layout *at, const uint8_t *state, const history *from,
     made->numbers[1] = chance(60) ? below(made->count + 1) : 0;
 }
 
-static void fit_numbers(const layout *at, const uint8_t *state, const history *from, message *made)
+static void fit_numbers(const layout *at, const uint8_t *state, message *made)
 {
     const uint8_t *heard = state + heard_place(at, made->from_replica % at->n);
     uint64_t sync = load(state + AT_SYNC, 8), commit = load(state + AT_COMMIT, 8),
@@ -447,9 +436,9 @@ static void fit_numbers(const layout *at, const uint8_t *state, const history *f
     else if (made->kind == JALLUMERE_COMMIT)
         made->numbers[0] = chance(60) ? below(sync + 2) : commit + below(3);
     else if (made->kind == JALLUMERE_VERIFY_REQUEST)
-        made->numbers[0] = chance(60) ? some_time(from) : chance(70) ? 0 : edge(at);
+        made->numbers[0] = chance(60) ? some_time() : chance(70) ? 0 : edge(at);
     else if (made->kind == JALLUMERE_TICK)
-        made->numbers[0] = chance(60) ? clock + below(60) : chance(80) ? some_time(from) : GREATEST_TIMESTAMP;
+        made->numbers[0] = chance(60) ? clock + below(60) : chance(80) ? some_time() : GREATEST_TIMESTAMP;
     else if (made->kind == JALLUMERE_FAST_REPLY) {
         made->numbers[0] = below(2);
         made->numbers[1] = made->numbers[0] * (1 + below(9));
@@ -481,19 +470,19 @@ uint64_t some_kind(const layout *at, const uint8_t *state)
     return kind;
 }
 
-void make_fitting(const layout *at, const uint8_t *state, const history *from, uint64_t kind, letter *told)
+void make_fitting(const layout *at, const uint8_t *state, uint64_t kind, letter *told)
 {
     message made = message_of_kind(kind, at->s);
-    uint8_t views[4 * GROUPS_MOST], *entries = memory(ENTRY_LENGTH * (from->count + 1));
+    uint8_t views[4 * GROUPS_MOST], *entries = memory(ENTRY_LENGTH * (past.count + 1));
     fit_view(at, state, &made, views);
     fit_address(at, state, &made);
     if (chance(15))
         misfit(at, &made, views);
-    fit_numbers(at, state, from, &made);
+    fit_numbers(at, state, &made);
     if (forms[kind].entries == ANY_LOG)
-        fit_log(at, state, from, &made, entries);
+        fit_log(at, state, &made, entries);
     else if (forms[kind].entries == ONE_ENTRY)
-        fit_one_entry(at, state, from, &made, entries);
+        fit_one_entry(at, state, &made, entries);
     made.entries = entries;
     compose(told, &made);
     free(entries);

@@ -8,7 +8,6 @@
  */
 #include "../common/host.h"
 #include "../common/messages.h"
-#include "../common/places.h"
 #include "../model/model.h"
 
 #include <stdio.h>
@@ -38,7 +37,7 @@ static void print_groups(uint64_t mask, uint64_t groups)
 {
     int width = printf("groups %s", mask == 0 ? "none" : "");
     for (unsigned group = 0; mask >> group != 0; group++)
-        if ((mask >> group & 1) == 1)
+        if (holds(mask, group))
             width += printf("%u%s", group, mask >> group == 1 ? "" : ",");
     printf("%*s", width < 7 + 2 * (int)groups ? 7 + 2 * (int)groups - width : 0, "");
 }
@@ -192,10 +191,10 @@ static void print_reason(void *to, size_t byte, const char *rule)
 
 static bool print_verdict(const layout *at, const uint8_t *state)
 {
-    bool good = jallumere_good(at->n, at->s, at->c, state, at->length) == JALLUMERE_DONE;
+    bool good = jallumere_good(SIZES(at), state, at->length) == JALLUMERE_DONE;
     listener heard = {at, state, 0};
     printf("\n%s\n", good ? "The state is good." : "The state is NOT good. What fails of the rules:");
-    uint64_t reasons = model_why_not_good(at->n, at->s, at->c, state, at->length, print_reason, &heard);
+    uint64_t reasons = model_why_not_good(SIZES(at), state, at->length, print_reason, &heard);
     if (reasons > SHOWN_REASONS && !asked.all)
         printf("  ... and %" PRIu64 " more (--all shows them)\n", reasons - SHOWN_REASONS);
     if (good != (reasons == 0))
@@ -221,7 +220,7 @@ static size_t find_shapes(const uint8_t *state, size_t length, layout *shapes)
                     shapes[count++] = at;
             }
     for (size_t i = 0; i < count; i++)
-        if (jallumere_good(shapes[i].n, shapes[i].s, shapes[i].c, state, length) == JALLUMERE_DONE) {
+        if (jallumere_good(SIZES(&shapes[i]), state, length) == JALLUMERE_DONE) {
             if (count > 1)
                 printf("%zu shapes have this length; the first that makes it a good state is taken\n", count);
             shapes[0] = shapes[i];
@@ -268,7 +267,7 @@ int main(int count, char **words)
         printf("%zu shapes have this length, and the state is good in none; the first is shown. The others:",
                found);
         for (size_t i = 1; i < found; i++)
-            printf(" %" PRIu64 "/%" PRIu64 "/%" PRIu64, shapes[i].n, shapes[i].s, shapes[i].c);
+            printf(" %" PRIu64 "/%" PRIu64 "/%" PRIu64, SIZES(&shapes[i]));
         printf(" (sites/groups/capacity)\n");
     }
     print_report(&shapes[0], state);

@@ -116,10 +116,7 @@ static void *grown(void *list, size_t count, size_t width)
 {
     if (count != 0 && (count & (count - 1)) != 0)
         return list;
-    list = realloc(list, (count == 0 ? 1 : 2 * count) * width);
-    if (list == NULL)
-        stop("out of memory");
-    return list;
+    return enlarged(list, (count == 0 ? 1 : 2 * count) * width);
 }
 
 static int site_of(uint64_t group, uint64_t replica)
@@ -284,7 +281,7 @@ static void send_out(size_t which, bool again)
     if (told.to_group == JALLUMERE_OUTSIDE)
         send_to(which, -1, again);
     for (uint64_t replica = 0; told.to_group != JALLUMERE_OUTSIDE && replica < at.n; replica++)
-        if ((told.to_mask >> replica & 1) == 1)
+        if (holds(told.to_mask, replica))
             send_to(which, site_of(told.to_group, replica), again);
 }
 
@@ -508,11 +505,11 @@ static void check_done(int of, const message *told)
 {
     site *own = &sites[of];
     own->was = own->is;
-    if (jallumere_good(at.n, at.s, at.c, own->state, at.length) != 0)
+    if (jallumere_good(SIZES(&at), own->state, at.length) != 0)
         fails(of, "its state is not good after a kind %u", (unsigned)told->kind);
     for (uint64_t field = 1; field <= JALLUMERE_FIELD_LEADER + 1; field++) {
-        uint64_t says = jallumere_field(at.n, at.s, at.c, field, own->state, at.length);
-        if (says != model_field(at.n, at.s, at.c, field, own->state, at.length))
+        uint64_t says = jallumere_field(SIZES(&at), field, own->state, at.length);
+        if (says != model_field(SIZES(&at), field, own->state, at.length))
             fails(of, "the reader of field %u does not say what stands in its state", (unsigned)field);
         if (field <= JALLUMERE_FIELD_LEADER)
             own->is.fields[field - 1] = (unsigned)says;
@@ -532,7 +529,7 @@ static unsigned take_step(int of, size_t which)
     memcpy(before, state, at.length);
     memcpy(outgoing, outgoing_before, outgoing_room);
     uint64_t answer =
-        jallumere_step(at.n, at.s, at.c, state, at.length, taken.bytes, taken.length, outgoing, outgoing_room);
+        jallumere_step(SIZES(&at), state, at.length, taken.bytes, taken.length, outgoing, outgoing_room);
     unsigned refusal = JALLUMERE_NUMBER(answer);
     size_t length = JALLUMERE_LENGTH(answer);
     step_count++;
@@ -562,7 +559,7 @@ static uint64_t open_groups(void)
     uint64_t open = 0, limit = 3 * at.c / 4;
     for (uint64_t group = 0; group < at.s; group++)
         if (scene == FILLING ? !planned_leader(group)->full : asked_of[group] < limit)
-            open |= UINT64_C(1) << group;
+            open |= bit(group);
     return scene == STOPPED ? 0 : open;
 }
 
@@ -573,9 +570,9 @@ static void submit(const event *of)
     char named[4 * GROUPS_MOST] = "";
     message made = message_of_kind(JALLUMERE_TRANSACTION, at.s);
     entry sent = {.command = draw() >> 32, .coordinator = below(COORDINATORS)};
-    uint64_t mask = 1 + below((UINT64_C(1) << at.s) - 1);
+    uint64_t mask = 1 + below(bit(at.s) - 1);
     if (groups > 2 && below(3) != 0) /* mostly in one group or two */
-        mask = UINT64_C(1) << below(at.s) | UINT64_C(1) << below(at.s);
+        mask = bit(below(at.s)) | bit(below(at.s));
     sent.mask = mask & open_groups();
     plan((event){.at = now + (unsigned)(scene == FILLING ? 1 + below(16 / at.s) : 25 + below(40)),
                  .happen = of->happen});
@@ -589,11 +586,11 @@ static void submit(const event *of)
     made.numbers[0] = now;
     made.numbers[1] = BOUND;
     for (unsigned group = 0; group < at.s; group++)
-        if ((sent.mask >> group & 1) == 1) {
+        if (holds(sent.mask, group)) {
             snprintf(named + strlen(named), sizeof named - strlen(named), " %u", group);
             asked_of[group]++;
             asked = grown(asked, asked_count, sizeof *asked);
-            asked[asked_count] = write_letter(&made, group, (UINT64_C(1) << at.n) - 1, FROM_COORDINATORS);
+            asked[asked_count] = write_letter(&made, group, bit(at.n) - 1, FROM_COORDINATORS);
             send_first(asked[asked_count++]);
         }
     note(-1, "coordinator %u sends transaction %u.%u to group%s, due at %u", (unsigned)sent.coordinator,
@@ -607,7 +604,7 @@ static void tick(const event *of)
     made.numbers[0] = now + own->skew;
     plan((event){.at = now + TICK_TIME, .happen = tick, .site = of->site});
     if (!own->silent)
-        take_step(of->site, write_letter(&made, own->is.group, UINT64_C(1) << own->is.replica, FROM_CLOCK));
+        take_step(of->site, write_letter(&made, own->is.group, bit(own->is.replica), FROM_CLOCK));
 }
 
 /* Whether a majority of each group has started the planned view. */
@@ -644,7 +641,7 @@ static void plan_view(const event *of)
     note(-1, "the view manager plans view %u, leader of group 0 is replica %u", planned_view,
          (unsigned)leader_of(planned_views, 0, at.n));
     for (uint64_t group = 0; group < at.s; group++)
-        send_first(write_letter(&made, group, (UINT64_C(1) << at.n) - 1, FROM_MANAGER));
+        send_first(write_letter(&made, group, bit(at.n) - 1, FROM_MANAGER));
     plan((event){.at = now + WATCH_TIME, .happen = plan_view, .which = planned_view});
 }
 
@@ -762,7 +759,7 @@ static void print_log(const site *own)
     for (unsigned position = 0; position <= is->logged; position++) {
         for (unsigned i = 0; i < 3 && position != 0; i++)
             printf("%c%u", " .@"[i],
-                   (unsigned)jallumere_entry(at.n, at.s, at.c, position, fields[i], own->state, at.length));
+                   (unsigned)jallumere_entry(SIZES(&at), position, fields[i], own->state, at.length));
         printf("%s%s", position == is->commit ? " |" : "",
                position == is->sync && is->sync != is->commit ? " /" : "");
     }
@@ -815,11 +812,11 @@ static void start_all(void)
     if (jallumere_version() != JALLUMERE_VERSION)
         stop("the core's interface has version %u, the header %u", (unsigned)jallumere_version(),
              JALLUMERE_VERSION);
-    if (jallumere_state_length(at.n, at.s, at.c) != at.length)
+    if (jallumere_state_length(SIZES(&at)) != at.length)
         fails(-1, "the core says %" PRIu64 " bytes for a state, the documents %zu",
-              jallumere_state_length(at.n, at.s, at.c), at.length);
+              jallumere_state_length(SIZES(&at)), at.length);
     site_count = (size_t)(at.n * at.s);
-    outgoing_room = (size_t)(at.c * (72 + 4 * at.s + ENTRY_LENGTH) + at.s * (256 + 8 * at.s));
+    outgoing_room = ample_room(&at);
     before = memory(at.length);
     outgoing = memory(outgoing_room);
     outgoing_before = memory(outgoing_room);
@@ -828,7 +825,7 @@ static void start_all(void)
         sites[i].skew = (unsigned)below(4);
         sites[i].state = memory(at.length);
         memset(sites[i].state, 0xa5, at.length);
-        if (jallumere_start(at.n, at.s, at.c, i / at.n, i % at.n, sites[i].state, at.length) != 0)
+        if (jallumere_start(SIZES(&at), i / at.n, i % at.n, sites[i].state, at.length) != 0)
             fails((int)i, "it cannot be started");
         check_done((int)i, &(message){0});
         plan((event){.at = 1 + (unsigned)below(TICK_TIME), .happen = tick, .site = (int)i});
