@@ -27,7 +27,7 @@ left-one x y c d o u e = (
 
 -- a member is started in one way: one answer, and one memory
 pub start-one : (sh : Shape) (k r : ℕ) (b : List ℕ) (x y : Answer) (c d : List ℕ) → left x c [] ≡ startBytes sh k r b → left y d [] ≡ startBytes sh k r b → (x ≡ y) × (c ≡ d)
-start-one sh k r b x y c d e f = let z = left-one x y c d [] [] (e ∙ sym f) in (z .0, z .1 .0)
+start-one sh k r b x y c d e f = let z = left-one x y c d [] [] (e ∙ sym f) in (z .0, z .1)
 
 pub length-one : (sh : Shape) (x y : ℕ) → x ≡ lengthFor sh → y ≡ lengthFor sh → x ≡ y
 length-one sh x y p q = p ∙ sym q

@@ -5,6 +5,7 @@ use rules::Message;
 use rules::Shape;
 use rules::refusal;
 ghost use mathlib.Core.Path.{_≡_};
+ghost use mathlib.Core.List.{[]};
 ghost use Rattle.rules.specs.Choice.{pick};
 ghost use Rattle.rules.specs.Group.{sizesFit};
 ghost use Rattle.rules.specs.Digest.{digestFrom};
