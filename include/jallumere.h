@@ -1,12 +1,14 @@
 /*
- * The core's C interface: one replica of one group, stepped message by message.
+ * The core's C interface: one replica of one group, stepped message by message. docs/HOSTS.md is the page for
+ * engineers; this is the reference.
  *
  * Sizes, the same for every function: n replicas in a group (3, 5 or 7), s groups (1 to 8), capacity c
  * (16 to 4,096). All numbers are uint64_t; a slice is a pointer and a length in bytes, and a slice of
  * length 0 may have a null pointer.
  *
- * The caller owns every byte. No function keeps a pointer, allocates or frees; the slices of one call must
- * not overlap. All bytes are little-endian, as the documents lay them out.
+ * The caller owns every byte. No function keeps a pointer, allocates, frees or has memory of its own, so any
+ * thread may call any function at any time; the slices of one call must not overlap, and a state belongs to one
+ * call at a time. All bytes are little-endian, as docs/STATE.md and docs/HOSTS.md lay them out.
  */
 #ifndef JALLUMERE_H
 #define JALLUMERE_H
@@ -14,9 +16,97 @@
 #include <stddef.h>
 #include <stdint.h>
 
+/* The version of this interface: major * 10000 + minor * 100 + patch. */
+#define JALLUMERE_VERSION 10000
+
+/* What stands in the place of a group's or a replica's number for whatever is outside every group. */
+#define JALLUMERE_OUTSIDE 255
+
+/* What the readers of a state give where there is nothing to read. */
+#define JALLUMERE_NOTHING UINT64_MAX
+
+/* Where a digest begins afresh: FNV-1a's offset basis, which is the digest of no bytes. */
+#define JALLUMERE_DIGEST_START UINT64_C(0xcbf29ce484222325)
+
+/* The two parts of what jallumere_step and jallumere_write give: one of the answers below, and a length in bytes. */
+#define JALLUMERE_NUMBER(answer) ((unsigned)((answer) % 256))
+#define JALLUMERE_LENGTH(answer) ((size_t)((answer) / 256))
+
+/* Kinds of messages: a message's first byte. */
+enum jallumere_kind {
+    JALLUMERE_TRANSACTION = 1,
+    JALLUMERE_TIMESTAMP_NOTE = 3,
+    JALLUMERE_REPLICA_SYNC = 4,
+    JALLUMERE_FAST_REPLY = 5,
+    JALLUMERE_SLOW_REPLY = 6,
+    JALLUMERE_CHANGE_VIEW = 7,
+    JALLUMERE_VOTE = 8,
+    JALLUMERE_START_VIEW = 9,
+    JALLUMERE_SYNC_STATUS = 10,
+    JALLUMERE_COMMIT = 11,
+    JALLUMERE_VERIFY_REQUEST = 18,
+    JALLUMERE_VERIFY_REPLY = 19,
+    JALLUMERE_TICK = 23
+};
+
+/* Answers. All but JALLUMERE_DONE are refusals; the lowest number that applies is given. */
+enum jallumere_answer {
+    JALLUMERE_DONE = 0,
+    JALLUMERE_WRONG_STATE = 1,        /* a size, own number or length is wrong, or the state is not good */
+    JALLUMERE_MALFORMED = 2,          /* the bytes are no message, or a kind 5 or 6 was given to a step */
+    JALLUMERE_NOT_ADDRESSED_HERE = 3, /* another group, or a mask without this replica */
+    JALLUMERE_WRONG_VIEW = 4,         /* of another view, or of one that is not greater where it must be */
+    JALLUMERE_WRONG_STATUS = 5,       /* the status does not take this kind */
+    JALLUMERE_WRONG_ROLE = 6,         /* of the receiver or of the sender */
+    JALLUMERE_NOTHING_TO_DO = 7,      /* known already, or not above what is held */
+    JALLUMERE_FULL = 8,               /* a table or the log would pass c */
+    JALLUMERE_NO_ROOM = 9             /* `out` is too short */
+};
+
+/* What JALLUMERE_FIELD_STATUS says. */
+enum jallumere_status {
+    JALLUMERE_STATUS_NORMAL = 1,
+    JALLUMERE_STATUS_VIEW_CHANGE = 2,
+    JALLUMERE_STATUS_CROSS_SHARD = 3
+};
+
+/* Fields of a state, for jallumere_field. */
+enum jallumere_field_number {
+    JALLUMERE_FIELD_GROUP = 1,            /* the own group */
+    JALLUMERE_FIELD_REPLICA = 2,          /* the own replica */
+    JALLUMERE_FIELD_STATUS = 3,           /* one of the statuses */
+    JALLUMERE_FIELD_VIEW = 4,             /* gView */
+    JALLUMERE_FIELD_LAST_NORMAL_VIEW = 5, /* the last gView in which the status was normal */
+    JALLUMERE_FIELD_CLOCK = 6,            /* the time of the last tick taken */
+    JALLUMERE_FIELD_SYNC_POINT = 7,       /* up to here the log is the leader's */
+    JALLUMERE_FIELD_COMMIT_POINT = 8,     /* up to here the log is committed */
+    JALLUMERE_FIELD_LOG_LENGTH = 9,       /* entries in the log */
+    JALLUMERE_FIELD_LEADER = 10           /* the replica that leads the own group */
+};
+
+/* Fields of an entry of the log, for jallumere_entry. */
+enum jallumere_entry_field {
+    JALLUMERE_ENTRY_TIMESTAMP = 1,
+    JALLUMERE_ENTRY_COMMAND = 2,
+    JALLUMERE_ENTRY_REQUEST = 3,
+    JALLUMERE_ENTRY_COORDINATOR = 4,
+    JALLUMERE_ENTRY_MASK = 5 /* the groups that the transaction touches, bit by bit */
+};
+
 #ifdef __cplusplus
 extern "C" {
 #endif
+
+/*
+ * The version of the interface that the linked core has: JALLUMERE_VERSION of the header that it belongs to.
+ */
+uint64_t jallumere_version(void);
+
+/*
+ * 0 where the linked core is the proved one; 1 where it is the C model of hosts/model, which is written to
+ * compare with and not proved.
+ */
+uint64_t jallumere_is_model(void);
 
 /*
  * The length in bytes of a state of these sizes, or 0 where one of them is wrong. Reads and writes nothing.
@@ -25,51 +115,87 @@ uint64_t jallumere_state_length(uint64_t n, uint64_t s, uint64_t c);
 
 /*
  * Writes the fresh state of replica `replica` of group `group` over all of `state`, whatever stood there:
- * status normal, all views, clock and points 0, all tables empty. Gives 0, or 1 where a size, an own number
- * or the state's length is wrong; after 1 every byte of `state` is as it was.
+ * status normal, all views, clock and points 0, all tables empty. Gives JALLUMERE_DONE, or
+ * JALLUMERE_WRONG_STATE where a size, an own number or the state's length is wrong, after which every byte of
+ * `state` is as it was. It is for a site's first start ever: a site that has lost its state must not be started
+ * afresh, since it would forget what it promised.
  */
 uint64_t jallumere_start(uint64_t n, uint64_t s, uint64_t c, uint64_t group, uint64_t replica,
                          uint8_t *state, size_t state_length);
 
 /*
  * One step: takes the message and makes `state` the next state; what is to be sent stands first in `out`,
- * message after message, and the rest of `out` stays. Gives the refusal's number (0 for done) + 256 * the
- * length of the outgoing bytes. Refusals, the lowest that applies: 1 wrong size or state, 2 malformed
- * message, 3 not addressed here, 4 wrong view, 5 wrong status, 6 wrong role, 7 nothing to do now, 8 a table
- * or log would pass c, 9 `out` too short. A refusal has length 0 and leaves every byte of `state` and `out`.
+ * message after message (jallumere_message_length cuts them apart), and the rest of `out` stays. Gives an answer
+ * + 256 * the length of the outgoing bytes: JALLUMERE_NUMBER and JALLUMERE_LENGTH take it apart. A refusal has
+ * length 0 and leaves every byte of `state` and `out`. After JALLUMERE_DONE the state is to be on the disk before
+ * anything of `out` is sent. An `out` of c * (96 + 4 * s) + 24 + 4 * s bytes is never too short.
  */
 uint64_t jallumere_step(uint64_t n, uint64_t s, uint64_t c, uint8_t *state, size_t state_length,
                         const uint8_t *message, size_t message_length, uint8_t *out, size_t out_length);
 
 /*
- * Whether these bytes are a good state: 0 is good, 1 is not good (or a size or the length is wrong). The
- * numbers are those of the refusals: 1 exactly where a step would refuse with 1. Writes nothing.
+ * Whether these bytes are a good state: JALLUMERE_DONE where they are, JALLUMERE_WRONG_STATE where not (or a
+ * size or the length is wrong): exactly where a step would refuse with it. Writes nothing. A good state need not
+ * be the one that was stored: keep a digest beside it.
  */
 uint64_t jallumere_good(uint64_t n, uint64_t s, uint64_t c, const uint8_t *state, size_t state_length);
 
 /*
- * Whether these bytes are a well-formed message of any kind, 5 and 6 too: 0 well formed, 1 wrong n or s,
- * 2 malformed. There is no limit to a log's length here. Writes nothing.
+ * What a field of a state says, by its number in enum jallumere_field_number; JALLUMERE_NOTHING where a size, the
+ * state's length or the field's number is wrong. It looks at sizes and length alone, so it costs nothing to
+ * speak of: of bytes that are not a good state it gives what stands there. The log's length is the smaller of
+ * its count and c; the leader is the own group's view modulo n. Writes nothing.
+ */
+uint64_t jallumere_field(uint64_t n, uint64_t s, uint64_t c, uint64_t field, const uint8_t *state,
+                         size_t state_length);
+
+/*
+ * The view of group `group` in the state's gVec, whose leader is the replica of that number modulo n;
+ * JALLUMERE_NOTHING where a size or the state's length is wrong or the group is not below s. Writes nothing.
+ */
+uint64_t jallumere_group_view(uint64_t n, uint64_t s, uint64_t c, uint64_t group, const uint8_t *state,
+                              size_t state_length);
+
+/*
+ * What a field of the log's entry at `position` (1 to the log's length) says, by its number in
+ * enum jallumere_entry_field; JALLUMERE_NOTHING where a size, the state's length, the position or the field's
+ * number is wrong. A command may be any 64 bits, JALLUMERE_NOTHING too: whether there is an entry is what the
+ * log's length says. Writes nothing.
+ */
+uint64_t jallumere_entry(uint64_t n, uint64_t s, uint64_t c, uint64_t position, uint64_t field,
+                         const uint8_t *state, size_t state_length);
+
+/*
+ * Whether these bytes are a well-formed message of any kind, 5 and 6 too: JALLUMERE_DONE well formed,
+ * JALLUMERE_WRONG_STATE wrong n or s, JALLUMERE_MALFORMED else. There is no limit to a log's length here. Writes
+ * nothing.
  */
 uint64_t jallumere_read(uint64_t n, uint64_t s, const uint8_t *message, size_t message_length);
 
 /*
- * Writes the message with these fields first in `out` and leaves the rest of it. Gives 0 + 256 * the
- * message's length; or, with length 0 and `out` as it was, 1 for a wrong n or s, 2 where the message would
- * be malformed (a field that does not fit into its bytes is out of range) and 9 where `out` is too short;
- * the lowest that applies. `first`, `second`, `third` are the kind's numbers in their order; those that the
- * kind does not have are not looked at. `views` is the gVec, 4 bytes a group, `entries` the entries, 24
- * bytes each, both as they stand in a message and without their counts; a length that is no multiple of 4
- * or 24 is malformed.
+ * The length in bytes of the message that `bytes` begins with, by its kind, s and its count of entries; 0 where
+ * n or s is wrong, the kind is none, or the bytes end before the message does. The messages that a step leaves in
+ * `out` are cut apart by it. Whether the message is well formed is jallumere_read's to say. Writes nothing.
+ */
+uint64_t jallumere_message_length(uint64_t n, uint64_t s, const uint8_t *bytes, size_t length);
+
+/*
+ * Writes the message with these fields first in `out` and leaves the rest of it. Gives JALLUMERE_DONE + 256 *
+ * the message's length; or, with length 0 and `out` as it was, JALLUMERE_WRONG_STATE for a wrong n or s,
+ * JALLUMERE_MALFORMED where the message would be malformed (a field that does not fit into its bytes is out of
+ * range) and JALLUMERE_NO_ROOM where `out` is too short; the lowest that applies. `numbers` are the kind's numbers
+ * in their order, `numbers_count` of them; another count than the kind's is malformed. `views` is the gVec, 4 bytes
+ * a group, `entries` the entries, 24 bytes each (timestamp 8, command 8, request 4, coordinator 2, mask 2), both as
+ * they stand in a message and without their counts; a length that is no multiple of 4 or 24 is malformed.
  */
 uint64_t jallumere_write(uint64_t n, uint64_t s, uint64_t kind, uint64_t to_group, uint64_t to_mask,
-                         uint64_t from_group, uint64_t from_replica, uint64_t view, uint64_t first,
-                         uint64_t second, uint64_t third, const uint8_t *views, size_t views_length,
+                         uint64_t from_group, uint64_t from_replica, uint64_t view, const uint64_t *numbers,
+                         size_t numbers_count, const uint8_t *views, size_t views_length,
                          const uint8_t *entries, size_t entries_length, uint8_t *out, size_t out_length);
 
 /*
- * FNV-1a of 64 bits, run on from `start` over the bytes; cbf29ce484222325 (hexadecimal) begins afresh.
- * Gives the digest; writes nothing.
+ * FNV-1a of 64 bits, run on from `start` over the bytes; JALLUMERE_DIGEST_START begins afresh. Gives the digest;
+ * writes nothing. It finds damage; it is no protection against someone who means to deceive.
  */
 uint64_t jallumere_digest(uint64_t start, const uint8_t *bytes, size_t length);
 

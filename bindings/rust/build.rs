@@ -1,4 +1,8 @@
-//! Links the core: the archive that `rt staticlib replica` writes, or the archive or object that JALLUMERE_CORE names.
+//! Links the core: the archive that `rt staticlib replica` writes, the archive or object that JALLUMERE_CORE names, or the
+//! C model where JALLUMERE_CORE is `model`.
+//!
+//! Checking and documenting need no core, and a build script cannot tell them from building. So where there is none it
+//! warns and goes on; the functions then have names that tell the linker's user what is missing (src/raw.rs).
 
 use std::path::{Path, PathBuf};
 use std::process::{exit, Command};
@@ -9,40 +13,72 @@ fn stop(words: &str) -> ! {
     exit(1);
 }
 
-/// A relative JALLUMERE_CORE is meant from the repository's root, as `./jallumere` takes it when called there.
-fn find_core(root: &Path) -> PathBuf {
-    println!("cargo:rerun-if-env-changed=JALLUMERE_CORE");
-    match env::var_os("JALLUMERE_CORE") {
-        Some(named) if !named.is_empty() => {
-            let path = root.join(&named);
-            if !path.is_file() {
-                stop(&format!("missing: JALLUMERE_CORE names '{}', which is no file", path.display()));
-            }
-            path
-        }
-        _ => {
-            let path = root.join("target/staticlib/libreplica.a");
-            if !path.is_file() {
-                stop(&format!(
-                    "missing: {}. Build it by 'rt staticlib replica' at the root, or name another archive in JALLUMERE_CORE",
-                    path.display()
-                ));
-            }
-            path
-        }
+fn variable(name: &str) -> String {
+    env::var(name).unwrap_or_else(|_| stop(&format!("{name} is not set; cargo sets it")))
+}
+
+/// Says why no core is linked, and lets src/raw.rs say it again where something is linked.
+fn go_without(why: &str, words: &str) {
+    println!("cargo:warning={words}; checking and documenting work, linking does not");
+    println!("cargo:rustc-cfg=jallumere_core=\"{why}\"");
+}
+
+/// The C model as an object.
+fn compile_model(root: &Path) -> PathBuf {
+    let object = PathBuf::from(variable("OUT_DIR")).join("model-core.o");
+    let (include, hosts) = (root.join("include"), root.join("hosts"));
+    for folder in [&include, &hosts.join("common"), &hosts.join("model")] {
+        println!("cargo:rerun-if-changed={}", folder.display());
+    }
+    let compiler = env::var_os("CC").unwrap_or_else(|| "cc".into());
+    let mut command = Command::new(compiler);
+    command.args(["-std=c11", "-O2", "-fPIC", "-c", "-I"]).arg(include).arg("-I").arg(hosts.join("common"));
+    match command.arg("-o").arg(&object).arg(hosts.join("model/core.c")).status() {
+        Ok(status) if status.success() => object,
+        _ => stop("the C model could not be compiled; CC names the compiler, 'cc' otherwise"),
     }
 }
 
+/// The core that is to be linked. A relative JALLUMERE_CORE is meant from the repository's root, as `./jallumere` takes
+/// it when called there, and one that names nothing is a mistake, which is said at once.
+fn find_core(root: &Path) -> Option<PathBuf> {
+    if let Some(named) = env::var_os("JALLUMERE_CORE").filter(|named| !named.is_empty()) {
+        if named == "model" {
+            return Some(compile_model(root));
+        }
+        let path = root.join(named);
+        if !path.is_file() {
+            stop(&format!("missing: JALLUMERE_CORE names '{}', which is no file", path.display()));
+        }
+        return Some(path);
+    }
+    let machine = variable("CARGO_CFG_TARGET_ARCH");
+    if machine != "x86_64" {
+        let words = format!("the proved core is x86-64 code and the target is {machine}: build for an x86-64 target");
+        go_without("other_machine", &words);
+        return None;
+    }
+    let path = root.join("target/staticlib/libreplica.a");
+    println!("cargo:rerun-if-changed={}", path.display());
+    if !path.is_file() {
+        let words = "missing: target/staticlib/libreplica.a; build it by 'rt staticlib replica' at the repository's root, \
+                     or name another archive in JALLUMERE_CORE";
+        go_without("missing", words);
+        return None;
+    }
+    Some(path)
+}
+
 fn main() {
-    let variable = |name: &str| env::var(name).unwrap_or_else(|_| stop(&format!("{name} is not set; cargo sets it")));
-    let root = Path::new(&variable("CARGO_MANIFEST_DIR")).join("../..");
-    let core = find_core(&root);
+    println!("cargo:rerun-if-changed=build.rs");
+    println!("cargo:rerun-if-env-changed=JALLUMERE_CORE");
+    println!("cargo:rustc-check-cfg=cfg(jallumere_core, values(\"missing\", \"other_machine\"))");
+    let Some(core) = find_core(&Path::new(&variable("CARGO_MANIFEST_DIR")).join("../..")) else {
+        return;
+    };
+    println!("cargo:rerun-if-changed={}", core.display());
     let out = PathBuf::from(variable("OUT_DIR"));
     let archive = out.join("libjallumere_core.a");
-    if variable("CARGO_CFG_TARGET_ARCH") != "x86_64" && env::var_os("JALLUMERE_CORE").is_none() {
-        stop("the core's archive is x86-64 code; build for an x86-64 target");
-    }
-    println!("cargo:rerun-if-changed={}", core.display());
     let _ = fs::remove_file(&archive);
     if core.extension().is_some_and(|end| end == "a") {
         if let Err(error) = fs::copy(&core, &archive) {

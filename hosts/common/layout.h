@@ -1,38 +1,81 @@
 /*
- * Where the sections of a state lie (docs/STATE.md), and the names of kinds and refusals: what the host programs
- * share. Everything here is a host's own reading of the documents; nothing of it is proved.
+ * Where everything lies in a state (docs/STATE.md) and in an entry, and its readers and writers. This is the host
+ * programs' own reading of the documents; nothing of it is proved.
  */
 #ifndef LAYOUT_H
 #define LAYOUT_H
 
+#include "../../include/jallumere.h"
+
 #include <stdbool.h>
-#include <stddef.h>
-#include <stdint.h>
+#include <string.h>
 
-enum {
-    ENTRY_LENGTH = 24,
-    MARKED_LENGTH = 9, /* a flag and 8 bytes */
-    VOTE_HEAD_LENGTH = 13,
-    HEAD_LENGTH = 48,
-    HEADER_LENGTH = 12,
-    REPLICAS_MOST = 7,
-    GROUPS_MOST = 8,
-    CAPACITY_LEAST = 16,
-    CAPACITY_MOST = 4096,
-    OUTSIDE = 255,
-    AT_STATUS = 2,
-    AT_ZEROS = 3,
-    AT_VIEW = 8,
-    AT_LAST_NORMAL = 12,
-    AT_CLOCK = 16,
-    AT_SYNC = 24,
-    AT_COMMIT = 32,
-    AT_BOUNDARY = 40
-};
+enum { REPLICAS_MOST = 7, GROUPS_MOST = 8, CAPACITY_LEAST = 16, CAPACITY_MOST = 4096 };
+enum { KINDS = 24, ANSWERS = 10 }; /* more than the greatest of each */
 
-enum { NORMAL = 1, VIEW_CHANGE = 2, CROSS_SHARD = 3 };
+/* Lengths; a transaction is a request and a coordinator, and what is marked a flag and 8 bytes. */
+enum { HEAD_LENGTH = 48, ENTRY_LENGTH = 24, TRANSACTION_LENGTH = 6, MARKED_LENGTH = 9, VOTE_HEAD_LENGTH = 13 };
+
+/* Places in the state's head, in an entry, whose timestamp stands first, and in a vote, whose flag does. */
+enum { AT_GROUP = 0, AT_REPLICA = 1, AT_STATUS = 2, AT_ZEROS = 3, AT_VIEW = 8, AT_LAST_NORMAL = 12 };
+enum { AT_CLOCK = 16, AT_SYNC = 24, AT_COMMIT = 32, AT_BOUNDARY = 40 };
+enum { AT_COMMAND = 8, AT_TRANSACTION = 16, AT_COORDINATOR = 20, AT_MASK = 22 };
+enum { AT_VOTE_LAST_NORMAL = 1, AT_VOTE_SYNC = 5 };
+
+/* Where the fields of the head and of an entry stand, by the numbers of the core's readers, which count from 1. */
+typedef struct {
+    uint8_t at, width;
+} field_place;
+
+static const field_place head_fields[] = {{0, 0},         {AT_GROUP, 1}, {AT_REPLICA, 1},
+                                          {AT_STATUS, 1}, {AT_VIEW, 4},  {AT_LAST_NORMAL, 4},
+                                          {AT_CLOCK, 8},  {AT_SYNC, 8},  {AT_COMMIT, 8}};
+static const field_place entry_fields[] = {
+    {0, 0}, {0, 8}, {AT_COMMAND, 8}, {AT_TRANSACTION, 4}, {AT_COORDINATOR, 2}, {AT_MASK, 2}};
 
 #define GREATEST_TIMESTAMP UINT64_C(0x7fffffffffffffff)
+#define TRANSACTION_BITS UINT64_C(0x0000ffffffffffff)
+
+/* ---- bytes ------------------------------------------------------------------------------------------- */
+
+/* Numbers have their low byte first. With a width that the compiler knows, each of these is one instruction. */
+static inline uint64_t low_byte_first(uint64_t value)
+{
+    return __BYTE_ORDER__ == __ORDER_BIG_ENDIAN__ ? __builtin_bswap64(value) : value;
+}
+
+static inline uint64_t load(const uint8_t *bytes, unsigned width)
+{
+    uint64_t value = 0;
+    memcpy(&value, bytes, width);
+    return low_byte_first(value);
+}
+
+static inline void store(uint8_t *bytes, uint64_t value, unsigned width)
+{
+    value = low_byte_first(value);
+    memcpy(bytes, &value, width);
+}
+
+/* Sets of groups, replicas or statuses: the set of one, and whether it is in a set. */
+static inline uint64_t bit(uint64_t number)
+{
+    return UINT64_C(1) << number;
+}
+
+static inline bool holds(uint64_t set, uint64_t number)
+{
+    return set >> number & 1;
+}
+
+/* A slice of length 0 may have a null pointer, which memcpy does not take. */
+static inline void copy(uint8_t *to, const uint8_t *from, size_t length)
+{
+    if (length != 0)
+        memcpy(to, from, length);
+}
+
+/* ---- the sections of a state -------------------------------------------------------------------------- */
 
 typedef struct {
     uint64_t n, s, c;
@@ -40,29 +83,25 @@ typedef struct {
     size_t views, heard, log, early, late, notes, votes, draft, replies, length; /* where each begins */
 } layout;
 
-typedef struct {
-    uint64_t timestamp, command, request, coordinator, mask;
-} entry;
+/* As the core's functions take them. */
+#define SIZES(at) (at)->n, (at)->s, (at)->c
 
-static inline uint64_t load(const uint8_t *bytes, unsigned width)
+static inline bool replicas_and_groups_right(uint64_t n, uint64_t s)
 {
-    uint64_t value = 0;
-    for (unsigned i = width; i-- > 0;)
-        value = value << 8 | bytes[i];
-    return value;
+    return (n == 3 || n == 5 || n == 7) && s >= 1 && s <= GROUPS_MOST;
 }
 
-static inline void store(uint8_t *bytes, uint64_t value, unsigned width)
-{
-    for (unsigned i = 0; i < width; i++)
-        bytes[i] = (uint8_t)(value >> 8 * i);
-}
-
+/* For wrong sizes everything is 0. */
 static inline layout lay_out(uint64_t n, uint64_t s, uint64_t c)
 {
-    layout at = {.n = n, .s = s, .c = c};
+    layout at = {0};
+    if (!replicas_and_groups_right(n, s) || c < CAPACITY_LEAST || c > CAPACITY_MOST)
+        return at;
+    at.n = n;
+    at.s = s;
+    at.c = c;
     at.table = 4 + ENTRY_LENGTH * (size_t)c;
-    at.note = 6 + MARKED_LENGTH * (size_t)s;
+    at.note = TRANSACTION_LENGTH + MARKED_LENGTH * (size_t)s;
     at.vote = VOTE_HEAD_LENGTH + at.table;
     at.reply = 1 + at.table;
     at.views = HEAD_LENGTH;
@@ -78,11 +117,117 @@ static inline layout lay_out(uint64_t n, uint64_t s, uint64_t c)
     return at;
 }
 
-static inline entry entry_at(const uint8_t *bytes)
+/* Offsets in a state: of what was heard from a replica, a note, a vote and its table, a reply and its table. */
+static inline size_t heard_place(const layout *at, uint64_t replica)
 {
-    entry read = {load(bytes, 8), load(bytes + 8, 8), load(bytes + 16, 4), load(bytes + 20, 2),
-                  load(bytes + 22, 2)};
+    return at->heard + MARKED_LENGTH * (size_t)replica;
+}
+
+static inline size_t note_place(const layout *at, uint64_t position)
+{
+    return at->notes + 4 + at->note * (size_t)position;
+}
+
+static inline size_t vote_place(const layout *at, uint64_t replica)
+{
+    return at->votes + at->vote * (size_t)replica;
+}
+
+static inline size_t vote_table(const layout *at, uint64_t replica)
+{
+    return vote_place(at, replica) + VOTE_HEAD_LENGTH;
+}
+
+static inline size_t reply_place(const layout *at, uint64_t group)
+{
+    return at->replies + at->reply * (size_t)group;
+}
+
+static inline size_t reply_table(const layout *at, uint64_t group)
+{
+    return reply_place(at, group) + 1;
+}
+
+/* Offsets in a table, which has a count before its entries, and in a note. */
+static inline size_t entry_place(uint64_t position)
+{
+    return 4 + ENTRY_LENGTH * (size_t)position;
+}
+
+static inline size_t note_group(uint64_t group)
+{
+    return TRANSACTION_LENGTH + MARKED_LENGTH * (size_t)group;
+}
+
+/* ---- readers and writers ------------------------------------------------------------------------------ */
+
+typedef struct {
+    uint64_t timestamp, command, request, coordinator, mask;
+} entry;
+
+static inline entry read_entry(const uint8_t *bytes)
+{
+    entry read = {load(bytes, 8), load(bytes + AT_COMMAND, 8), load(bytes + AT_TRANSACTION, 4),
+                  load(bytes + AT_COORDINATOR, 2), load(bytes + AT_MASK, 2)};
     return read;
+}
+
+static inline void write_entry(uint8_t *bytes, entry made)
+{
+    store(bytes, made.timestamp, 8);
+    store(bytes + AT_COMMAND, made.command, 8);
+    store(bytes + AT_TRANSACTION, made.request, 4);
+    store(bytes + AT_COORDINATOR, made.coordinator, 2);
+    store(bytes + AT_MASK, made.mask, 2);
+}
+
+/* A flag and 8 bytes, which are 0 where the flag is. */
+static inline void write_marked(uint8_t *marked, bool held, uint64_t value)
+{
+    marked[0] = held;
+    store(marked + 1, held ? value : 0, 8);
+}
+
+/* A table, of entries or of notes, keeps its first places; the rest becomes free. */
+static inline void shorten(uint8_t *table, size_t place_length, uint64_t kept)
+{
+    uint64_t before = load(table, 4);
+    if (before > kept)
+        memset(table + 4 + place_length * kept, 0, place_length * (size_t)(before - kept));
+    store(table, kept, 4);
+}
+
+/* A table's entries in place of those that it had. */
+static inline void write_table(uint8_t *table, const uint8_t *entries, uint64_t count)
+{
+    shorten(table, ENTRY_LENGTH, count);
+    copy(table + 4, entries, ENTRY_LENGTH * (size_t)count);
+}
+
+static inline void append_entry(uint8_t *table, const uint8_t *bytes)
+{
+    uint64_t count = load(table, 4);
+    memcpy(table + entry_place(count), bytes, ENTRY_LENGTH);
+    store(table, count + 1, 4);
+}
+
+/* A vote's flag and numbers; its table is written by itself. */
+static inline void write_vote_head(uint8_t *vote, uint64_t last_normal, uint64_t sync)
+{
+    vote[0] = 1;
+    store(vote + AT_VOTE_LAST_NORMAL, last_normal, 4);
+    store(vote + AT_VOTE_SYNC, sync, 8);
+}
+
+/* The leader of a group by a gVec's bytes, and whether a state's own replica is its group's. */
+static inline uint64_t leader_of(const uint8_t *views, uint64_t group, uint64_t n)
+{
+    return load(views + 4 * group, 4) % n;
+}
+
+static inline bool state_leads(const layout *at, const uint8_t *state)
+{
+    return state[AT_GROUP] < at->s && leader_of(state + at->views, state[AT_GROUP], at->n) == state[AT_REPLICA];
 }
 
 static inline uint64_t majority_of(uint64_t n)
@@ -90,65 +235,9 @@ static inline uint64_t majority_of(uint64_t n)
     return (n - 1) / 2 + 1;
 }
 
-static inline uint64_t leader_of(const layout *at, const uint8_t *state, uint64_t group)
-{
-    return load(state + at->views + 4 * group, 4) % at->n;
-}
-
-static inline const char *status_name(uint64_t status)
-{
-    switch (status) {
-    case NORMAL:
-        return "normal";
-    case VIEW_CHANGE:
-        return "view change";
-    case CROSS_SHARD:
-        return "cross-shard";
-    default:
-        return "no status";
-    }
-}
-
-static inline const char *kind_name(uint64_t kind)
-{
-    switch (kind) {
-    case 1:
-        return "transaction";
-    case 3:
-        return "timestamp note";
-    case 4:
-        return "replica sync";
-    case 5:
-        return "fast reply";
-    case 6:
-        return "slow reply";
-    case 7:
-        return "change view";
-    case 8:
-        return "vote";
-    case 9:
-        return "start view";
-    case 10:
-        return "sync status";
-    case 11:
-        return "commit";
-    case 18:
-        return "verify request";
-    case 19:
-        return "verify reply";
-    case 23:
-        return "tick";
-    default:
-        return "unknown kind";
-    }
-}
-
-static inline const char *refusal_name(uint64_t refusal)
-{
-    static const char *const names[] = {"done",         "wrong size or state", "malformed",  "not addressed here",
-                                        "wrong view",   "wrong status",        "wrong role", "nothing to do now",
-                                        "no room left", "outgoing too short"};
-    return refusal < sizeof names / sizeof *names ? names[refusal] : "unknown number";
-}
+/* In words, for people: the section with the field, or with the entry, note, vote or reply that a state's byte
+ * belongs to, and what that says. */
+enum { PLACE_ROOM = 160 };
+const char *describe_place(const layout *at, const uint8_t *state, size_t byte, char room[PLACE_ROOM]);
 
 #endif

@@ -5,20 +5,27 @@
 #ifndef MODEL_H
 #define MODEL_H
 
-#include <stddef.h>
-#include <stdint.h>
+#include "../../include/jallumere.h"
 
-uint64_t model_state_length(uint64_t n, uint64_t s, uint64_t c);
-uint64_t model_start(uint64_t n, uint64_t s, uint64_t c, uint64_t group, uint64_t replica,
-                     uint8_t *state, size_t state_length);
-uint64_t model_step(uint64_t n, uint64_t s, uint64_t c, uint8_t *state, size_t state_length,
-                    const uint8_t *message, size_t message_length, uint8_t *out, size_t out_length);
-uint64_t model_good(uint64_t n, uint64_t s, uint64_t c, const uint8_t *state, size_t state_length);
-uint64_t model_read(uint64_t n, uint64_t s, const uint8_t *message, size_t message_length);
-uint64_t model_write(uint64_t n, uint64_t s, uint64_t kind, uint64_t to_group, uint64_t to_mask,
-                     uint64_t from_group, uint64_t from_replica, uint64_t view, uint64_t first,
-                     uint64_t second, uint64_t third, const uint8_t *views, size_t views_length,
-                     const uint8_t *entries, size_t entries_length, uint8_t *out, size_t out_length);
-uint64_t model_digest(uint64_t start, const uint8_t *bytes, size_t length);
+__typeof__(jallumere_state_length) model_state_length;
+__typeof__(jallumere_start) model_start;
+__typeof__(jallumere_step) model_step;
+__typeof__(jallumere_good) model_good;
+__typeof__(jallumere_field) model_field;
+__typeof__(jallumere_group_view) model_group_view;
+__typeof__(jallumere_entry) model_entry;
+__typeof__(jallumere_read) model_read;
+__typeof__(jallumere_message_length) model_message_length;
+__typeof__(jallumere_write) model_write;
+__typeof__(jallumere_digest) model_digest;
+
+/*
+ * Why these bytes are not a good state: tells each part of the rules' "A good state" that fails, and the byte at
+ * which it does. Gives how many there are, so 0 for a good state. The entries of a table whose count is past c are
+ * not looked at.
+ */
+typedef void model_reason(void *listener, size_t byte, const char *rule);
+uint64_t model_why_not_good(uint64_t n, uint64_t s, uint64_t c, const uint8_t *state, size_t state_length,
+                            model_reason *tell, void *listener);
 
 #endif

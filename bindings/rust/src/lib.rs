@@ -2,80 +2,41 @@
 //!
 //! The core is one site of one group of the register. It has no memory of its own: the caller lends the state's
 //! bytes, a message and an outgoing buffer, and a step makes the state the next state and writes what is to be
-//! sent. A refusal leaves every byte as it came.
+//! sent. A refusal leaves every byte as it came. `docs/HOSTS.md` of the repository is what a host has to know; the
+//! example `host` keeps to it.
+//!
+//! Checking and documenting this crate needs no core. A program that calls it links `target/staticlib/libreplica.a` of
+//! the repository, which `rt staticlib replica` proves and builds, or the archive or object that the environment
+//! variable `JALLUMERE_CORE` names at build time, or with `JALLUMERE_CORE=model` the C model; where there is none, the
+//! linker says so in the name of what it misses. [`core()`] tells which it is.
 //!
 //! ```
-//! use jallumere::{messages, start, step, write, Message, Sizes, OUTSIDE};
+//! use jallumere::{field, messages, start, step, write, Field, Kind, Message, Sizes};
 //!
 //! let sizes = Sizes { sites: 3, groups: 1, capacity: 16 };
 //! let mut state = vec![0; sizes.state_length().unwrap()];
 //! start(sizes, 0, 1, &mut state).unwrap();
 //!
 //! // A tick: time 5 for group 0, site 1.
-//! let mut tick = [0; 64];
-//! let length = write(
-//!     sizes,
-//!     &Message {
-//!         kind: 23,
-//!         to_group: 0,
-//!         to_mask: 0b010,
-//!         from_group: OUTSIDE,
-//!         from_replica: OUTSIDE,
-//!         numbers: [5, 0, 0],
-//!         ..Message::default()
-//!     },
-//!     &mut tick,
-//! )
-//! .unwrap();
+//! let tick = Message { numbers: &[5], ..Message::from_outside(Kind::Tick, 0, 0b010) };
+//! let mut bytes = [0; 64];
+//! let length = write(sizes, &tick, &mut bytes).unwrap();
 //!
 //! // A follower answers a tick with its sync point, to its leader.
-//! let mut out = [0; 256];
-//! let sent = step(sizes, &mut state, &tick[..length], &mut out).unwrap();
-//! let kinds: Vec<u8> = messages(&out[..sent]).map(|message| message[0]).collect();
+//! let mut out = vec![0; sizes.room()];
+//! let sent = step(sizes, &mut state, &bytes[..length], &mut out).unwrap();
+//! let kinds: Vec<u8> = messages(sizes, &out[..sent]).map(|message| message[0]).collect();
 //! assert_eq!(kinds, [10]);
+//! assert_eq!(field(sizes, Field::Clock, &state), Some(5));
 //! ```
 
-use std::fmt;
+mod names;
+mod raw;
 
-mod raw {
-    extern "C" {
-        pub fn jallumere_state_length(n: u64, s: u64, c: u64) -> u64;
-        pub fn jallumere_start(n: u64, s: u64, c: u64, group: u64, replica: u64, state: *mut u8, state_length: usize) -> u64;
-        pub fn jallumere_step(
-            n: u64,
-            s: u64,
-            c: u64,
-            state: *mut u8,
-            state_length: usize,
-            message: *const u8,
-            message_length: usize,
-            out: *mut u8,
-            out_length: usize,
-        ) -> u64;
-        pub fn jallumere_good(n: u64, s: u64, c: u64, state: *const u8, state_length: usize) -> u64;
-        pub fn jallumere_read(n: u64, s: u64, message: *const u8, message_length: usize) -> u64;
-        pub fn jallumere_write(
-            n: u64,
-            s: u64,
-            kind: u64,
-            to_group: u64,
-            to_mask: u64,
-            from_group: u64,
-            from_replica: u64,
-            view: u64,
-            first: u64,
-            second: u64,
-            third: u64,
-            views: *const u8,
-            views_length: usize,
-            entries: *const u8,
-            entries_length: usize,
-            out: *mut u8,
-            out_length: usize,
-        ) -> u64;
-        pub fn jallumere_digest(start: u64, bytes: *const u8, length: usize) -> u64;
-    }
-}
+pub use names::{Answer, Core, Field, Kind, Refusal, Status};
+
+/// The version of the interface that this crate is written for: major * 10000 + minor * 100 + patch.
+pub const VERSION: u64 = 10_000;
 
 /// Group and replica of whatever stands outside every group: coordinators, clocks, the view manager.
 pub const OUTSIDE: u64 = 255;
@@ -85,72 +46,6 @@ pub const DIGEST_START: u64 = 0xcbf2_9ce4_8422_2325;
 
 /// The length of an entry in a log: timestamp 8, command 8, request 4, coordinator 2, mask 2.
 pub const ENTRY_LENGTH: usize = 24;
-
-/// Why a call was refused, by the numbers of the rules. The lowest that applies is given, and after a refusal all
-/// memory is as it came.
-#[derive(Clone, Copy, Debug, PartialEq, Eq, Hash)]
-#[repr(u8)]
-pub enum Refusal {
-    /// 1: a size, an own number or the state's length is wrong, or the state is not good.
-    WrongState = 1,
-    /// 2: the message is malformed.
-    Malformed = 2,
-    /// 3: the message is not addressed to this site.
-    NotAddressed = 3,
-    /// 4: the message is of a wrong view.
-    WrongView = 4,
-    /// 5: this site is in a status that does not take the message.
-    WrongStatus = 5,
-    /// 6: this site or the sender has a wrong role.
-    WrongRole = 6,
-    /// 7: there is nothing to do now.
-    NothingToDo = 7,
-    /// 8: a table or the log would pass the capacity.
-    NoRoom = 8,
-    /// 9: the outgoing buffer is too short.
-    OutgoingTooShort = 9,
-}
-
-impl Refusal {
-    /// The refusal with this number; none for 0, which is no refusal, and for numbers that the rules do not have.
-    pub fn from_number(number: u64) -> Option<Refusal> {
-        Some(match number {
-            1 => Refusal::WrongState,
-            2 => Refusal::Malformed,
-            3 => Refusal::NotAddressed,
-            4 => Refusal::WrongView,
-            5 => Refusal::WrongStatus,
-            6 => Refusal::WrongRole,
-            7 => Refusal::NothingToDo,
-            8 => Refusal::NoRoom,
-            9 => Refusal::OutgoingTooShort,
-            _ => return None,
-        })
-    }
-
-    /// Its number in the rules.
-    pub fn number(self) -> u64 {
-        self as u64
-    }
-}
-
-impl fmt::Display for Refusal {
-    fn fmt(&self, to: &mut fmt::Formatter<'_>) -> fmt::Result {
-        to.write_str(match self {
-            Refusal::WrongState => "wrong size, number or state",
-            Refusal::Malformed => "malformed message",
-            Refusal::NotAddressed => "not addressed here",
-            Refusal::WrongView => "wrong view",
-            Refusal::WrongStatus => "wrong status",
-            Refusal::WrongRole => "wrong role",
-            Refusal::NothingToDo => "nothing to do now",
-            Refusal::NoRoom => "a table or log would pass its capacity",
-            Refusal::OutgoingTooShort => "outgoing buffer too short",
-        })
-    }
-}
-
-impl std::error::Error for Refusal {}
 
 /// The sizes that every site of a register shares. Wrong ones are refused with [`Refusal::WrongState`].
 #[derive(Clone, Copy, Debug, PartialEq, Eq, Hash)]
@@ -170,49 +65,99 @@ impl Sizes {
         let length = unsafe { raw::jallumere_state_length(self.sites, self.groups, self.capacity) };
         usize::try_from(length).ok().filter(|&length| length != 0)
     }
+
+    /// Room in an outgoing buffer that is never too short: what a leader sends that releases a full table at once.
+    pub fn room(self) -> usize {
+        (self.capacity.min(4_096) * (96 + 4 * self.groups.min(8)) + 24 + 4 * self.groups.min(8)) as usize
+    }
 }
 
-/// A message's fields, for [`write`]. `views` is the gVec, 4 bytes for each group, and `entries` the entries, 24 bytes
+/// Which core is linked: the proved one, or the C model.
+pub fn core() -> Core {
+    // SAFETY: takes nothing and gives a number.
+    match unsafe { raw::jallumere_is_model() } {
+        0 => Core::Proved,
+        _ => Core::Model,
+    }
+}
+
+/// The version of the interface that the linked core has. Its major part has to be that of [`VERSION`].
+pub fn version() -> u64 {
+    // SAFETY: takes nothing and gives a number.
+    unsafe { raw::jallumere_version() }
+}
+
+/// A message's fields, for [`write()`]. `views` is the gVec, 4 bytes for each group, and `entries` the entries, 24 bytes
 /// each, both little-endian as they stand in a message and without their counts.
-#[derive(Clone, Copy, Debug, Default, PartialEq, Eq)]
+#[derive(Clone, Copy, Debug, PartialEq, Eq)]
 pub struct Message<'a> {
-    pub kind: u64,
+    pub kind: Kind,
     pub to_group: u64,
     /// Destination replicas, bit by bit.
     pub to_mask: u64,
     pub from_group: u64,
     pub from_replica: u64,
-    /// gView; 0 in kinds 1 and 23.
+    /// gView; 0 in transactions and ticks.
     pub view: u64,
-    /// The kind's numbers in their order; those that it does not have are not looked at.
-    pub numbers: [u64; 3],
+    /// The kind's numbers in their order; another count than the kind's is malformed.
+    pub numbers: &'a [u64],
     pub views: &'a [u8],
     pub entries: &'a [u8],
 }
 
-/// An answer is a refusal's number + 256 * a length.
-fn outcome(answer: u64, room: usize) -> Result<usize, Refusal> {
-    let (number, length) = (answer % 256, answer / 256);
-    match Refusal::from_number(number) {
-        Some(refusal) => Err(refusal),
-        None => {
-            assert!(number == 0 && length <= room as u64, "the core answered {answer}, which its rules do not have");
-            Ok(length as usize)
+impl Message<'_> {
+    /// A message from outside every group, with no numbers, views or entries yet.
+    pub fn from_outside(kind: Kind, to_group: u64, to_mask: u64) -> Self {
+        Message {
+            kind,
+            to_group,
+            to_mask,
+            from_group: OUTSIDE,
+            from_replica: OUTSIDE,
+            view: 0,
+            numbers: &[],
+            views: &[],
+            entries: &[],
         }
     }
 }
 
-/// Writes the fresh state of site `replica` of group `group` over all of `state`, whatever stood there.
+/// An entry of the log.
+#[derive(Clone, Copy, Debug, PartialEq, Eq, Hash)]
+pub struct Entry {
+    pub timestamp: u64,
+    pub command: u64,
+    pub request: u64,
+    pub coordinator: u64,
+    /// The groups that the transaction touches, bit by bit.
+    pub mask: u64,
+}
+
+impl Entry {
+    /// Its bytes as they stand in a message; none where a number does not fit into its bytes.
+    pub fn bytes(&self) -> Option<[u8; ENTRY_LENGTH]> {
+        let mut bytes = [0; ENTRY_LENGTH];
+        bytes[..8].copy_from_slice(&self.timestamp.to_le_bytes());
+        bytes[8..16].copy_from_slice(&self.command.to_le_bytes());
+        bytes[16..20].copy_from_slice(&u32::try_from(self.request).ok()?.to_le_bytes());
+        bytes[20..22].copy_from_slice(&u16::try_from(self.coordinator).ok()?.to_le_bytes());
+        bytes[22..].copy_from_slice(&u16::try_from(self.mask).ok()?.to_le_bytes());
+        Some(bytes)
+    }
+}
+
+/// Writes the fresh state of site `replica` of group `group` over all of `state`, whatever stood there. It is for a site's
+/// first start ever: one that has lost its state must not be started afresh, since it would forget what it promised.
 pub fn start(sizes: Sizes, group: u64, replica: u64, state: &mut [u8]) -> Result<(), Refusal> {
     // SAFETY: pointer and length are those of one slice, lent for the call alone.
     let answer = unsafe {
         raw::jallumere_start(sizes.sites, sizes.groups, sizes.capacity, group, replica, state.as_mut_ptr(), state.len())
     };
-    outcome(answer, 0).map(|_| ())
+    Answer::from_code(answer).result().map(|_| ())
 }
 
 /// One step: takes the message, makes `state` the next state, writes what is to be sent first in `out` and gives its
-/// length; [`messages`] cuts it apart. After a refusal `state` and `out` are as they came.
+/// length; [`messages`] cuts it apart. The state is to be on the disk before any of it is sent. After a refusal `state` and `out` are as they came.
 pub fn step(sizes: Sizes, state: &mut [u8], message: &[u8], out: &mut [u8]) -> Result<usize, Refusal> {
     // SAFETY: pointers and lengths are those of slices that do not overlap, lent for the call alone.
     let answer = unsafe {
@@ -228,7 +173,7 @@ pub fn step(sizes: Sizes, state: &mut [u8], message: &[u8], out: &mut [u8]) -> R
             out.len(),
         )
     };
-    outcome(answer, out.len())
+    Answer::from_code(answer).result()
 }
 
 /// Whether these bytes are a good state: false exactly where a step would refuse with [`Refusal::WrongState`].
@@ -237,31 +182,71 @@ pub fn is_good(sizes: Sizes, state: &[u8]) -> bool {
     unsafe { raw::jallumere_good(sizes.sites, sizes.groups, sizes.capacity, state.as_ptr(), state.len()) == 0 }
 }
 
+/// What a field of a state says; none where a size or the state's length is wrong. It looks at those alone: of bytes that
+/// are not a good state it gives what stands there.
+pub fn field(sizes: Sizes, field: Field, state: &[u8]) -> Option<u64> {
+    let Sizes { sites, groups, capacity } = sizes;
+    // SAFETY: pointer and length are those of one slice, which is read alone.
+    some(unsafe { raw::jallumere_field(sites, groups, capacity, field.number(), state.as_ptr(), state.len()) })
+}
+
+/// What the site is doing; none where [`field`] gives none, or of bytes that are no good state.
+pub fn status(sizes: Sizes, state: &[u8]) -> Option<Status> {
+    field(sizes, Field::Status, state).and_then(Status::from_number)
+}
+
+/// The view of a group in the state's gVec, whose leader is the site of that number modulo the sites; none where a size
+/// or the state's length is wrong or there is no such group.
+pub fn group_view(sizes: Sizes, group: u64, state: &[u8]) -> Option<u64> {
+    let Sizes { sites, groups, capacity } = sizes;
+    // SAFETY: pointer and length are those of one slice, which is read alone.
+    some(unsafe { raw::jallumere_group_view(sites, groups, capacity, group, state.as_ptr(), state.len()) })
+}
+
+/// The log's entry at a position from 1 to the log's length; none elsewhere, and where [`field`] gives none.
+pub fn entry(sizes: Sizes, position: u64, state: &[u8]) -> Option<Entry> {
+    let length = field(sizes, Field::LogLength, state)?;
+    let Sizes { sites, groups, capacity } = sizes;
+    // SAFETY: pointer and length are those of one slice, which is read alone.
+    let said = |field| unsafe { raw::jallumere_entry(sites, groups, capacity, position, field, state.as_ptr(), state.len()) };
+    (1..=length).contains(&position).then(|| Entry {
+        timestamp: said(1),
+        command: said(2),
+        request: said(3),
+        coordinator: said(4),
+        mask: said(5),
+    })
+}
+
+/// The readers give the greatest number for nothing. No field that they read reaches it in a good state, and an entry is
+/// told from none by its position.
+fn some(said: u64) -> Option<u64> {
+    (said != u64::MAX).then_some(said)
+}
+
 /// Whether these bytes are a well-formed message of any kind.
 pub fn read(sizes: Sizes, message: &[u8]) -> Result<(), Refusal> {
     // SAFETY: pointer and length are those of one slice, which is read alone.
     let answer = unsafe { raw::jallumere_read(sizes.sites, sizes.groups, message.as_ptr(), message.len()) };
-    outcome(answer, 0).map(|_| ())
+    Answer::from_code(answer).result().map(|_| ())
 }
 
 /// Writes a message first in `out` and gives its length; the rest of `out` stays.
 pub fn write(sizes: Sizes, message: &Message<'_>, out: &mut [u8]) -> Result<usize, Refusal> {
-    let [first, second, third] = message.numbers;
-    // SAFETY: pointers and lengths are those of slices that do not overlap (the two that are read may), lent for the
+    // SAFETY: pointers and lengths are those of slices that do not overlap (the three that are read may), lent for the
     // call alone.
     let answer = unsafe {
         raw::jallumere_write(
             sizes.sites,
             sizes.groups,
-            message.kind,
+            message.kind.number(),
             message.to_group,
             message.to_mask,
             message.from_group,
             message.from_replica,
             message.view,
-            first,
-            second,
-            third,
+            message.numbers.as_ptr(),
+            message.numbers.len(),
             message.views.as_ptr(),
             message.views.len(),
             message.entries.as_ptr(),
@@ -270,7 +255,7 @@ pub fn write(sizes: Sizes, message: &Message<'_>, out: &mut [u8]) -> Result<usiz
             out.len(),
         )
     };
-    outcome(answer, out.len())
+    Answer::from_code(answer).result()
 }
 
 /// FNV-1a of 64 bits, run on from `start` over the bytes; [`DIGEST_START`] begins afresh.
@@ -279,24 +264,20 @@ pub fn digest(start: u64, bytes: &[u8]) -> u64 {
     unsafe { raw::jallumere_digest(start, bytes.as_ptr(), bytes.len()) }
 }
 
-/// Cuts outgoing bytes into messages, by the counts that stand in them. It ends early at bytes that are no whole
-/// message, which a step never sends.
-pub fn messages(sent: &[u8]) -> impl Iterator<Item = &[u8]> {
+/// The length of the message that `bytes` begins with; none where the kind is none, the bytes end before the message does
+/// or a size is wrong. Whether it is well formed is for [`read`] to say.
+pub fn message_length(sizes: Sizes, bytes: &[u8]) -> Option<usize> {
+    // SAFETY: pointer and length are those of one slice, which is read alone.
+    let length = unsafe { raw::jallumere_message_length(sizes.sites, sizes.groups, bytes.as_ptr(), bytes.len()) };
+    (length != 0).then_some(length as usize)
+}
+
+/// Cuts outgoing bytes into messages. It ends early at bytes that are no whole message, which a step never sends.
+pub fn messages(sizes: Sizes, sent: &[u8]) -> impl Iterator<Item = &[u8]> {
     let mut rest = sent;
     std::iter::from_fn(move || {
-        let length = first_length(rest)?;
-        let (first, behind) = rest.split_at(length);
+        let (first, behind) = rest.split_at(message_length(sizes, rest)?);
         rest = behind;
         Some(first)
     })
-}
-
-fn first_length(bytes: &[u8]) -> Option<usize> {
-    let mut reach: usize = 12;
-    for width in [4, 8, ENTRY_LENGTH] {
-        let count = bytes.get(reach..reach.checked_add(4)?)?;
-        let count = u32::from_le_bytes([count[0], count[1], count[2], count[3]]) as usize;
-        reach = (reach + 4).checked_add(count.checked_mul(width)?)?;
-    }
-    (reach <= bytes.len()).then_some(reach)
 }

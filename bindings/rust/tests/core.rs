@@ -1,6 +1,9 @@
 //! The core through its safe functions.
 
-use jallumere::{digest, is_good, messages, read, start, step, write, Message, Refusal, Sizes, DIGEST_START, OUTSIDE};
+use jallumere::{
+    core, digest, entry, field, group_view, is_good, message_length, messages, read, start, status, step, version, write, Answer,
+    Core, Entry, Field, Kind, Message, Refusal, Sizes, Status, DIGEST_START, VERSION,
+};
 
 const SIZES: Sizes = Sizes { sites: 3, groups: 1, capacity: 16 };
 
@@ -13,31 +16,23 @@ fn fresh(replica: u64) -> Vec<u8> {
     state
 }
 
-fn tick(to_mask: u64, time: u64) -> Vec<u8> {
-    let message =
-        Message { kind: 23, to_mask, from_group: OUTSIDE, from_replica: OUTSIDE, numbers: [time, 0, 0], ..Message::default() };
-    let mut out = [0; 64];
-    let length = write(SIZES, &message, &mut out).unwrap();
+fn bytes_of(message: &Message<'_>) -> Vec<u8> {
+    let mut out = [0; 128];
+    let length = write(SIZES, message, &mut out).unwrap();
     out[..length].to_vec()
 }
 
-fn transaction(request: u32, to_mask: u64) -> Vec<u8> {
-    let mut entry = [0; 24];
-    entry[8..16].copy_from_slice(&77u64.to_le_bytes());
-    entry[16..20].copy_from_slice(&request.to_le_bytes());
-    entry[22] = 1;
-    let message = Message {
-        kind: 1,
-        to_mask,
-        from_group: OUTSIDE,
-        from_replica: OUTSIDE,
-        numbers: [10, 20, 0],
-        entries: &entry,
-        ..Message::default()
-    };
-    let mut out = [0; 128];
-    let length = write(SIZES, &message, &mut out).unwrap();
-    out[..length].to_vec()
+fn tick(to_mask: u64, time: u64) -> Vec<u8> {
+    bytes_of(&Message { numbers: &[time], ..Message::from_outside(Kind::Tick, 0, to_mask) })
+}
+
+fn kinds(sent: &[u8]) -> Vec<u8> {
+    messages(SIZES, sent).map(|message| message[0]).collect()
+}
+
+fn transaction(request: u64, to_mask: u64) -> Vec<u8> {
+    let entry = Entry { timestamp: 0, command: 77, request, coordinator: 0, mask: 1 }.bytes().unwrap();
+    bytes_of(&Message { numbers: &[10, 20], entries: &entry, ..Message::from_outside(Kind::Transaction, 0, to_mask) })
 }
 
 #[test]
@@ -86,11 +81,13 @@ fn the_writer_gives_the_bytes_of_the_rules() {
 
 #[test]
 fn a_refused_write_leaves_the_buffer() {
-    let message = Message { kind: 23, to_mask: 2, from_group: OUTSIDE, from_replica: OUTSIDE, ..Message::default() };
+    let message = Message { numbers: &[0], ..Message::from_outside(Kind::Tick, 0, 2) };
     let mut out = [0xa5; 40];
-    assert_eq!(write(SIZES, &message, &mut out[..31]), Err(Refusal::OutgoingTooShort));
+    assert_eq!(write(SIZES, &message, &mut out[..31]), Err(Refusal::NoRoom));
     assert_eq!(write(SIZES, &Message { to_mask: 8, ..message }, &mut out), Err(Refusal::Malformed));
-    assert_eq!(write(SIZES, &Message { kind: 2, ..message }, &mut out), Err(Refusal::Malformed));
+    assert_eq!(write(SIZES, &Message { entries: &[0; 23], ..message }, &mut out), Err(Refusal::Malformed));
+    assert_eq!(write(SIZES, &Message { numbers: &[], ..message }, &mut out), Err(Refusal::Malformed));
+    assert_eq!(write(SIZES, &Message { numbers: &[0, 0], ..message }, &mut out), Err(Refusal::Malformed));
     assert_eq!(out, [0xa5; 40]);
     assert_eq!(write(SIZES, &message, &mut out), Ok(32));
     assert_eq!(out[32..], [0xa5; 8]);
@@ -101,7 +98,7 @@ fn a_follower_answers_a_tick_with_its_sync_point() {
     let mut state = fresh(1);
     let mut out = [0xa5; 128];
     let sent = step(SIZES, &mut state, &TICK, &mut out).unwrap();
-    let cut: Vec<&[u8]> = messages(&out[..sent]).collect();
+    let cut: Vec<&[u8]> = messages(SIZES, &out[..sent]).collect();
     assert_eq!(cut.len(), 1);
     assert_eq!(cut[0].len(), sent);
     assert_eq!(cut[0][..5], [10, 0, 1, 0, 1]);
@@ -119,11 +116,11 @@ fn a_leader_releases_and_syncs() {
     assert_eq!(step(SIZES, &mut leader, &transaction(1, 0b111), &mut out), Ok(0));
     assert_eq!(step(SIZES, &mut leader, &transaction(1, 0b111), &mut out), Err(Refusal::NothingToDo));
     let sent = step(SIZES, &mut leader, &tick(1, 30), &mut out).unwrap();
-    let cut: Vec<Vec<u8>> = messages(&out[..sent]).map(<[u8]>::to_vec).collect();
-    assert_eq!(cut.iter().map(|message| message[0]).collect::<Vec<_>>(), [5, 4]);
+    let cut: Vec<Vec<u8>> = messages(SIZES, &out[..sent]).map(<[u8]>::to_vec).collect();
+    assert_eq!(kinds(&out[..sent]), [5, 4]);
     let reply = step(SIZES, &mut follower, &cut[1], &mut out).unwrap();
-    assert_eq!(messages(&out[..reply]).map(|message| message[0]).collect::<Vec<_>>(), [6]);
-    assert_eq!(follower[24..32], 1u64.to_le_bytes());
+    assert_eq!(kinds(&out[..reply]), [6]);
+    assert_eq!(field(SIZES, Field::SyncPoint, &follower), Some(1));
 }
 
 #[test]
@@ -131,27 +128,17 @@ fn refusals_leave_memory_as_it_came() {
     let mut state = fresh(1);
     let before = state.clone();
     let mut out = [0xa5; 128];
-    let change = |view: u64, views: &[u8]| {
-        let message =
-            Message { kind: 7, to_mask: 7, from_group: OUTSIDE, from_replica: OUTSIDE, view, views, ..Message::default() };
-        let mut bytes = [0; 64];
-        let length = write(SIZES, &message, &mut bytes).unwrap();
-        bytes[..length].to_vec()
-    };
-    let status = {
-        let message = Message { kind: 10, to_mask: 2, from_replica: 2, views: &[0; 4], ..Message::default() };
-        let mut bytes = [0; 64];
-        let length = write(SIZES, &message, &mut bytes).unwrap();
-        bytes[..length].to_vec()
-    };
+    let change = |view: u64, views: &[u8]| bytes_of(&Message { view, views, ..Message::from_outside(Kind::ChangeView, 0, 7) });
+    let from_second = Message { from_group: 0, from_replica: 2, ..Message::from_outside(Kind::SyncStatus, 0, 2) };
+    let status = bytes_of(&Message { numbers: &[0], views: &[0; 4], ..from_second });
     let cases: [(&[u8], usize, Refusal); 7] = [
         (&TICK[..31], 128, Refusal::Malformed),
         (&[], 128, Refusal::Malformed),
-        (&tick(1, 5), 128, Refusal::NotAddressed),
+        (&tick(1, 5), 128, Refusal::NotAddressedHere),
         (&change(0, &[0; 4]), 128, Refusal::WrongView),
         (&status, 128, Refusal::WrongRole),
-        (&TICK, 10, Refusal::OutgoingTooShort),
-        (&TICK, 0, Refusal::OutgoingTooShort),
+        (&TICK, 10, Refusal::NoRoom),
+        (&TICK, 0, Refusal::NoRoom),
     ];
     for (message, room, refusal) in cases {
         assert_eq!(step(SIZES, &mut state, message, &mut out[..room]), Err(refusal));
@@ -188,18 +175,138 @@ fn the_digest_is_fnv_1a() {
 }
 
 #[test]
-fn refusals_have_their_numbers() {
-    for number in 1..=9 {
-        assert_eq!(Refusal::from_number(number).unwrap().number(), number);
+fn numbers_have_their_names() {
+    let named = |of: fn(u64) -> Option<u64>| (0..=255).filter_map(of).collect::<Vec<_>>();
+    assert_eq!(named(|number| Refusal::from_number(number).map(Refusal::number)), (1..=9).collect::<Vec<_>>());
+    assert_eq!(named(|number| Kind::from_number(number).map(Kind::number)), [1, 3, 4, 5, 6, 7, 8, 9, 10, 11, 18, 19, 23]);
+    assert_eq!(named(|number| Status::from_number(number).map(Status::number)), [1, 2, 3]);
+    assert_eq!(named(|number| Field::from_number(number).map(Field::number)), (1..=10).collect::<Vec<_>>());
+}
+
+/// `TimestampNote` of a kind with number 3 stands in the header as `JALLUMERE_TIMESTAMP_NOTE = 3`.
+fn stands_in_header(prefix: &str, name: String, number: u64) -> bool {
+    let mut line = format!("JALLUMERE{prefix}");
+    for letter in name.chars() {
+        if letter.is_uppercase() {
+            line.push('_');
+        }
+        line.extend(letter.to_uppercase());
     }
-    assert_eq!(Refusal::from_number(0), None);
-    assert_eq!(Refusal::from_number(10), None);
+    line.push_str(&format!(" = {number}"));
+    let header = include_str!("../../../include/jallumere.h");
+    header
+        .lines()
+        .any(|stands| stands.trim().strip_prefix(&line).is_some_and(|rest| !rest.starts_with(|c: char| c.is_ascii_digit())))
 }
 
 #[test]
-fn cut_bytes_are_no_message() {
-    assert_eq!(messages(&TICK).count(), 1);
-    assert_eq!(messages(&TICK[..31]).count(), 0);
-    assert_eq!(messages(&[]).count(), 0);
-    assert_eq!(messages(&[0xff; 40]).count(), 0);
+fn names_are_those_of_the_header() {
+    for number in 0..=255 {
+        let named = [
+            Kind::from_number(number).map(|kind| ("", format!("{kind:?}"))),
+            Refusal::from_number(number).map(|refusal| ("", format!("{refusal:?}"))),
+            Status::from_number(number).map(|status| ("_STATUS", format!("{status:?}"))),
+            Field::from_number(number).map(|field| ("_FIELD", format!("{field:?}"))),
+        ];
+        for (prefix, name) in named.into_iter().flatten() {
+            assert!(stands_in_header(prefix, name.clone(), number), "{prefix} {name} {number}");
+        }
+    }
+    assert!(!stands_in_header("", "Tick".into(), 2));
+    let version: Vec<u64> = env!("CARGO_PKG_VERSION").split('.').map(|part| part.parse().unwrap()).collect();
+    assert_eq!(version[0] * 10_000 + version[1] * 100 + version[2], VERSION);
+    assert!(include_str!("../../../include/jallumere.h").contains(&format!("#define JALLUMERE_VERSION {VERSION}\n")));
+}
+
+#[test]
+fn an_answer_is_a_number_and_a_length() {
+    let answer = Answer::from_code(36 * 256);
+    assert_eq!((answer.number(), answer.length(), answer.result()), (0, 36, Ok(36)));
+    assert_eq!(Answer::from_code(8).result(), Err(Refusal::Full));
+    assert_eq!(Answer::from_code(0).result(), Ok(0));
+}
+
+#[test]
+fn bytes_are_cut_into_messages() {
+    let two = [&TICK[..], &transaction(1, 1)].concat();
+    assert_eq!(message_length(SIZES, &two), Some(32));
+    assert_eq!(message_length(SIZES, &two[32..]), Some(64));
+    assert_eq!(kinds(&two), [23, 1]);
+    assert_eq!(kinds(&two[..95]), [23]);
+    for none in [&TICK[..31], &[], &[0xff; 40], &[2; 40]] {
+        assert_eq!(message_length(SIZES, none), None, "{none:?}");
+    }
+    assert_eq!(message_length(Sizes { sites: 4, ..SIZES }, &TICK), None);
+    assert_eq!(message_length(Sizes { groups: 9, ..SIZES }, &TICK), None);
+}
+
+#[test]
+fn fields_say_what_steps_did() {
+    let mut leader = fresh(0);
+    let mut out = [0; 512];
+    step(SIZES, &mut leader, &transaction(4, 0b111), &mut out).unwrap();
+    assert_eq!(entry(SIZES, 1, &leader), None);
+    step(SIZES, &mut leader, &tick(1, 31), &mut out).unwrap();
+    let said = |state: &[u8]| {
+        (1..=10).map(|number| field(SIZES, Field::from_number(number).unwrap(), state).unwrap()).collect::<Vec<_>>()
+    };
+    assert_eq!(said(&leader), [0, 0, 1, 0, 0, 31, 1, 0, 1, 0]);
+    assert_eq!(entry(SIZES, 1, &leader), Some(Entry { timestamp: 30, command: 77, request: 4, coordinator: 0, mask: 1 }));
+    assert_eq!((entry(SIZES, 0, &leader), entry(SIZES, 2, &leader), entry(SIZES, u64::MAX, &leader)), (None, None, None));
+
+    let change = Message { view: 7, views: &5u32.to_le_bytes(), ..Message::from_outside(Kind::ChangeView, 0, 7) };
+    step(SIZES, &mut leader, &bytes_of(&change), &mut out).unwrap();
+    assert_eq!(said(&leader), [0, 0, 2, 7, 0, 31, 1, 0, 1, 2]);
+    assert_eq!(status(SIZES, &leader), Some(Status::ViewChange));
+    assert_eq!((group_view(SIZES, 0, &leader), group_view(SIZES, 1, &leader)), (Some(5), None));
+}
+
+#[test]
+fn an_entry_has_its_bytes() {
+    let entry = Entry { timestamp: 1, command: u64::MAX, request: 0x0403_0201, coordinator: 0x0605, mask: 0x80 };
+    let bytes = entry.bytes().unwrap();
+    assert_eq!(bytes[..8], [1, 0, 0, 0, 0, 0, 0, 0]);
+    assert_eq!(bytes[8..], [255, 255, 255, 255, 255, 255, 255, 255, 1, 2, 3, 4, 5, 6, 0x80, 0]);
+    assert_eq!(Entry { request: 1 << 32, ..entry }.bytes(), None);
+    assert_eq!(Entry { coordinator: 1 << 16, ..entry }.bytes(), None);
+    assert_eq!(Entry { mask: 1 << 16, ..entry }.bytes(), None);
+}
+
+#[test]
+fn fields_of_wrong_sizes_say_nothing() {
+    let state = fresh(2);
+    assert_eq!(status(SIZES, &state), Some(Status::Normal));
+    for (sizes, bytes) in
+        [(SIZES, &state[1..]), (SIZES, &[]), (Sizes { capacity: 17, ..SIZES }, &state[..]), (Sizes { sites: 4, ..SIZES }, &state)]
+    {
+        assert_eq!(field(sizes, Field::Replica, bytes), None);
+        assert_eq!(status(sizes, bytes), None);
+        assert_eq!(group_view(sizes, 0, bytes), None);
+        assert_eq!(entry(sizes, 1, bytes), None);
+    }
+}
+
+#[test]
+fn a_buffer_of_this_room_is_never_too_short() {
+    let mut leader = fresh(0);
+    let mut out = vec![0; SIZES.room()];
+    for request in 1..=16 {
+        assert_eq!(step(SIZES, &mut leader, &transaction(request, 1), &mut out), Ok(0));
+    }
+    assert_eq!(step(SIZES, &mut leader, &transaction(17, 1), &mut out), Err(Refusal::Full));
+    let before = leader.clone();
+    assert_eq!(step(SIZES, &mut leader, &tick(1, 30), &mut out[1..]), Err(Refusal::NoRoom));
+    assert_eq!(leader, before);
+    assert_eq!(step(SIZES, &mut leader, &tick(1, 30), &mut out), Ok(SIZES.room()));
+}
+
+/// Which core is linked is for the build to choose, by JALLUMERE_CORE; of an archive or object that it names nothing is known.
+#[test]
+fn the_core_says_what_it_is() {
+    assert_eq!(version() / 10_000, VERSION / 10_000);
+    match option_env!("JALLUMERE_CORE").unwrap_or("") {
+        "" => assert_eq!(core(), Core::Proved),
+        "model" => assert_eq!(core(), Core::Model),
+        _ => {}
+    }
 }

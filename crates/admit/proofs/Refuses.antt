@@ -4,8 +4,9 @@ use mathlib.Core.Path.{_≡_, refl, sym, ap, _∙_}
 use mathlib.Core.Bool.{Bool, true, false, _||_, not, true≢false}
 use mathlib.Core.List.{List}
 use lib.Dec.{eqb}
-use Rattle.rules.specs.Choice.{pick}
-use Rattle.rules.specs.Wire.{known, toOutside, tagOf, headerIn}
+use Rattle.rules.specs.Choice.{pick, any}
+use Rattle.rules.specs.Kind.{known, toOutside}
+use Rattle.rules.specs.Wire.{tagOf, headerIn}
 use Rattle.rules.specs.Read.{wireIn, decoded}
 use Rattle.rules.specs.Image.{stateOf}
 use Rattle.rules.specs.Step.{here, viewRight, statusRight, roleRight}
@@ -19,6 +20,7 @@ use Rattle.admit.specs.Refusal.{refusalOf, Heads}
 
 -- a case that is a message has a known kind
 tag-known : (x : Message) → eqb (tagOf x) 0 ≡ false → known (tagOf x) ≡ true
+unfolding any
 tag-known m.WrongSizes e = absurd (true≢false e)
 tag-known (m.Malformed at) e = absurd (true≢false e)
 tag-known (m.Transaction h sendTime bound) e = refl

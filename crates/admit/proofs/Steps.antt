@@ -6,9 +6,10 @@ use mathlib.Core.List.{List}
 use lib.ListN.{length}
 use lib.Dec.{eqb}
 use borrow.Author.Tests.{eqb-true, eq-eqb, ne-eqb}
-use Rattle.rules.specs.Choice.{pick}
+use Rattle.rules.specs.Choice.{pick, any}
 use Rattle.rules.specs.Group.{sizesFit, shapeFits}
-use Rattle.rules.specs.Wire.{Wire, known, toOutside, tagOf, caseOf}
+use Rattle.rules.specs.Wire.{Wire, tagOf, caseOf}
+use Rattle.rules.specs.Kind.{known, toOutside}
 use Rattle.rules.specs.Read.{Read, malformed, message, read, wireIn, fieldsOf, caseRead, decoded}
 use Rattle.rules.specs.State.{State}
 use Rattle.rules.specs.Image.{stateOf, goodBytes}
@@ -80,6 +81,7 @@ unfolding fieldsOf
 whole-known n s b w q = message-right n s (fieldsOf w) (length (w .entries)) (length (w .entries)) (q .fine) .head 0
 
 known-some : (k : ℕ) → known k ≡ true → eqb k 0 ≡ false
+unfolding any
 known-some k e = go (eqb k 0) refl
   where
     go : (t : Bool) → eqb k 0 ≡ t → t ≡ false

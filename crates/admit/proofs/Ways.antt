@@ -1,30 +1,37 @@
 -- Why each test of a message at a state's bytes is that of the rules. Assumes nothing.
-use Prim.Native.Nat.{ℕ, zero, suc, _+_, _*_, _%_, _≤_, _<_}
-use mathlib.Core.Path.{_≡_, refl, sym, ap, _∙_, subst}
-use mathlib.Core.Bool.{Bool, true, false, _&&_, _||_, not, true≢false}
-use mathlib.Core.List.{List, [], _∷_, _++_}
+use Prim.Native.Nat.{ℕ, suc, _+_, _*_, _%_, _≤_, _<_}
+use mathlib.Core.Path.{_≡_, refl, sym, ap, _∙_}
+use mathlib.Core.Bool.{Bool, true, false, _&&_, _||_, not}
+use mathlib.Core.List.{List, [], _∷_}
 use native.Mathlib.Omega.{arith}
-use lib.ListN.{length, getD, take, drop}
+use lib.ListN.{getD}
 use lib.Dec.{eqb, ltb, lit<}
-use borrow.Author.Tests.{eqb-true, eq-eqb, ne-eqb}
-use Rattle.octets.specs.Bytes.{num, le, flat, items}
-use Rattle.octets.specs.Sections.{concat}
+use borrow.Author.Tests.{leb-true}
+use Rattle.octets.specs.Bytes.{num, items}
 use Rattle.octets.proofs.Codecs.{back-all, number, length-items, getD-items}
 use Rattle.rules.specs.Choice.{pick, same}
-use Rattle.rules.specs.Group.{holds, leader}
-use Rattle.rules.specs.Wire.{Wire, bare, viewsIn, fromOutside, toOutside}
+use Rattle.rules.specs.Group.{holds}
+use Rattle.rules.specs.Wire.{Wire}
+use Rattle.rules.specs.Kind.{bare, fromOutside, rowOf}
 use Rattle.rules.specs.Read.{wireIn}
 use Rattle.rules.specs.State.{State}
-use Rattle.rules.specs.Image.{stateOf, sections}
-use Rattle.rules.specs.Step.{here, newer, equal, viewRight, statusRight, leadsBy, fromOwn, fromLeader, roleRight}
+use Rattle.rules.specs.Image.{stateOf}
+use Rattle.rules.specs.Step.{here, newer, equal, viewRight, statusRight, leadsBy, fromOwn, fromLeader, receiverFits, senderFits, roleRight}
 use Rattle.rules.specs.declared.Header.{Header}
 use Rattle.rules.specs.declared.Shape.{Shape}
-use Rattle.places.specs.Layout.{Stands, startOf}
+use Rattle.places.specs.Layout.{Stands}
 use Rattle.places.proofs.Sections.{stands-laid, stands-fits, drop-all}
 use Rattle.places.proofs.Head.{group-of, replica-of, status-of, view-of}
 use Rattle.handler.proofs.Own.{own-below}
 use Rattle.form.proofs.Same.{same-append, and-true}
+use Rattle.kinds.specs.Rows.{rowAs}
+use Rattle.kinds.specs.declared.Row.{Row}
+use Rattle.rules.specs.declared.Sender.the-variants.{Outsider, OwnLeader, OwnReplica, OtherLeader, AnyReplica}
+use Rattle.rules.specs.declared.Receiver.the-variants.{ALeader, AFollower, Anyone, Outsiders}
+use Rattle.rules.specs.declared.Views.the-variants.{AnyView, Greater, GreaterOrEqual, BothEqual}
+use Rattle.rules.proofs.Conjuncts.{good-is}
 use Rattle.admit.specs.Refusal.{Heads}
+use Rattle.admit.proofs.Cells.{views-cell, receiver-cell, sender-cell, asked, mask-asks, fits-if-equal, fits-always, not-bare}
 
 -- ---- the views in a row
 
@@ -44,11 +51,11 @@ pub views-none : (f g : ℕ → ℕ) (o p : ℕ) → true ≡ same (items f 4 o 
 unfolding items same
 views-none f g o p = refl
 
-pub views-in : {sh : Shape} {b : List ℕ} → Stands sh (stateOf sh b) b → items (λ a. num b a 4) 4 48 (sh .s) ≡ stateOf sh b .gVec
+pub views-in : {sh : Shape} {b : List ℕ} → Stands sh (stateOf sh b) b → items (λ a. num b a 4) 4 48 (sh .s) ≡ stateOf sh b .view .gVec
 views-in {sh} {b} s =
     let l = stands-laid s in
     let f = stands-fits s in
-    back-all (number 4) b 48 (sh .s) (stateOf sh b .gVec) _ (f .gVec) (sym (f .gVecPlaces)) (drop-all l 1 48 (lit< tt) refl)
+    back-all (number 4) b 48 (sh .s) (stateOf sh b .view .gVec) _ (f .gVec) (sym (f .gVecPlaces)) (drop-all l 1 48 (lit< tt) refl)
 
 module _ {sh : Shape} {b msg : List ℕ} {k : ℕ} {h : Header} (s : Stands sh (stateOf sh b) b) (q : Heads sh k h msg) where
   abbrev w : Wire
@@ -72,141 +79,100 @@ module _ {sh : Shape} {b msg : List ℕ} {k : ℕ} {h : Header} (s : Stands sh (
   unfolding wireIn pick
   views-of n = ap (λ (z : ℕ). items (λ a. num msg a 4) 4 16 (pick (bare z) 0 (sh .s))) (q .kind) ∙ ap (λ (z : Bool). items (λ a. num msg a 4) 4 16 (pick z 0 (sh .s))) n
 
-  pub equal-is : (v : ℕ) (x : Bool) → bare k ≡ false → v ≡ num b 8 4 → x ≡ same (items (λ a. num msg a 4) 4 16 (sh .s)) (st .gVec) → (eqb (h .view) v && x) ≡ equal st w
+  pub equal-is : (v : ℕ) (x : Bool) → bare k ≡ false → v ≡ num b 8 4 → x ≡ same (items (λ a. num msg a 4) 4 16 (sh .s)) (st .view .gVec) → (eqb (h .view) v && x) ≡ equal st w
   equal-is v x n e y =
       let a : h .view ≡ w .view = ap (λ (z : Header). z .view) (sym (q .header)) in
       rw (y, a, e ∙ view-of s, views-of n)
 
-  -- ---- views
+  -- ---- views, status
 
-  abbrev ViewRight : ℕ → Type 0
-  ViewRight x = true ≡ viewRight x st w
+  module _ (r : Row) (e : r ≡ rowAs k) where
+    pub view-any : r .views ≡ AnyView → true ≡ viewRight k st w
+    unfolding viewRight
+    view-any d = rw (sym (views-cell k r e) ∙ d)
 
-  by-transaction : ViewRight 1
-  unfolding viewRight pick
-  by-transaction = refl
+    pub view-greater : (x : Bool) → r .views ≡ Greater → x ≡ newer st w → x ≡ viewRight k st w
+    unfolding viewRight
+    view-greater x d y = rw (sym (views-cell k r e) ∙ d, y)
 
-  by-tick : ViewRight 23
-  unfolding viewRight pick
-  by-tick = refl
+    pub view-either : (x y : Bool) → r .views ≡ GreaterOrEqual → x ≡ newer st w → y ≡ equal st w → (x || y) ≡ viewRight k st w
+    unfolding viewRight
+    view-either x y d f g = rw (sym (views-cell k r e) ∙ d, f, g)
 
-  pub not-so : (x : Bool) → x ≡ bare k → x ≡ false → bare k ≡ false
-  not-so x e f = sym e ∙ f
+    pub view-equal : (y : Bool) → r .views ≡ BothEqual → y ≡ equal st w → y ≡ viewRight k st w
+    unfolding viewRight
+    view-equal y d g = rw (sym (views-cell k r e) ∙ d, g)
 
-  pub view-bare : (x : Bool) → x ≡ bare k → x ≡ true → true ≡ viewRight k st w
-  view-bare x d e = go (eqb k 1) refl (sym d ∙ e)
-    where
-      go : (t : Bool) → eqb k 1 ≡ t → (t || eqb k 23) ≡ true → true ≡ viewRight k st w
-      go true f g = subst ViewRight (sym (eqb-true k 1 f)) by-transaction
-      go false f g = subst ViewRight (sym (eqb-true k 23 g)) by-tick
+    module _ (v : ℕ) (y : Bool) (f : v ≡ num b 2 1) (m : y ≡ holds (r .statuses) v) where
+      taken : y ≡ asked (rowOf k .status) (st .view .status)
+      taken =
+          let l = good-is sh st (s .good) .ranges in
+          m ∙ rw (ap (λ (x : Row). x .statuses) e, f ∙ status-of s) (mask-asks k (st .view .status) (leb-true _ _ (l .leastStatus)) (leb-true _ _ (l .mostStatus)))
 
-  pub view-seven : (x : Bool) → k ≡ 7 → x ≡ newer st w → x ≡ viewRight k st w
-  unfolding viewRight pick
-  view-seven x e y = rw (e, y)
+      pub status-if-equal : (x : Bool) → r .«only_if_equal» ≡ true → x ≡ newer st w → (x || y) ≡ statusRight k st w
+      unfolding statusRight
+      status-if-equal x d g = rw (taken, g) (sym (fits-if-equal (rowOf k .status) st w (sym (ap (λ (z : Row). z .«only_if_equal») e) ∙ d)))
 
-  pub view-start : (x y : Bool) → (k ≡ 7 → ⊥) → (eqb k 8 || eqb k 9) ≡ true → x ≡ newer st w → y ≡ equal st w → (x || y) ≡ viewRight k st w
-  unfolding viewRight pick
-  view-start x y f g e d = rw (ne-eqb k 7 f, g, e, d)
-
-  pub view-equal : (x y : Bool) → x ≡ bare k → x ≡ false → (k ≡ 7 → ⊥) → (eqb k 8 || eqb k 9) ≡ false → y ≡ equal st w → y ≡ viewRight k st w
-  unfolding viewRight pick
-  view-equal x y e n f g d = rw (ne-eqb k 7 f, g, not-so x e n, d)
-
-  -- ---- status
-
-  pub status-asked : (v : ℕ) → k ≡ 18 → v ≡ num b 2 1 → (eqb v 1 || eqb v 3) ≡ statusRight k st w
-  unfolding statusRight pick
-  status-asked v e f = rw (e, f ∙ status-of s)
-
-  pub status-replied : (v : ℕ) → k ≡ 19 → v ≡ num b 2 1 → eqb v 3 ≡ statusRight k st w
-  unfolding statusRight pick
-  status-replied v e f = rw (e, f ∙ status-of s)
-
-  pub status-changing : (v : ℕ) (x : Bool) → (k ≡ 18 → ⊥) → (k ≡ 19 → ⊥) → (eqb k 8 || eqb k 9) ≡ true → v ≡ num b 2 1 → x ≡ newer st w → (x || eqb v 2) ≡ statusRight k st w
-  unfolding statusRight pick
-  status-changing v x a c g f y = rw (ne-eqb k 18 a, ne-eqb k 19 c, g, y, f ∙ status-of s)
-
-  pub status-normal : (v : ℕ) → (k ≡ 18 → ⊥) → (k ≡ 19 → ⊥) → (eqb k 8 || eqb k 9) ≡ false → v ≡ num b 2 1 → (eqb k 7 || eqb v 1) ≡ statusRight k st w
-  unfolding statusRight pick
-  status-normal v a c g f = rw (ne-eqb k 18 a, ne-eqb k 19 c, g, f ∙ status-of s)
+      pub status-always : r .«only_if_equal» ≡ false → y ≡ statusRight k st w
+      unfolding statusRight
+      status-always d = taken ∙ sym (fits-always (rowOf k .status) st w (sym (ap (λ (z : Row). z .«only_if_equal») e) ∙ d))
 
   -- ---- roles
 
   view-in : (j : ℕ) → bare k ≡ false → j < sh .s → getD (w .gVec) j 0 ≡ num msg (16 + 4 * j) 4
   view-in j n l = ap (λ (z : List ℕ). getD z j 0) (views-of n) ∙ getD-items (λ a. num msg a 4) 4 16 (sh .s) j 0 l
 
-  pub leads-is : (g r : ℕ) (x : Bool) → bare k ≡ false → g ≡ num b 0 1 → r ≡ num b 1 1 → g < sh .s → x ≡ eqb r (num msg (16 + 4 * g) 4 % sh .n) → x ≡ leadsBy sh st w
-  leads-is g r x n e f l y =
-      let a : st .group ≡ g = sym (e ∙ group-of s) in
-      let c : st .replica ≡ r = sym (f ∙ replica-of s) in
-      y ∙ rw (a, c, view-in g n l)
+  pub leads-is : (g r : ℕ) (x : Bool) → bare k ≡ false → g ≡ num b 0 1 → r ≡ num b 1 1 → x ≡ eqb r (num msg (16 + 4 * g) 4 % sh .n) → x ≡ leadsBy sh st w
+  leads-is g r x n e f y =
+      let a : st .site .group ≡ g = sym (e ∙ group-of s) in
+      let c : st .site .replica ≡ r = sym (f ∙ replica-of s) in
+      y ∙ rw (a, c, view-in g n (own-below s g e))
 
   pub inside-is : (g : ℕ) → g ≡ num b 0 1 → eqb (h .«from_group») g ≡ fromOwn st w
   inside-is g e =
       let a : h .«from_group» ≡ w .fromGroup = ap (λ (z : Header). z .«from_group») (sym (q .header)) in
       rw (a, e ∙ group-of s)
 
-  pub from-leader-is : (x : Bool) → bare k ≡ false → h .«from_group» < sh .s → x ≡ eqb (h .«from_replica») (num msg (16 + 4 * h .«from_group») 4 % sh .n) → x ≡ fromLeader sh w
-  from-leader-is x n l y =
+  pub from-leader-is : (x : Bool) → fromOutside k ≡ false → x ≡ eqb (h .«from_replica») (num msg (16 + 4 * h .«from_group») 4 % sh .n) → x ≡ fromLeader sh w
+  from-leader-is x o y =
       let a : w .fromGroup ≡ h .«from_group» = ap (λ (z : Header). z .«from_group») (q .header) in
       let c : w .fromReplica ≡ h .«from_replica» = ap (λ (z : Header). z .«from_replica») (q .header) in
-      y ∙ rw (a, c, view-in (h .«from_group») n l)
+      y ∙ rw (a, c, view-in (h .«from_group») (not-bare k o) (q .sender o .0))
 
-  abbrev RoleRight : ℕ → Type 0
-  RoleRight x = true ≡ roleRight x sh st w
+  module _ (r : Row) (e : r ≡ rowAs k) where
+    pub to-leader : (x : Bool) → r .receiver ≡ ALeader → x ≡ leadsBy sh st w → x ≡ receiverFits (rowOf k .receiver) sh st w
+    to-leader x d y = rw (sym (receiver-cell k r e) ∙ d, y)
 
-  role-transaction : RoleRight 1
-  unfolding roleRight pick
-  role-transaction = refl
+    pub to-follower : (x : Bool) → r .receiver ≡ AFollower → x ≡ leadsBy sh st w → not x ≡ receiverFits (rowOf k .receiver) sh st w
+    to-follower x d y = rw (sym (receiver-cell k r e) ∙ d, y)
 
-  role-change : RoleRight 7
-  unfolding roleRight pick
-  role-change = refl
+    pub to-anyone : r .receiver ≡ Anyone → true ≡ receiverFits (rowOf k .receiver) sh st w
+    to-anyone d = rw (sym (receiver-cell k r e) ∙ d)
 
-  role-tick : RoleRight 23
-  unfolding roleRight pick
-  role-tick = refl
+    pub to-outsiders : r .receiver ≡ Outsiders → true ≡ receiverFits (rowOf k .receiver) sh st w
+    to-outsiders d = rw (sym (receiver-cell k r e) ∙ d)
 
-  pub role-outside : fromOutside k ≡ true → true ≡ roleRight k sh st w
-  role-outside e = go (eqb k 1) (eqb k 7) refl refl e
-    where
-      go : (t u : Bool) → eqb k 1 ≡ t → eqb k 7 ≡ u → (t || (u || eqb k 23)) ≡ true → true ≡ roleRight k sh st w
-      go true u f d g = subst RoleRight (sym (eqb-true k 1 f)) role-transaction
-      go false true f d g = subst RoleRight (sym (eqb-true k 7 d)) role-change
-      go false false f d g = subst RoleRight (sym (eqb-true k 23 g)) role-tick
+    pub by-outsider : r .sender ≡ Outsider → true ≡ senderFits (rowOf k .sender) sh st w
+    by-outsider d = rw (sym (sender-cell k r e) ∙ d)
 
-  pub not-bare : fromOutside k ≡ false → bare k ≡ false
-  not-bare e = go (eqb k 1) (eqb k 7) (eqb k 23) e
-    where
-      go : (t u v : Bool) → (t || (u || v)) ≡ false → (t || v) ≡ false
-      go true u v g = absurd (true≢false g)
-      go false true v g = absurd (true≢false g)
-      go false false v g = g
+    pub by-any : r .sender ≡ AnyReplica → true ≡ senderFits (rowOf k .sender) sh st w
+    by-any d = rw (sym (sender-cell k r e) ∙ d)
 
-  module _ (g r : ℕ) (x y z : Bool) (o : fromOutside k ≡ false) (eg : g ≡ num b 0 1) (er : r ≡ num b 1 1) (l : g < sh .s) (ex : x ≡ eqb r (num msg (16 + 4 * g) 4 % sh .n)) (ez : z ≡ eqb (h .«from_replica») (num msg (16 + 4 * h .«from_group») 4 % sh .n)) where
-    leads : x ≡ leadsBy sh st w
-    leads = leads-is g r x (not-bare o) eg er l ex
+    module _ (g : ℕ) (eg : g ≡ num b 0 1) where
+      pub by-leader : (z : Bool) → r .sender ≡ OwnLeader → z ≡ fromLeader sh w → (eqb (h .«from_group») g && z) ≡ senderFits (rowOf k .sender) sh st w
+      by-leader z d y = rw (sym (sender-cell k r e) ∙ d, inside-is g eg, y)
 
-    sent : z ≡ fromLeader sh w
-    sent = from-leader-is z (not-bare o) (q .sender o .0) ez
+      pub by-member : (i : ℕ) → r .sender ≡ OwnReplica → i ≡ num b 1 1 → (eqb (h .«from_group») g && not (eqb (h .«from_replica») i)) ≡ senderFits (rowOf k .sender) sh st w
+      by-member i d y =
+          let a : h .«from_replica» ≡ w .fromReplica = ap (λ (v : Header). v .«from_replica») (sym (q .header)) in
+          rw (sym (sender-cell k r e) ∙ d, inside-is g eg, a, y ∙ replica-of s)
 
-    pub role-follower : (eqb k 4 || (eqb k 9 || eqb k 11)) ≡ true → (not x && (eqb (h .«from_group») g && z)) ≡ roleRight k sh st w
-    unfolding roleRight pick
-    role-follower e = rw (e, leads, sent, inside-is g eg)
+      pub by-other : (z : Bool) → r .sender ≡ OtherLeader → z ≡ fromLeader sh w → (not (eqb (h .«from_group») g) && z) ≡ senderFits (rowOf k .sender) sh st w
+      by-other z d y = rw (sym (sender-cell k r e) ∙ d, inside-is g eg, y)
 
-    pub role-member : (eqb k 4 || (eqb k 9 || eqb k 11)) ≡ false → (eqb k 8 || eqb k 10) ≡ true → (x && (eqb (h .«from_group») g && not (eqb (h .«from_replica») r))) ≡ roleRight k sh st w
-    unfolding roleRight pick
-    role-member e f =
-        let a : h .«from_replica» ≡ w .fromReplica = ap (λ (v : Header). v .«from_replica») (sym (q .header)) in
-        rw (e, f, leads, inside-is g eg, a, er ∙ replica-of s)
-
-    pub role-other : (eqb k 4 || (eqb k 9 || eqb k 11)) ≡ false → (eqb k 8 || eqb k 10) ≡ false → (eqb k 3 || (eqb k 18 || eqb k 19)) ≡ true → (x && (not (eqb (h .«from_group») g) && z)) ≡ roleRight k sh st w
-    unfolding roleRight pick
-    role-other e f d = rw (e, f, d, leads, sent, inside-is g eg)
-
-  pub role-any : (eqb k 4 || (eqb k 9 || eqb k 11)) ≡ false → (eqb k 8 || eqb k 10) ≡ false → (eqb k 3 || (eqb k 18 || eqb k 19)) ≡ false → true ≡ roleRight k sh st w
-  unfolding roleRight pick
-  role-any e f d = rw (e, f, d)
+  pub roles-are : (x y : Bool) → x ≡ receiverFits (rowOf k .receiver) sh st w → y ≡ senderFits (rowOf k .sender) sh st w → (x && y) ≡ roleRight k sh st w
+  unfolding roleRight
+  roles-are x y e f = rw (e, f)
 
   -- what a role asks of the numbers
   pub sender-below : fromOutside k ≡ false → (h .«from_group» < sh .s) × (sh .s ≤ 8) × (0 < sh .n)

@@ -5,7 +5,8 @@ use mathlib.Core.Bool.{Bool, _||_, false}
 use mathlib.Core.List.{List}
 use lib.Dec.{eqb}
 use Rattle.rules.specs.Choice.{pick}
-use Rattle.rules.specs.Wire.{Wire, toOutside, fromOutside, headerOf}
+use Rattle.rules.specs.Wire.{Wire, headerOf}
+use Rattle.rules.specs.Kind.{toOutside, fromOutside}
 use Rattle.rules.specs.Read.{wireIn}
 use Rattle.rules.specs.State.{State}
 use Rattle.rules.specs.Step.{here, viewRight, statusRight, roleRight}

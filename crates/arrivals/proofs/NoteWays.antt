@@ -7,14 +7,16 @@ use native.Mathlib.Omega.{arith}
 use lib.ListN.{length}
 use lib.Dec.{ltb, leb}
 use borrow.Author.Tests.{ltb-true, ltb-false, le-leb, lt-leb}
-use Rattle.rules.specs.Choice.{pick, isSome}
+use Rattle.rules.specs.Choice.{pick, isSome, any}
 use Rattle.rules.specs.Entry.{among}
-use Rattle.rules.specs.Wire.{Wire, firstEntry, known, tagOf, headerIn}
+use Rattle.rules.specs.Wire.{Wire, firstEntry, tagOf, headerIn}
+use Rattle.rules.specs.Kind.{known, fromOutside, rowOf}
 use Rattle.rules.specs.Wire as wires
 use Rattle.rules.specs.Read.{wireIn}
 use Rattle.rules.specs.State.{Note, State, noted}
 use Rattle.rules.specs.Image.{image, stateOf}
-use Rattle.rules.specs.Step.{Outcome, refused, done, keepNote, lifted, buffered, onNote}
+use Rattle.rules.specs.Step.{Outcome, refused, done, buffered, onNote}
+use Rattle.rules.specs.Early.{keepNote, lifted}
 use Rattle.rules.specs.Bytes.{leaves, closes}
 use Rattle.rules.specs.declared.Entry.{Entry}
 use Rattle.rules.specs.declared.Header.{Header}
@@ -43,23 +45,23 @@ room-is sh e j t xs l =
 
 module _ (sh : Shape) (st : State) (w : Wire) (x : Entry) (j : ℕ) (q : x ≡ firstEntry w) (f : w .fromGroup ≡ j) where
   abbrev kept : List Note
-  kept = keepNote sh x j (x .stamp) (st .notes)
+  kept = keepNote sh x j (x .stamp) (st .waiting .notes)
 
-  logged : among (st .log) x ≡ true → onNote sh st w ≡ refused 7
+  logged : among (st .logged .log) x ≡ true → onNote sh st w ≡ refused 7
   unfolding onNote pick
   logged h = rw (sym q, h)
 
-  module _ (a : among (st .log) x ≡ false) where
-    again : isSome (noted (st .notes) x j) ≡ true → onNote sh st w ≡ refused 7
+  module _ (a : among (st .logged .log) x ≡ false) where
+    again : isSome (noted (st .waiting .notes) x j) ≡ true → onNote sh st w ≡ refused 7
     unfolding onNote pick
     again h = rw (sym q, f, a, h)
 
-    module _ (n : isSome (noted (st .notes) x j) ≡ false) where
+    module _ (n : isSome (noted (st .waiting .notes) x j) ≡ false) where
       full : leb (length kept) (sh .c) ≡ false → onNote sh st w ≡ refused 8
       unfolding onNote pick
       full h = rw (sym q, f, a, n, h)
 
-      fits : leb (length kept) (sh .c) ≡ true → onNote sh st w ≡ done (buffered st (lifted sh kept x (st .early)) (st .late) kept) []
+      fits : leb (length kept) (sh .c) ≡ true → onNote sh st w ≡ done (buffered st (lifted sh kept x (st .waiting .early)) (st .waiting .late) kept) []
       unfolding onNote pick
       fits h = rw (sym q, f, a, n, h)
 
@@ -73,7 +75,7 @@ module _ (sh : Shape) (b msg out : List ℕ) (m : Message) (h : Header) (r : Rea
   j = h .«from_group»
 
   kind-known : known (tagOf m) ≡ true
-  unfolding pick
+  unfolding pick any
   kind-known = ap (λ (x : Message). known (tagOf x)) e
 
   from-is : wireIn (sh .s) msg .fromGroup ≡ j
@@ -81,27 +83,28 @@ module _ (sh : Shape) (b msg out : List ℕ) (m : Message) (h : Header) (r : Rea
 
   -- the sender's group is one of the shape's
   pub from-below : j < sh .s
-  from-below = rw e at (told-sender (sh .n) (sh .s) m msg (ready-told sh b msg m r kind-known) (ap (λ (x : Message). wires.fromOutside (tagOf x)) e) .0)
+  unfolding rowOf
+  from-below = rw e at (told-sender (sh .n) (sh .s) m msg (ready-told sh b msg m r kind-known) (ap (λ (x : Message). fromOutside (tagOf x)) e) .0)
 
   by-rule : (o : Outcome) → onNote sh st (wireIn (sh .s) msg) ≡ o → handled 3 onNote sh m b msg out ≡ closes sh b out o
   by-rule o q = handled-own 3 onNote sh m b msg out (ap tagOf e) ∙ ap (closes sh b out) q
 
-  module _ (x : Entry) (q : x ≡ firstEntry (wireIn (sh .s) msg)) (t : Bool) (a : t ≡ among (st .log) x) where
+  module _ (x : Entry) (q : x ≡ firstEntry (wireIn (sh .s) msg)) (t : Bool) (a : t ≡ among (st .logged .log) x) where
     pub in-log-way : t ≡ true → leaves 7 b out ≡ handled 3 onNote sh m b msg out
     in-log-way z = sym (by-rule (refused 7) (logged sh st _ x j q from-is (sym a ∙ z)) ∙ closes-refused sh b out 7)
 
-    module _ (z : t ≡ false) (u : Bool) (v : u ≡ isSome (noted (st .notes) x j)) where
+    module _ (z : t ≡ false) (u : Bool) (v : u ≡ isSome (noted (st .waiting .notes) x j)) where
       pub noted-way : u ≡ true → leaves 7 b out ≡ handled 3 onNote sh m b msg out
       noted-way y = sym (by-rule (refused 7) (again sh st _ x j q from-is (sym a ∙ z) (sym v ∙ y)) ∙ closes-refused sh b out 7)
 
-      module _ (y : u ≡ false) (p : Bool) (g : p ≡ ltb (row (x .request) (x .coordinator) (st .notes)) (sh .c)) where
-        room : leb (length (keepNote sh x j (x .stamp) (st .notes))) (sh .c) ≡ p
-        room = room-is sh x j (x .stamp) (st .notes) (stands-fits (r .stands) .notes .room) ∙ sym g
+      module _ (y : u ≡ false) (p : Bool) (g : p ≡ ltb (row (x .request) (x .coordinator) (st .waiting .notes)) (sh .c)) where
+        room : leb (length (keepNote sh x j (x .stamp) (st .waiting .notes))) (sh .c) ≡ p
+        room = room-is sh x j (x .stamp) (st .waiting .notes) (stands-fits (r .stands) .notes .room) ∙ sym g
 
         pub full-way : not p ≡ true → leaves 8 b out ≡ handled 3 onNote sh m b msg out
         full-way k = sym (by-rule (refused 8) (full sh st _ x j q from-is (sym a ∙ z) (sym v ∙ y) (room ∙ when-not p k)) ∙ closes-refused sh b out 8)
 
-        pub kept-way : (b′ : List ℕ) → not p ≡ false → b′ ≡ image sh (buffered st (lifted sh (keepNote sh x j (x .stamp) (st .notes)) x (st .early)) (st .late) (keepNote sh x j (x .stamp) (st .notes))) → quiet b′ out ≡ handled 3 onNote sh m b msg out
+        pub kept-way : (b′ : List ℕ) → not p ≡ false → b′ ≡ image sh (buffered st (lifted sh (keepNote sh x j (x .stamp) (st .waiting .notes)) x (st .waiting .early)) (st .waiting .late) (keepNote sh x j (x .stamp) (st .waiting .notes))) → quiet b′ out ≡ handled 3 onNote sh m b msg out
         kept-way b′ k w =
             sym (by-rule _ (fits sh st _ x j q from-is (sym a ∙ z) (sym v ∙ y) (room ∙ unless-not p k)) ∙ closes-quiet sh b out _ ∙ ap (λ (y : List ℕ). quiet y out) (sym w))
 

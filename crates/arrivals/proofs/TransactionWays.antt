@@ -7,9 +7,11 @@ use native.Mathlib.Omega.{arith}
 use lib.ListN.{getD}
 use lib.Dec.{leb}
 use borrow.Author.Tests.{leb-true}
-use Rattle.rules.specs.Choice.{pick}
-use Rattle.rules.specs.Entry.{latest, stamped, among, leaderStamp}
-use Rattle.rules.specs.Wire.{Wire, firstEntry, known, tagOf, numbersOf}
+use Rattle.rules.specs.Choice.{pick, any}
+use Rattle.rules.specs.Entry.{latest, stamped, among}
+use Rattle.rules.specs.Log.{raised}
+use Rattle.rules.specs.Wire.{Wire, firstEntry, tagOf, numbersOf}
+use Rattle.rules.specs.Kind.{known, rowOf}
 use Rattle.rules.specs.Wire as wires
 use Rattle.rules.specs.Read.{wireIn}
 use Rattle.rules.specs.State.{State, leads}
@@ -34,7 +36,7 @@ module _ (sh : Shape) (st : State) (w : Wire) (x : Entry) (q : x ≡ firstEntry 
   unfolding onTransaction pick
   again h = rw (sym q, h)
 
-  at-leader : knownTo st x ≡ false → leads sh st ≡ true → onTransaction sh st w ≡ leaderTakes sh st (stamped (leaderStamp (st .log) (due w)) x)
+  at-leader : knownTo st x ≡ false → leads sh st ≡ true → onTransaction sh st w ≡ leaderTakes sh st (raised (st .logged .log) (stamped (due w) x))
   unfolding onTransaction pick
   at-leader h l = rw (sym q, h, l)
 
@@ -52,7 +54,7 @@ module _ (sh : Shape) (b msg out : List ℕ) (m : Message) (h : Header) (time bo
   w = wireIn (sh .s) msg
 
   kind-known : known (tagOf m) ≡ true
-  unfolding pick
+  unfolding pick any
   kind-known = ap (λ (x : Message). known (tagOf x)) e
 
   number-is : (i : ℕ) → wires.number w i ≡ getD (numbersOf (cases.Transaction h time bound)) i 0
@@ -63,9 +65,9 @@ module _ (sh : Shape) (b msg out : List ℕ) (m : Message) (h : Header) (time bo
 
   -- the message is well formed, so its due time is a timestamp
   pub due-low : time + bound ≤ latest
-  unfolding pick
+  unfolding pick rowOf
   due-low =
-      let f = split _ (told-right (sh .n) (sh .s) m msg (ready-told sh b msg m r kind-known) 1 (ap tagOf e) .body 3) 0 in
+      let f = split _ (told-right (sh .n) (sh .s) m msg (ready-told sh b msg m r kind-known) 1 (ap tagOf e) .number 1 (omega arith)) 0 in
       omega (arith, due-is, leb-true (due w) latest (and-right (leb 1 (due w)) (leb (due w) latest) f))
 
   by-rule : (o : Outcome) → onTransaction sh st w ≡ o → handled 1 onTransaction sh m b msg out ≡ closes sh b out o
@@ -76,12 +78,13 @@ module _ (sh : Shape) (b msg out : List ℕ) (m : Message) (h : Header) (time bo
     known-way z = sym (by-rule (refused 7) (again sh st w x q (sym a ∙ z)) ∙ closes-refused sh b out 7)
 
     module _ (z : t ≡ false) (l : Bool) (v : l ≡ leads sh st) where
-      -- it is not among the early ones
-      pub not-early : (stamp : ℕ) (y : Entry) → y ≡ stamped stamp x → among (st .early) y ≡ false
-      not-early stamp y u = ap (among (st .early)) u ∙ or-left (among (st .early) x) (among (st .late) x) (or-right (among (st .log) x) _ (sym a ∙ z))
+      module _ (y : Entry) (u : y ≡ stamped (time + bound) x) where
+        -- it is not among the early ones
+        pub not-early : (z′ : Entry) → z′ ≡ raised (st .logged .log) y → among (st .waiting .early) z′ ≡ false
+        not-early z′ v′ = ap (λ (d : Entry). among (st .waiting .early) d) (v′ ∙ ap (raised (st .logged .log)) u) ∙ or-left (among (st .waiting .early) x) (among (st .waiting .late) x) (or-right (among (st .logged .log) x) _ (sym a ∙ z))
 
-      pub leader-way : l ≡ true → (stamp : ℕ) → stamp ≡ leaderStamp (st .log) (time + bound) → (y : Entry) → y ≡ stamped stamp x → closes sh b out (leaderTakes sh st y) ≡ handled 1 onTransaction sh m b msg out
-      leader-way k stamp g y u = sym (by-rule _ (at-leader sh st w x q (sym a ∙ z) (sym v ∙ k)) ∙ ap (λ (d : ℕ). closes sh b out (leaderTakes sh st (stamped (leaderStamp (st .log) d) x))) due-is ∙ rw (u, g))
+        pub leader-way : l ≡ true → (z′ : Entry) → z′ ≡ raised (st .logged .log) y → closes sh b out (leaderTakes sh st z′) ≡ handled 1 onTransaction sh m b msg out
+        leader-way k z′ g = sym (by-rule _ (at-leader sh st w x q (sym a ∙ z) (sym v ∙ k)) ∙ ap (λ (d : ℕ). closes sh b out (leaderTakes sh st (raised (st .logged .log) (stamped d x)))) due-is ∙ rw (g, u))
 
-      pub follower-way : l ≡ false → (y : Entry) → y ≡ stamped (time + bound) x → closes sh b out (followerTakes sh st y) ≡ handled 1 onTransaction sh m b msg out
-      follower-way k y u = sym (by-rule _ (at-follower sh st w x q (sym a ∙ z) (sym v ∙ k)) ∙ ap (λ (d : ℕ). closes sh b out (followerTakes sh st (stamped d x))) due-is ∙ rw u)
+        pub follower-way : l ≡ false → closes sh b out (followerTakes sh st y) ≡ handled 1 onTransaction sh m b msg out
+        follower-way k = sym (by-rule _ (at-follower sh st w x q (sym a ∙ z) (sym v ∙ k)) ∙ ap (λ (d : ℕ). closes sh b out (followerTakes sh st (stamped d x))) due-is ∙ rw u)

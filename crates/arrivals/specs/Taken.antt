@@ -3,7 +3,8 @@ use mathlib.Core.List.{List, [], _∷_, _++_}
 use Rattle.rules.specs.Group.{holds}
 use Rattle.rules.specs.Wire.{Wire}
 use Rattle.rules.specs.State.{Note, State}
-use Rattle.rules.specs.Step.{sendLeader, sends, otherGroups, keepNote, lifted, buffered}
+use Rattle.rules.specs.Step.{sendLeader, sends, otherGroups, buffered}
+use Rattle.rules.specs.Early.{keepNote, lifted}
 use Rattle.rules.specs.declared.Entry.{Entry}
 use Rattle.rules.specs.declared.Shape.{Shape}
 
@@ -13,8 +14,8 @@ noteSends sh st e = sends (λ j. sendLeader sh st 3 j [] (e ∷ [])) (otherGroup
 
 -- the notes with the own group's
 abbrev pub ownNoted : Shape → State → Entry → List Note
-ownNoted sh st e = keepNote sh e (st .group) (e .stamp) (st .notes)
+ownNoted sh st e = keepNote sh e (st .site .group) (e .stamp) (st .waiting .notes)
 
 -- the entry put in early, with the own note
 abbrev pub takenEarly : Shape → State → Entry → State
-takenEarly sh st e = buffered st (lifted sh (ownNoted sh st e) e (st .early ++ (e ∷ []))) (st .late) (ownNoted sh st e)
+takenEarly sh st e = buffered st (lifted sh (ownNoted sh st e) e (st .waiting .early ++ (e ∷ []))) (st .waiting .late) (ownNoted sh st e)

@@ -3,6 +3,8 @@ use rules::Answer;
 use rules::Entry;
 use rules::Message;
 use rules::Shape;
+use rules::kind;
+use rules::refusal;
 ghost use mathlib.Core.Path.{_≡_};
 ghost use mathlib.Core.Bool.{true, false};
 ghost use mathlib.Core.List.{[], _∷_, _++_};
@@ -14,7 +16,8 @@ ghost use Rattle.rules.specs.Entry.{among};
 ghost use Rattle.rules.specs.Log.{distinct};
 ghost use Rattle.rules.specs.Image.{tableAt, image, stateOf};
 ghost use Rattle.rules.specs.Wire.{wireBytes};
-ghost use Rattle.rules.specs.Step.{keepNote, lifted, knownTo, buffered, leaderTakes, followerTakes, onTransaction, onNote};
+ghost use Rattle.rules.specs.Early.{keepNote, lifted};
+ghost use Rattle.rules.specs.Step.{knownTo, buffered, leaderTakes, followerTakes, onTransaction, onNote};
 ghost use Rattle.rules.specs.Bytes.{left, closes};
 ghost use Rattle.entries.specs.Table.{Table};
 ghost use Rattle.notes.specs.Notes.{row};
@@ -39,8 +42,8 @@ fn is_among(t: &[u8], c: usize, e: Entry) -> bool
 
 // Keeps group j's timestamp of e's transaction.
 fn keep_note(shape: Shape, state: &mut [u8], e: Entry, j: u64, stamp: u64)
-    requires { ⌜ Midway shape (stateOf shape (now state)) (now state) × (row (e .request) (e .coordinator) (stateOf shape (now state) .notes) < shape .c) × (j < shape .s) ⌝ }
-    ensures { λ _. ⌜ Midway shape (withNotes (stateOf shape (now (state .entry))) (keepNote shape e j stamp (stateOf shape (now (state .entry)) .notes))) (now (state .exit)) ⌝ }
+    requires { ⌜ Midway shape (stateOf shape (now state)) (now state) × (row (e .request) (e .coordinator) (stateOf shape (now state) .waiting .notes) < shape .c) × (j < shape .s) ⌝ }
+    ensures { λ _. ⌜ Midway shape (withNotes (stateOf shape (now (state .entry))) (keepNote shape e j stamp (stateOf shape (now (state .entry)) .waiting .notes))) (now (state .exit)) ⌝ }
 {
     let layout = places::places_of(shape);
     let start = layout.notes;
@@ -52,8 +55,8 @@ fn keep_note(shape: Shape, state: &mut [u8], e: Entry, j: u64, stamp: u64)
 
 // Keeps a note, and lifts the early entry where it was the last that was missing.
 fn keep_and_lift(shape: Shape, state: &mut [u8], e: Entry, j: u64, stamp: u64)
-    requires { ⌜ Midway shape (stateOf shape (now state)) (now state) × (distinct (stateOf shape (now state) .early) ≡ true) × (row (e .request) (e .coordinator) (stateOf shape (now state) .notes) < shape .c) × (j < shape .s) ⌝ }
-    ensures { λ _. ⌜ now (state .exit) ≡ image shape (buffered (stateOf shape (now (state .entry))) (lifted shape (keepNote shape e j stamp (stateOf shape (now (state .entry)) .notes)) e (stateOf shape (now (state .entry)) .early)) (stateOf shape (now (state .entry)) .late) (keepNote shape e j stamp (stateOf shape (now (state .entry)) .notes))) ⌝ }
+    requires { ⌜ Midway shape (stateOf shape (now state)) (now state) × (distinct (stateOf shape (now state) .waiting .early) ≡ true) × (row (e .request) (e .coordinator) (stateOf shape (now state) .waiting .notes) < shape .c) × (j < shape .s) ⌝ }
+    ensures { λ _. ⌜ now (state .exit) ≡ image shape (buffered (stateOf shape (now (state .entry))) (lifted shape (keepNote shape e j stamp (stateOf shape (now (state .entry)) .waiting .notes)) e (stateOf shape (now (state .entry)) .waiting .early)) (stateOf shape (now (state .entry)) .waiting .late) (keepNote shape e j stamp (stateOf shape (now (state .entry)) .waiting .notes))) ⌝ }
 {
     keep_note(shape, state, e, j, stamp);
     stamps::lift(shape, state, e);
@@ -64,7 +67,7 @@ fn keep_and_lift(shape: Shape, state: &mut [u8], e: Entry, j: u64, stamp: u64)
 // Whether the transaction of e stands in the log.
 fn in_log(shape: Shape, state: &[u8], e: Entry) -> bool
     requires { ⌜ Midway shape (stateOf shape (now state)) (now state) ⌝ }
-    ensures { λ r. ⌜ r ≡ among (stateOf shape (now (state .entry)) .log) e ⌝ }
+    ensures { λ r. ⌜ r ≡ among (stateOf shape (now (state .entry)) .logged .log) e ⌝ }
 {
     let layout = places::places_of(shape);
     let start = layout.log;
@@ -75,7 +78,7 @@ fn in_log(shape: Shape, state: &[u8], e: Entry) -> bool
 // Whether it stands in the early buffer.
 fn in_early(shape: Shape, state: &[u8], e: Entry) -> bool
     requires { ⌜ Midway shape (stateOf shape (now state)) (now state) ⌝ }
-    ensures { λ r. ⌜ r ≡ among (stateOf shape (now (state .entry)) .early) e ⌝ }
+    ensures { λ r. ⌜ r ≡ among (stateOf shape (now (state .entry)) .waiting .early) e ⌝ }
 {
     let layout = places::places_of(shape);
     let start = layout.early;
@@ -86,7 +89,7 @@ fn in_early(shape: Shape, state: &[u8], e: Entry) -> bool
 // Whether it stands in the late buffer.
 fn in_late(shape: Shape, state: &[u8], e: Entry) -> bool
     requires { ⌜ Midway shape (stateOf shape (now state)) (now state) ⌝ }
-    ensures { λ r. ⌜ r ≡ among (stateOf shape (now (state .entry)) .late) e ⌝ }
+    ensures { λ r. ⌜ r ≡ among (stateOf shape (now (state .entry)) .waiting .late) e ⌝ }
 {
     let layout = places::places_of(shape);
     let start = layout.late;
@@ -105,7 +108,7 @@ fn known(shape: Shape, state: &[u8], e: Entry) -> bool
 // Whether there is room for a note of e's transaction: it has one, or there are fewer than fit.
 fn room_for_note(shape: Shape, state: &[u8], e: Entry) -> bool
     requires { ⌜ Midway shape (stateOf shape (now state)) (now state) ⌝ }
-    ensures { λ r. ⌜ r ≡ ltb (row (e .request) (e .coordinator) (stateOf shape (now (state .entry)) .notes)) (shape .c) ⌝ }
+    ensures { λ r. ⌜ r ≡ ltb (row (e .request) (e .coordinator) (stateOf shape (now (state .entry)) .waiting .notes)) (shape .c) ⌝ }
 {
     let layout = places::places_of(shape);
     let start = layout.notes;
@@ -120,7 +123,7 @@ fn room_for_note(shape: Shape, state: &[u8], e: Entry) -> bool
 // How many entries are early.
 fn early_count(shape: Shape, state: &[u8]) -> u64
     requires { ⌜ Midway shape (stateOf shape (now state)) (now state) ⌝ }
-    ensures { λ r. ⌜ r ≡ length (stateOf shape (now (state .entry)) .early) ⌝ }
+    ensures { λ r. ⌜ r ≡ length (stateOf shape (now (state .entry)) .waiting .early) ⌝ }
 {
     let layout = places::places_of(shape);
     let start = layout.early;
@@ -131,7 +134,7 @@ fn early_count(shape: Shape, state: &[u8]) -> u64
 // How many entries are late.
 fn late_count(shape: Shape, state: &[u8]) -> u64
     requires { ⌜ Midway shape (stateOf shape (now state)) (now state) ⌝ }
-    ensures { λ r. ⌜ r ≡ length (stateOf shape (now (state .entry)) .late) ⌝ }
+    ensures { λ r. ⌜ r ≡ length (stateOf shape (now (state .entry)) .waiting .late) ⌝ }
 {
     let layout = places::places_of(shape);
     let start = layout.late;
@@ -141,8 +144,8 @@ fn late_count(shape: Shape, state: &[u8]) -> u64
 
 // Puts e after the last early entry.
 fn add_early(shape: Shape, state: &mut [u8], e: Entry)
-    requires { ⌜ Midway shape (stateOf shape (now state)) (now state) × (length (stateOf shape (now state) .early) < shape .c) ⌝ }
-    ensures { λ _. ⌜ Midway shape (withEarly (stateOf shape (now (state .entry))) (stateOf shape (now (state .entry)) .early ++ (e ∷ []))) (now (state .exit)) ⌝ }
+    requires { ⌜ Midway shape (stateOf shape (now state)) (now state) × (length (stateOf shape (now state) .waiting .early) < shape .c) ⌝ }
+    ensures { λ _. ⌜ Midway shape (withEarly (stateOf shape (now (state .entry))) (stateOf shape (now (state .entry)) .waiting .early ++ (e ∷ []))) (now (state .exit)) ⌝ }
 {
     let layout = places::places_of(shape);
     let start = layout.early;
@@ -152,8 +155,8 @@ fn add_early(shape: Shape, state: &mut [u8], e: Entry)
 
 // Puts e after the last late entry.
 fn add_late(shape: Shape, state: &mut [u8], e: Entry)
-    requires { ⌜ Midway shape (stateOf shape (now state)) (now state) × (length (stateOf shape (now state) .late) < shape .c) ⌝ }
-    ensures { λ _. ⌜ Midway shape (withLate (stateOf shape (now (state .entry))) (stateOf shape (now (state .entry)) .late ++ (e ∷ []))) (now (state .exit)) ⌝ }
+    requires { ⌜ Midway shape (stateOf shape (now state)) (now state) × (length (stateOf shape (now state) .waiting .late) < shape .c) ⌝ }
+    ensures { λ _. ⌜ Midway shape (withLate (stateOf shape (now (state .entry))) (stateOf shape (now (state .entry)) .waiting .late ++ (e ∷ []))) (now (state .exit)) ⌝ }
 {
     let layout = places::places_of(shape);
     let start = layout.late;
@@ -168,13 +171,13 @@ fn follower_takes(shape: Shape, state: &mut [u8], e: Entry, out: &mut [u8]) -> A
 {
     if stamps::may_follow(shape, state, e) {
         if shape.c <= early_count(shape, state) {
-            return Answer::Refused(8);
+            return Answer::Refused(refusal::FULL);
         }
         add_early(shape, state, e);
         return Answer::Done(0);
     }
     if shape.c <= late_count(shape, state) {
-        return Answer::Refused(8);
+        return Answer::Refused(refusal::FULL);
     }
     add_late(shape, state, e);
     Answer::Done(0)
@@ -186,7 +189,7 @@ fn notes_length(shape: Shape, state: &[u8], e: Entry) -> usize
     ensures { λ r. ⌜ r ≡ length (flat wireBytes (noteSends shape (stateOf shape (now (state .entry))) e)) ⌝ }
 {
     let others = handler::count_others(shape, state, e.mask) as usize;
-    kinds::length_for(shape.s, 3, 1) * others
+    kinds::length_for(shape.s, kind::TIMESTAMP_NOTE, 1) * others
 }
 
 // Writes them first into the outgoing buffer, and says where the last ends.
@@ -196,12 +199,12 @@ fn tell_notes(shape: Shape, state: &[u8], e: Entry, out: &mut [u8]) -> usize
 {
     let mut bytes = [0u8; 24];
     entries::put_entry(&mut bytes, 0, e);
-    handler::tell_leaders(shape, state, out, 3, 0, e.mask, &bytes)
+    handler::tell_leaders(shape, state, out, kind::TIMESTAMP_NOTE, 0, e.mask, &bytes)
 }
 
 // Puts e in early with the own group's note of it.
 fn take_early(shape: Shape, state: &mut [u8], e: Entry)
-    requires { ⌜ Stands shape (stateOf shape (now state)) (now state) × (among (stateOf shape (now state) .early) e ≡ false) × (length (stateOf shape (now state) .early) < shape .c) × (row (e .request) (e .coordinator) (stateOf shape (now state) .notes) < shape .c) ⌝ }
+    requires { ⌜ Stands shape (stateOf shape (now state)) (now state) × (among (stateOf shape (now state) .waiting .early) e ≡ false) × (length (stateOf shape (now state) .waiting .early) < shape .c) × (row (e .request) (e .coordinator) (stateOf shape (now state) .waiting .notes) < shape .c) ⌝ }
     ensures { λ _. ⌜ now (state .exit) ≡ image shape (takenEarly shape (stateOf shape (now (state .entry))) e) ⌝ }
 {
     let own = places::get_group(state);
@@ -211,17 +214,17 @@ fn take_early(shape: Shape, state: &mut [u8], e: Entry)
 
 // A leader puts e in early, keeps its own note, and tells the other masked groups' leaders.
 fn leader_takes(shape: Shape, state: &mut [u8], e: Entry, out: &mut [u8]) -> Answer
-    requires { ⌜ Stands shape (stateOf shape (now state)) (now state) × (among (stateOf shape (now state) .early) e ≡ false) ⌝ }
+    requires { ⌜ Stands shape (stateOf shape (now state)) (now state) × (among (stateOf shape (now state) .waiting .early) e ≡ false) ⌝ }
     ensures { λ r. ⌜ left r (now (state .exit)) (now (out .exit)) ≡ closes shape (now (state .entry)) (now (out .entry)) (leaderTakes shape (stateOf shape (now (state .entry))) e) ⌝ }
 {
     if shape.c <= early_count(shape, state) {
-        return Answer::Refused(8);
+        return Answer::Refused(refusal::FULL);
     }
     if !room_for_note(shape, state, e) {
-        return Answer::Refused(8);
+        return Answer::Refused(refusal::FULL);
     }
     if out.len() < notes_length(shape, state, e) {
-        return Answer::Refused(9);
+        return Answer::Refused(refusal::NO_ROOM);
     }
     let sent = tell_notes(shape, state, e, out);
     take_early(shape, state, e);
@@ -236,18 +239,18 @@ pub fn on_note(shape: Shape, state: &mut [u8], m: Message, message: &[u8], out: 
     ensures { λ r. ⌜ left r (now (state .exit)) (now (out .exit)) ≡ handled 3 onNote shape m (now (state .entry)) (now (message .entry)) (now (out .entry)) ⌝ }
 {
     let Message::Note(h) = m else {
-        return Answer::Refused(2);
+        return Answer::Refused(refusal::MALFORMED);
     };
     let from = h.from_group as u64;
-    let e = handler::first_entry(shape, state, m, message, 3);
+    let e = handler::first_entry(shape, state, m, message, kind::TIMESTAMP_NOTE);
     if in_log(shape, state, e) {
-        return Answer::Refused(7);
+        return Answer::Refused(refusal::NOTHING_TO_DO);
     }
     if stamps::is_noted(shape, state, e, from) {
-        return Answer::Refused(7);
+        return Answer::Refused(refusal::NOTHING_TO_DO);
     }
     if !room_for_note(shape, state, e) {
-        return Answer::Refused(8);
+        return Answer::Refused(refusal::FULL);
     }
     keep_and_lift(shape, state, e, from, e.stamp);
     Answer::Done(0)
@@ -265,16 +268,15 @@ pub fn on_transaction(
     ensures { λ r. ⌜ left r (now (state .exit)) (now (out .exit)) ≡ handled 1 onTransaction shape m (now (state .entry)) (now (message .entry)) (now (out .entry)) ⌝ }
 {
     let Message::Transaction(_, send_time, bound) = m else {
-        return Answer::Refused(2);
+        return Answer::Refused(refusal::MALFORMED);
     };
-    let e = handler::first_entry(shape, state, m, message, 1);
-    if known(shape, state, e) {
-        return Answer::Refused(7);
+    let entry = handler::first_entry(shape, state, m, message, kind::TRANSACTION);
+    if known(shape, state, entry) {
+        return Answer::Refused(refusal::NOTHING_TO_DO);
     }
-    let due = send_time + bound;
+    let e = stamps::stamped(send_time + bound, entry);
     if handler::leads(shape, state) {
-        let stamp = stamps::leader_stamp(shape, state, due);
-        return leader_takes(shape, state, stamps::stamped(stamp, e), out);
+        return leader_takes(shape, state, stamps::raised(shape, state, e), out);
     }
-    follower_takes(shape, state, stamps::stamped(due, e), out)
+    follower_takes(shape, state, e, out)
 }

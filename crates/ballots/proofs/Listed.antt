@@ -13,7 +13,7 @@ use Rattle.octets.specs.Bytes.{unle, part, num, items}
 use Rattle.octets.proofs.Codecs.{length-items}
 use Rattle.rules.specs.Choice.{pick, isSome}
 use Rattle.rules.specs.Read.{entryAt}
-use Rattle.rules.specs.Image.{tableLength, voteLength, tableAt, stateOf}
+use Rattle.rules.specs.Image.{tableLength, voteLength, tableAt, stateOf, atLog}
 use Rattle.rules.specs.Step.{ownVote}
 use Rattle.rules.specs.declared.Entry.{Entry}
 use Rattle.rules.specs.declared.Shape.{Shape}
@@ -76,11 +76,11 @@ module _ (sh : Shape) (b msg : List ℕ) (k : Cast) (g : Given sh b msg k) (r : 
   log-sent end e q = rw (at-sender sh b msg k (g .sent) r e) (lists-sent (sh .c) msg (k .at) end (g .long) (g .room) q)
 
   module _ (s : isSome (getD (votesIn sh b msg k) r none) ≡ true) (d : r ≡ k .sender → ⊥) (a e : ℕ) where
-    pub log-own : k .entering ≡ true → a ≡ startOf sh 3 → e ≡ a + tableLength (sh .c) → Lists (sh .c) (voteOf (getD (votesIn sh b msg k) r none) .log) (take (e - a) (drop a b))
+    pub log-own : k .entering ≡ true → a ≡ startOf sh atLog → e ≡ a + tableLength (sh .c) → Lists (sh .c) (voteOf (getD (votesIn sh b msg k) r none) .log) (take (e - a) (drop a b))
     unfolding pick voteOf
     log-own y p q =
         let st = g .sent .stands in
-        let v : getD (votesIn sh b msg k) r none ≡ some (ownVote (stateOf sh b)) = at-own sh b msg k (g .sent) r h d y ∙ go (eqb r (stateOf sh b .replica)) (rw (at-own sh b msg k (g .sent) r h d y) at s) in
+        let v : getD (votesIn sh b msg k) r none ≡ some (ownVote (stateOf sh b)) = at-own sh b msg k (g .sent) r h d y ∙ go (eqb r (stateOf sh b .site .replica)) (rw (at-own sh b msg k (g .sent) r h d y) at s) in
         rw v (lists-table (log-lent (stands-laid st) a (e - a) (st .fits) (stands-fits st .log) p (omega arith)))
       where
         go : (t : Bool) → isSome (pick t (some (ownVote (stateOf sh b))) none) ≡ true → pick t (some (ownVote (stateOf sh b))) none ≡ some (ownVote (stateOf sh b))
@@ -90,6 +90,6 @@ module _ (sh : Shape) (b msg : List ℕ) (k : Cast) (g : Given sh b msg k) (r : 
     pub log-kept : k .entering ≡ false → (p : ℕ) → PlaceAt sh 7 (voteLength (sh .c)) r p → a ≡ p + 13 → e ≡ a + tableLength (sh .c) → Lists (sh .c) (voteOf (getD (votesIn sh b msg k) r none) .log) (take (e - a) (drop a b))
     unfolding voteOf
     log-kept y p f i q =
-        let o : getD (votesIn sh b msg k) r none ≡ getD (stateOf sh b .votes) r none = at-kept sh b msg k (g .sent) r d y in
-        let v = is-some (getD (stateOf sh b .votes) r none) (rw o at s) in
+        let o : getD (votesIn sh b msg k) r none ≡ getD (stateOf sh b .change .votes) r none = at-kept sh b msg k (g .sent) r d y in
+        let v = is-some (getD (stateOf sh b .change .votes) r none) (rw o at s) in
         rw (o ∙ v .1) (lists-table (vote-lent (g .sent .stands) r (v .0) a (e - a) h (v .1) (omega (arith, f .at)) (omega arith)))

@@ -23,7 +23,7 @@ use Rattle.ballots.specs.declared.Best.{Best}
 
 -- the votes kept, or only the own one where the step enters a greater view, and the sender's
 unfoldable pub ballots : Shape → State → Bool → ℕ → Vote → List (Option Vote)
-ballots sh st entering sender v = set (pick entering (set (replicate (sh .n) none) (st .replica) (some (ownVote st))) (st .votes)) sender (some v)
+ballots sh st entering sender v = set (pick entering (set (replicate (sh .n) none) (st .site .replica) (some (ownVote st))) (st .change .votes)) sender (some v)
 
 -- the log in a message: a count at `at`, entries behind it
 abbrev pub sentLog : List ℕ → ℕ → List Entry
@@ -43,7 +43,7 @@ pub record Given (sh : Shape) (b msg : List ℕ) (k : Cast) : Type 0 where
   pub sent : Sent sh b k
   pub long : k .at + 4 + 24 * num msg (k .at) 4 ≤ length msg
   pub room : num msg (k .at) 4 ≤ sh .c
-  pub good : goodLog (sh .s) (stateOf sh b .group) (sentLog msg (k .at)) ≡ true
+  pub good : goodLog (sh .s) (stateOf sh b .site .group) (sentLog msg (k .at)) ≡ true
   pub within : k .sync ≤ num msg (k .at) 4
 
 -- ---- one of them

@@ -7,10 +7,12 @@ use native.Mathlib.Omega.{arith}
 use lib.ListN.{length}
 use Rattle.octets.specs.Bytes.{num, splice}
 use Rattle.octets.proofs.Laws.{Bytes}
-use Rattle.rules.specs.Wire.{Wire, bare, known, wireBytes, tagOf, headerIn}
+use Rattle.rules.specs.Choice.{any}
+use Rattle.rules.specs.Wire.{Wire, wireBytes, tagOf, headerIn}
+use Rattle.rules.specs.Kind.{bare, known, rowOf}
 use Rattle.rules.specs.Read.{wireIn, lengthFor}
 use Rattle.rules.specs.State.{State}
-use Rattle.rules.specs.Image.{image, stateOf}
+use Rattle.rules.specs.Image.{image, stateOf, atLog}
 use Rattle.rules.specs.Step.{Outcome, done, sendLeader, leadsBy, entered, onChangeView}
 use Rattle.rules.specs.Bytes.{Left, leaves, closes}
 use Rattle.rules.specs.declared.Header.{Header}
@@ -39,7 +41,7 @@ module _ (sh : Shape) (st : State) (w : Wire) where
   unfolding onChangeView
   leads q = pick-true (leadsBy sh st w) _ _ q
 
-  follows : leadsBy sh st w ≡ false → onChangeView sh st w ≡ done (entered sh st w) (sendLeader sh (entered sh st w) 8 (st .group) (st .normal ∷ st .sync ∷ []) (st .log) ∷ [])
+  follows : leadsBy sh st w ≡ false → onChangeView sh st w ≡ done (entered sh st w) (sendLeader sh (entered sh st w) 8 (st .site .group) (st .view .normal ∷ st .logged .sync ∷ []) (st .logged .log) ∷ [])
   unfolding onChangeView
   follows q = pick-false (leadsBy sh st w) _ _ q
 
@@ -53,9 +55,11 @@ module _ (sh : Shape) (b msg out : List ℕ) (m : Message) (h : Header) (r : Rea
   w = wireIn (sh .s) msg
 
   kind-known : known (tagOf m) ≡ true
+  unfolding any
   kind-known = ap (λ (x : Message). known (tagOf x)) e
 
   kind-views : bare (tagOf m) ≡ false
+  unfolding rowOf
   kind-views = ap (λ (x : Message). bare (tagOf x)) e
 
   view-is : headerIn m .view ≡ h .view
@@ -68,7 +72,7 @@ module _ (sh : Shape) (b msg out : List ℕ) (m : Message) (h : Header) (r : Rea
   next l = enteredBy sh st (h .view) (viewsOf sh msg) l
 
   abbrev sent-vote : Wire
-  sent-vote = sendLeader sh (next false) 8 (st .group) (st .normal ∷ st .sync ∷ []) (st .log)
+  sent-vote = sendLeader sh (next false) 8 (st .site .group) (st .view .normal ∷ st .logged .sync ∷ []) (st .logged .log)
 
   by-rule : (o : Outcome) → onChangeView sh st w ≡ o → handled 7 onChangeView sh m b msg out ≡ closes sh b out o
   by-rule o q = handled-own 7 onChangeView sh m b msg out (ap tagOf e) ∙ ap (closes sh b out) q
@@ -84,14 +88,14 @@ module _ (sh : Shape) (b msg out : List ℕ) (m : Message) (h : Header) (r : Rea
     change-leads b′ z i =
         sym (by-rule (done (next true) []) (leads sh st w (role-is true z) ∙ ap (λ (x : State). done x []) (next-is true z)) ∙ closes-quiet sh b out (next true) ∙ ap (λ (x : List ℕ). quiet x out) (sym i))
 
-    module _ (z : l ≡ false) (count : ℕ) (c : count ≡ num b (startOf sh 3) 4) where
+    module _ (z : l ≡ false) (count : ℕ) (c : count ≡ num b (startOf sh atLog) 4) where
       after : handled 7 onChangeView sh m b msg out ≡ closes sh b out (done (next false) (sent-vote ∷ []))
-      after = by-rule (done (next false) (sent-vote ∷ [])) (follows sh st w (role-is false z) ∙ ap (λ (x : State). done x (sendLeader sh x 8 (st .group) (st .normal ∷ st .sync ∷ []) (st .log) ∷ [])) (next-is false z))
+      after = by-rule (done (next false) (sent-vote ∷ [])) (follows sh st w (role-is false z) ∙ ap (λ (x : State). done x (sendLeader sh x 8 (st .site .group) (st .view .normal ∷ st .logged .sync ∷ []) (st .logged .log) ∷ [])) (next-is false z))
 
-      table : TableFits (sh .c) (st .log)
+      table : TableFits (sh .c) (st .logged .log)
       table = stands-fits (r .stands) .log
 
-      count-is : count ≡ length (st .log)
+      count-is : count ≡ length (st .logged .log)
       count-is = c ∙ log-counted (stands-laid (r .stands)) table
 
       pub count-small : count < 2 ^ 32
@@ -114,14 +118,14 @@ module _ (sh : Shape) (b msg out : List ℕ) (m : Message) (h : Header) (r : Rea
 
         module _ (need : ℕ) (n : need ≡ lengthFor (sh .s) 8 count) (k : need ≤ length out) (b′ : List ℕ) (i : b′ ≡ image sh (next false)) where
           -- the vote may be told
-          pub change-tells : (num b′ 0 1 < sh .s) × (num b′ (startOf sh 3) 4 ≤ sh .c) × (40 + 4 * sh .s + 24 * num b′ (startOf sh 3) 4 ≤ length out)
+          pub change-tells : (num b′ 0 1 < sh .s) × (num b′ (startOf sh atLog) 4 ≤ sh .c) × (40 + 4 * sh .s + 24 * num b′ (startOf sh atLog) 4 ≤ length out)
           change-tells =
-              let x : num b′ (startOf sh 3) 4 ≡ length (st .log) = log-counted (next-laid b′ i) table in
-              let g : num b′ 0 1 ≡ st .group = own-group (next-laid b′ i) next-sender in
+              let x : num b′ (startOf sh atLog) 4 ≡ length (st .logged .log) = log-counted (next-laid b′ i) table in
+              let g : num b′ 0 1 ≡ st .site .group = own-group (next-laid b′ i) next-sender in
               let y : need ≡ 40 + 4 * sh .s + 24 * count = n ∙ vote-room (sh .s) count in
               (omega (arith, group-below (r .stands)), omega (arith, table .room), omega (arith, count-is))
 
-          pub change-sent : (sent : ℕ) (out′ : List ℕ) → sent ≡ length (messageBytes sh b′ (voteIn sh b′) (logIn sh b′)) → out′ ≡ splice out 0 (messageBytes sh b′ (voteIn sh b′) (logIn sh b′)) → _≡_ {A = Left} (record { number = 0; sent = sent; state = b′; out = out′ }) (handled 7 onChangeView sh m b msg out)
+          pub change-sent : (sent : ℕ) (out′ : List ℕ) → sent ≡ length (messageBytes sh b′ (voteIn sh b′) (logIn sh b′)) → out′ ≡ splice out 0 (messageBytes sh b′ (voteIn sh b′) (logIn sh b′)) → _≡_ {A = Left} (record { refused = false; number = 0; sent = sent; state = b′; out = out′ }) (handled 7 onChangeView sh m b msg out)
           change-sent sent out′ v o =
               let f = stands-fits (r .stands) in
               let x = vote-sent (next-laid b′ i) table next-sender (group-below (r .stands)) (f .normal) (f .sync) in

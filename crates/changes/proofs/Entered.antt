@@ -10,10 +10,11 @@ use lib.Dec.{eqb, lit<, lit≤}
 use Rattle.octets.specs.Bytes.{le, num, splice}
 use Rattle.octets.proofs.Laws.{Bytes, length-le}
 use Rattle.octets.proofs.Codecs.{getD-items}
+use Rattle.rules.specs.Kind.{rowOf}
 use Rattle.rules.specs.Choice.{pick}
 use Rattle.rules.specs.Wire.{Wire}
 use Rattle.rules.specs.State.{State}
-use Rattle.rules.specs.Image.{voteLength, voteBytes, image}
+use Rattle.rules.specs.Image.{voteLength, voteBytes, image, atEarly, atVotes}
 use Rattle.rules.specs.Step.{entered}
 use Rattle.rules.specs.declared.Shape.{Shape}
 use Rattle.places.specs.Layout.{startOf, ownBytes, Laid, Stands}
@@ -31,8 +32,8 @@ use Rattle.changes.specs.Changes.{leadsWith, enteredBy}
 -- by the views of a message the own replica leads or not
 pub leads-with : {sh : Shape} {st : State} {b : List ℕ} (s : Stands sh st b) (msg : List ℕ) (own view replica : ℕ) (r : Bool) → own ≡ num b 0 1 → view ≡ num msg (16 + 4 * own) 4 → replica ≡ num b 1 1 → r ≡ eqb replica (view % sh .n) → r ≡ leadsWith sh st (viewsOf sh msg)
 leads-with {sh} {st} s msg own view replica r e v q h =
-    let g : own ≡ st .group = e ∙ group-of s in
-    let x : getD (viewsOf sh msg) (st .group) 0 ≡ num msg (16 + 4 * st .group) 4 = getD-items (λ a. num msg a 4) 4 16 (sh .s) (st .group) 0 (group-below s) in
+    let g : own ≡ st .site .group = e ∙ group-of s in
+    let x : getD (viewsOf sh msg) (st .site .group) 0 ≡ num msg (16 + 4 * st .site .group) 4 = getD-items (λ a. num msg a 4) 4 16 (sh .s) (st .site .group) 0 (group-below s) in
     h ∙ rw (q ∙ replica-of s, v, g, x)
 
 even-none : (c n : ℕ) → Even (voteBytes c) (voteLength c) (replicate n none)
@@ -41,7 +42,7 @@ even-none c zero = tt
 even-none c (suc n) = (length-replicate {A = ℕ} (voteLength c) 0, even-none c n)
 
 module _ {sh : Shape} {st : State} {b : List ℕ} (s : Stands sh st b) (view : ℕ) (msg : List ℕ) (bs : Bytes msg) (h : 16 + 4 * sh .s ≤ length msg) {b₁ b₂ b₃ b₄ : List ℕ}
-    (w₁ : b₁ ≡ takenIn sh b view msg) (w₂ : b₂ ≡ splice b₁ 2 (le 1 2)) (w₃ : b₃ ≡ splice b₂ 40 (le 8 0)) (w₄ : b₄ ≡ splice b₃ (startOf sh 4) (replicate (tablesLength sh) 0)) where
+    (w₁ : b₁ ≡ takenIn sh b view msg) (w₂ : b₂ ≡ splice b₁ 2 (le 1 2)) (w₃ : b₃ ≡ splice b₂ 40 (le 8 0)) (w₄ : b₄ ≡ splice b₃ (startOf sh atEarly) (replicate (tablesLength sh) 0)) where
   -- without a vote
   pub entered-follows : Laid sh (enteredBy sh st view (viewsOf sh msg) false) b₄
   unfolding pick
@@ -54,12 +55,12 @@ module _ {sh : Shape} {st : State} {b : List ℕ} (s : Stands sh st b) (view : �
   pub entered-own : num b₄ 1 1 < sh .n
   entered-own =
       let f = stands-fits s in
-      let e : num b₄ 1 1 ≡ st .replica = get-head entered-follows 1 1 1 (st .replica) (lit< tt) (simp length-le) (lit≤ tt) refl (f .replica) in
+      let e : num b₄ 1 1 ≡ st .site .replica = get-head entered-follows 1 1 1 (st .site .replica) (lit< tt) (simp length-le) (lit≤ tt) refl (f .replica) in
       omega (arith, replica-below s)
 
   -- and is kept
-  pub entered-leader : {b₅ : List ℕ} (leads : Bool) → leads ≡ true → b₅ ≡ splice b₄ (startOf sh 7 + voteLength (sh .c) * num b₄ 1 1) (ownBytes sh b₄) → b₅ ≡ image sh (enteredBy sh st view (viewsOf sh msg) leads)
-  unfolding pick
+  pub entered-leader : {b₅ : List ℕ} (leads : Bool) → leads ≡ true → b₅ ≡ splice b₄ (startOf sh atVotes + voteLength (sh .c) * num b₄ 1 1) (ownBytes sh b₄) → b₅ ≡ image sh (enteredBy sh st view (viewsOf sh msg) leads)
+  unfolding pick rowOf
   entered-leader leads e w =
       let f = stands-fits s in
       rw e (put-own-vote entered-follows (even-none (sh .c) (sh .n)) (f .log .room) (replica-below s) (f .replica) (f .normal) (f .sync) w .bytes)

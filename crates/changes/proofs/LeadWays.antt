@@ -1,6 +1,7 @@
 -- The ways through the start of a view by its leader. Assumes nothing.
 use Prim.Native.Nat.{ℕ, _+_, _*_, _^_, _≤_, _<_}
 use mathlib.Core.Path.{_≡_, refl, sym, ap, _∙_}
+use mathlib.Core.Bool.{false}
 use mathlib.Core.List.{List}
 use native.Mathlib.Omega.{arith}
 use lib.ListN.{length}
@@ -9,7 +10,7 @@ use Rattle.octets.proofs.Laws.{Bytes}
 use Rattle.rules.specs.Wire.{Wire, wireBytes}
 use Rattle.rules.specs.Read.{lengthFor, entryAt}
 use Rattle.rules.specs.State.{State}
-use Rattle.rules.specs.Image.{tableAt, image}
+use Rattle.rules.specs.Image.{tableAt, image, atLog}
 use Rattle.rules.specs.Step.{sendFollowers, started}
 use Rattle.rules.specs.Bytes.{Left, leaves, closes}
 use Rattle.rules.specs.declared.Entry.{Entry}
@@ -63,14 +64,14 @@ module _ {sh : Shape} {st : State} {b : List ℕ} (s : Stands sh st b) (view : �
     begun-is = w ∙ ap (λ (es : List Entry). image sh (started sh st view (viewsOf sh msg) es)) (table-row (sh .c) draft number t n)
 
     -- the log may be told
-    pub lead-tells : (num b′ 1 1 < sh .n) × (num b′ (startOf sh 3) 4 ≤ sh .c) × (24 + 4 * sh .s + 24 * num b′ (startOf sh 3) 4 ≤ length out)
+    pub lead-tells : (num b′ 1 1 < sh .n) × (num b′ (startOf sh atLog) 4 ≤ sh .c) × (24 + 4 * sh .s + 24 * num b′ (startOf sh atLog) 4 ≤ length out)
     lead-tells =
-        let x : num b′ (startOf sh 3) 4 ≡ length log = log-counted (next-laid b′ begun-is) table in
-        let g : num b′ 1 1 ≡ st .replica = own-replica (next-laid b′ begun-is) next-sender in
+        let x : num b′ (startOf sh atLog) 4 ≡ length log = log-counted (next-laid b′ begun-is) table in
+        let g : num b′ 1 1 ≡ st .site .replica = own-replica (next-laid b′ begun-is) next-sender in
         let y : need ≡ 24 + 4 * sh .s + 24 * number = e ∙ start-room (sh .s) number in
         (omega (arith, replica-below s), omega (arith, table .room), omega (arith, number-is))
 
-    pub lead-sent : (sent : ℕ) (out′ : List ℕ) → sent ≡ length (messageBytes sh b′ (startIn sh b′) (logIn sh b′)) → out′ ≡ splice out 0 (messageBytes sh b′ (startIn sh b′) (logIn sh b′)) → _≡_ {A = Left} (record { number = 0; sent = sent; state = b′; out = out′ }) (closes sh b out (ledBy sh st view (viewsOf sh msg) log))
+    pub lead-sent : (sent : ℕ) (out′ : List ℕ) → sent ≡ length (messageBytes sh b′ (startIn sh b′) (logIn sh b′)) → out′ ≡ splice out 0 (messageBytes sh b′ (startIn sh b′) (logIn sh b′)) → _≡_ {A = Left} (record { refused = false; number = 0; sent = sent; state = b′; out = out′ }) (closes sh b out (ledBy sh st view (viewsOf sh msg) log))
     lead-sent sent out′ q o =
         let x = start-sent (next-laid b′ begun-is) table next-sender in
         let g : length (wireBytes sent-log) ≤ length out = rw (long, ← e) k in

@@ -9,12 +9,13 @@ use Rattle.octets.specs.Bytes.{le, num, part, flat}
 use Rattle.octets.proofs.Laws.{length-le, part-past, part-front}
 use Rattle.octets.proofs.Sections.{part-whole}
 use Rattle.octets.proofs.Codecs.{back-number}
+use Rattle.rules.specs.Kind.{rowOf}
 use Rattle.rules.specs.Choice.{pick}
 use Rattle.rules.specs.Group.{only, others, leader}
 use Rattle.rules.specs.Wire.{entryBytes, wireBytes}
 use Rattle.rules.specs.Read.{lengthFor}
 use Rattle.rules.specs.State.{State}
-use Rattle.rules.specs.Image.{zeroBytes, tableBytes}
+use Rattle.rules.specs.Image.{zeroBytes, tableBytes, atGVec, atLog}
 use Rattle.rules.specs.Step.{sendLeader, sendFollowers}
 use Rattle.rules.specs.declared.Header.{Header}
 use Rattle.rules.specs.declared.Shape.{Shape}
@@ -29,14 +30,14 @@ use Rattle.handler.proofs.Sends.{Sender, sent-length, own-group, own-replica, v
 use Rattle.changes.specs.Changes.{logIn, voteIn, startIn}
 
 -- the log as it is lent
-pub log-lent : (sh : Shape) (b : List ℕ) (start count end : ℕ) → start ≡ startOf sh 3 + 4 → count ≡ num b (startOf sh 3) 4 → end ≡ start + 24 * count → take (end - start) (drop start b) ≡ logIn sh b
+pub log-lent : (sh : Shape) (b : List ℕ) (start count end : ℕ) → start ≡ startOf sh atLog + 4 → count ≡ num b (startOf sh atLog) 4 → end ≡ start + 24 * count → take (end - start) (drop start b) ≡ logIn sh b
 unfolding part
 log-lent sh b start count end e q h =
     let n : end - start ≡ 24 * count = omega arith in
     rw (n, e, q)
 
 -- the cases from what is read
-pub vote-case : (sh : Shape) (b : List ℕ) (own view mask normal sync : ℕ) (h : Header) → own ≡ num b 0 1 → view ≡ num b (startOf sh 1 + 4 * own) 4 → mask ≡ only (view % sh .n) → h ≡ headedIn b 8 own mask → normal ≡ num b 12 4 → sync ≡ num b 24 8 → Vote h normal sync ≡ voteIn sh b
+pub vote-case : (sh : Shape) (b : List ℕ) (own view mask normal sync : ℕ) (h : Header) → own ≡ num b 0 1 → view ≡ num b (startOf sh atGVec + 4 * own) 4 → mask ≡ only (view % sh .n) → h ≡ headedIn b 8 own mask → normal ≡ num b 12 4 → sync ≡ num b 24 8 → Vote h normal sync ≡ voteIn sh b
 vote-case sh b own view mask normal sync h o v t e n y = rw (e, t, v, o, n, y)
 
 pub start-case : (sh : Shape) (b : List ℕ) (own replica mask : ℕ) (h : Header) → own ≡ num b 0 1 → replica ≡ num b 1 1 → mask ≡ others (sh .n) replica → h ≡ headedIn b 9 own mask → StartView h ≡ startIn sh b
@@ -44,54 +45,54 @@ start-case sh b own replica mask h o r t e = rw (e, t, r, o)
 
 -- how long the two kinds are
 pub vote-room : (s k : ℕ) → lengthFor s 8 k ≡ 40 + 4 * s + 24 * k
-unfolding pick
+unfolding pick rowOf
 vote-room s k = omega arith
 
 pub start-room : (s k : ℕ) → lengthFor s 9 k ≡ 24 + 4 * s + 24 * k
-unfolding pick
+unfolding pick rowOf
 start-room s k = omega arith
 
-module _ {sh : Shape} {st : State} {b : List ℕ} (l : Laid sh st b) (t : TableFits (sh .c) (st .log)) where
-  pub log-counted : num b (startOf sh 3) 4 ≡ length (st .log)
+module _ {sh : Shape} {st : State} {b : List ℕ} (l : Laid sh st b) (t : TableFits (sh .c) (st .logged .log)) where
+  pub log-counted : num b (startOf sh atLog) 4 ≡ length (st .logged .log)
   unfolding tableBytes
   log-counted =
-      back-number 4 b (startOf sh 3) (length (st .log)) _ (omega (arith, t .room, t .counted))
-      (drop-all l 3 (startOf sh 3) (lit< tt) refl ∙ append-assoc (le 4 (length (st .log))) (flat entryBytes (st .log) ++ zeroBytes (24 * (sh .c - length (st .log)))) _)
+      back-number 4 b (startOf sh atLog) (length (st .logged .log)) _ (omega (arith, t .room, t .counted))
+      (drop-all l 3 (startOf sh atLog) (lit< tt) refl ∙ append-assoc (le 4 (length (st .logged .log))) (flat entryBytes (st .logged .log) ++ zeroBytes (24 * (sh .c - length (st .logged .log)))) _)
 
-  log-block : logIn sh b ≡ flat entryBytes (st .log)
+  log-block : logIn sh b ≡ flat entryBytes (st .logged .log)
   unfolding tableBytes
   log-block =
-      let n = 24 * length (st .log) in
-      let x = flat entryBytes (st .log) in
-      let z = zeroBytes (24 * (sh .c - length (st .log))) in
-      let m : length x ≡ n = flat-long entryBytes 24 long-entry (st .log) in
-      ap (λ (k : ℕ). part b (startOf sh 3 + 4) (24 * k)) log-counted
-      ∙ get-in l 3 4 (startOf sh 3 + 4) n (lit< tt) refl (omega (arith, t .room))
-      ∙ part-past (le 4 (length (st .log))) (x ++ z) 4 4 n (length-le 4 (length (st .log))) (lit≤ tt)
+      let n = 24 * length (st .logged .log) in
+      let x = flat entryBytes (st .logged .log) in
+      let z = zeroBytes (24 * (sh .c - length (st .logged .log))) in
+      let m : length x ≡ n = flat-long entryBytes 24 long-entry (st .logged .log) in
+      ap (λ (k : ℕ). part b (startOf sh atLog + 4) (24 * k)) log-counted
+      ∙ get-in l 3 4 (startOf sh atLog + 4) n (lit< tt) refl (omega (arith, t .room))
+      ∙ part-past (le 4 (length (st .logged .log))) (x ++ z) 4 4 n (length-le 4 (length (st .logged .log))) (lit≤ tt)
       ∙ part-front x z 0 n (omega arith)
       ∙ part-whole x n (omega arith)
 
   module _ (f : Sender sh st) where
     -- kind 8
-    pub vote-sent : st .group < sh .s → st .normal < 256 ^ 4 → st .sync < 256 ^ 8 → messageBytes sh b (voteIn sh b) (logIn sh b) ≡ wireBytes (sendLeader sh st 8 (st .group) (st .normal ∷ st .sync ∷ []) (st .log))
+    pub vote-sent : st .site .group < sh .s → st .view .normal < 256 ^ 4 → st .logged .sync < 256 ^ 8 → messageBytes sh b (voteIn sh b) (logIn sh b) ≡ wireBytes (sendLeader sh st 8 (st .site .group) (st .view .normal ∷ st .logged .sync ∷ []) (st .logged .log))
     vote-sent h fn fs =
-        let en : num b 12 4 ≡ st .normal = get-head l 5 12 4 (st .normal) (lit< tt) (simp length-le) (lit≤ tt) refl fn in
-        let es : num b 24 8 ≡ st .sync = get-head l 7 24 8 (st .sync) (lit< tt) (simp length-le) (lit≤ tt) refl fs in
-        message-sent l f (voteIn sh b) (logIn sh b) 8 (st .group) (only (leader (sh .n) (st .gVec) (st .group))) (st .normal ∷ st .sync ∷ []) (st .log)
-        (ap (λ (g : ℕ). headedIn b 8 g (only (leaderIn sh b g))) (own-group l f) ∙ ap (λ (v : ℕ). headedIn b 8 (st .group) (only (v % sh .n))) (view-in l f (st .group) h))
+        let en : num b 12 4 ≡ st .view .normal = get-head l 5 12 4 (st .view .normal) (lit< tt) (simp length-le) (lit≤ tt) refl fn in
+        let es : num b 24 8 ≡ st .logged .sync = get-head l 7 24 8 (st .logged .sync) (lit< tt) (simp length-le) (lit≤ tt) refl fs in
+        message-sent l f (voteIn sh b) (logIn sh b) 8 (st .site .group) (only (leader (sh .n) (st .view .gVec) (st .site .group))) (st .view .normal ∷ st .logged .sync ∷ []) (st .logged .log)
+        (ap (λ (g : ℕ). headedIn b 8 g (only (leaderIn sh b g))) (own-group l f) ∙ ap (λ (v : ℕ). headedIn b 8 (st .site .group) (only (v % sh .n))) (view-in l f (st .site .group) h))
         (rw (en, es)) log-block (t .each)
 
-    pub vote-long : length (wireBytes (sendLeader sh st 8 (st .group) (st .normal ∷ st .sync ∷ []) (st .log))) ≡ lengthFor (sh .s) 8 (length (st .log))
-    unfolding pick
-    vote-long = sent-length (sh .s) st 8 (st .group) (only (leader (sh .n) (st .gVec) (st .group))) (st .normal ∷ st .sync ∷ []) (st .log) (f .places) refl refl
+    pub vote-long : length (wireBytes (sendLeader sh st 8 (st .site .group) (st .view .normal ∷ st .logged .sync ∷ []) (st .logged .log))) ≡ lengthFor (sh .s) 8 (length (st .logged .log))
+    unfolding pick rowOf
+    vote-long = sent-length (sh .s) st 8 (st .site .group) (only (leader (sh .n) (st .view .gVec) (st .site .group))) (st .view .normal ∷ st .logged .sync ∷ []) (st .logged .log) (f .places) refl refl
 
     -- kind 9
-    pub start-sent : messageBytes sh b (startIn sh b) (logIn sh b) ≡ wireBytes (sendFollowers sh st 9 (st .log))
+    pub start-sent : messageBytes sh b (startIn sh b) (logIn sh b) ≡ wireBytes (sendFollowers sh st 9 (st .logged .log))
     start-sent =
-        message-sent l f (startIn sh b) (logIn sh b) 9 (st .group) (others (sh .n) (st .replica)) [] (st .log)
-        (ap (λ (g : ℕ). headedIn b 9 g (others (sh .n) (num b 1 1))) (own-group l f) ∙ ap (λ (r : ℕ). headedIn b 9 (st .group) (others (sh .n) r)) (own-replica l f))
+        message-sent l f (startIn sh b) (logIn sh b) 9 (st .site .group) (others (sh .n) (st .site .replica)) [] (st .logged .log)
+        (ap (λ (g : ℕ). headedIn b 9 g (others (sh .n) (num b 1 1))) (own-group l f) ∙ ap (λ (r : ℕ). headedIn b 9 (st .site .group) (others (sh .n) r)) (own-replica l f))
         refl log-block (t .each)
 
-    pub start-long : length (wireBytes (sendFollowers sh st 9 (st .log))) ≡ lengthFor (sh .s) 9 (length (st .log))
-    unfolding pick
-    start-long = sent-length (sh .s) st 9 (st .group) (others (sh .n) (st .replica)) [] (st .log) (f .places) refl refl
+    pub start-long : length (wireBytes (sendFollowers sh st 9 (st .logged .log))) ≡ lengthFor (sh .s) 9 (length (st .logged .log))
+    unfolding pick rowOf
+    start-long = sent-length (sh .s) st 9 (st .site .group) (others (sh .n) (st .site .replica)) [] (st .logged .log) (f .places) refl refl

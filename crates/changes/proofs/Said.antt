@@ -8,7 +8,8 @@ use lib.ListN.{length}
 use lib.Dec.{eqb}
 use Rattle.octets.proofs.Laws.{Bytes}
 use Rattle.rules.specs.Group.{leader}
-use Rattle.rules.specs.Wire.{bare, known, viewsIn, tagOf, headerIn}
+use Rattle.rules.specs.Kind.{bare, known, viewsIn}
+use Rattle.rules.specs.Wire.{tagOf, headerIn}
 use Rattle.rules.specs.Read.{wireIn}
 use Rattle.rules.specs.Image.{stateOf}
 use Rattle.rules.specs.Step.{leadsBy}
@@ -42,4 +43,4 @@ module _ (sh : Shape) (b msg : List ℕ) (m : Message) (r : Ready sh b m msg) (k
         omega (arith, told-length (sh .n) (sh .s) m msg told-so)
 
     pub leads-said : (leads : Bool) → leads ≡ leadsWith sh (stateOf sh b) (viewsOf sh msg) → leads ≡ leadsBy sh (stateOf sh b) (wireIn (sh .s) msg)
-    leads-said leads e = e ∙ ap (λ (g : List ℕ). eqb (stateOf sh b .replica) (leader (sh .n) g (stateOf sh b .group))) (sym views-said)
+    leads-said leads e = e ∙ ap (λ (g : List ℕ). eqb (stateOf sh b .site .replica) (leader (sh .n) g (stateOf sh b .site .group))) (sym views-said)

@@ -8,7 +8,9 @@ use mathlib.Core.Bool.{true, false}
 use lib.Dec.{leb}
 use borrow.Author.Tests.{le-leb, lt-leb}
 use Rattle.octets.specs.Bytes.{num, items}
-use Rattle.rules.specs.Wire.{Wire, bare, known, tagOf, headerIn}
+use Rattle.rules.specs.Choice.{any}
+use Rattle.rules.specs.Wire.{Wire, tagOf, headerIn}
+use Rattle.rules.specs.Kind.{bare, known, rowOf}
 use Rattle.rules.specs.Read.{wireIn, entriesAt, lengthFor, entryAt}
 use Rattle.rules.specs.State.{State}
 use Rattle.rules.specs.Image.{image, stateOf}
@@ -49,9 +51,11 @@ module _ (sh : Shape) (b msg out : List ℕ) (m : Message) (h : Header) (r : Rea
   w = wireIn (sh .s) msg
 
   kind-known : known (tagOf m) ≡ true
+  unfolding any
   kind-known = ap (λ (x : Message). known (tagOf x)) e
 
   kind-views : bare (tagOf m) ≡ false
+  unfolding rowOf
   kind-views = ap (λ (x : Message). bare (tagOf x)) e
 
   kind-is : tagOf m ≡ 9

@@ -8,7 +8,7 @@ use lib.Dec.{eqb}
 use Rattle.octets.specs.Bytes.{num, part}
 use Rattle.rules.specs.Choice.{pick}
 use Rattle.rules.specs.Group.{leader, only, others}
-use Rattle.rules.specs.State.{Vote, State}
+use Rattle.rules.specs.State.{Vote, State, inView, withWaiting, withChange, noneWait}
 use Rattle.rules.specs.Step.{Outcome, done, sendFollowers, ownVote, started}
 use Rattle.rules.specs.declared.Entry.{Entry}
 use Rattle.rules.specs.declared.Shape.{Shape}
@@ -16,40 +16,24 @@ use Rattle.rules.specs.declared.Message.{Message}
 use Rattle.rules.specs.declared.Message.the-variants as cases
 use Rattle.places.specs.Layout.{startOf}
 use Rattle.handler.specs.Sending.{headedIn, leaderIn}
+use Rattle.rules.specs.Image.{atLog}
 
 -- ---- states
 
 -- whether the own replica leads its group by a gVec
 abbrev pub leadsWith : Shape → State → List ℕ → Bool
-leadsWith sh st gVec = eqb (st .replica) (leader (sh .n) gVec (st .group))
+leadsWith sh st gVec = eqb (st .site .replica) (leader (sh .n) gVec (st .site .group))
 
 -- a leader's own vote alone, or none
 abbrev pub firstKept : Shape → State → Bool → List (Option Vote)
-firstKept sh st leads = pick leads (set (replicate (sh .n) none) (st .replica) (some (ownVote st))) (replicate (sh .n) none)
+firstKept sh st leads = pick leads (set (replicate (sh .n) none) (st .site .replica) (some (ownVote st))) (replicate (sh .n) none)
 
 -- a view entered, by whether the site leads in it
 abbrev pub enteredBy : Shape → State → ℕ → List ℕ → Bool → State
 enteredBy sh st view gVec leads =
-    record {
-      group = st .group;
-      replica = st .replica;
-      view = view;
-      gVec = gVec;
-      normal = st .normal;
-      status = 2;
-      clock = st .clock;
-      sync = st .sync;
-      commit = st .commit;
-      log = st .log;
-      early = [];
-      late = [];
-      notes = [];
-      votes = firstKept sh st leads;
-      draft = [];
-      boundary = 0;
-      replies = replicate (sh .s) none;
-      heard = st .heard;
-    }
+    inView (record { gView = view; gVec = gVec; normal = st .view .normal; status = 2 })
+    (withWaiting noneWait
+    (withChange (record { votes = firstKept sh st leads; draft = []; boundary = 0; replies = replicate (sh .s) none }) st))
 
 -- a view started by its leader, who sends the log to all followers
 abbrev pub ledBy : Shape → State → ℕ → List ℕ → List Entry → Outcome
@@ -59,7 +43,7 @@ ledBy sh st view gVec draft = done (started sh st view gVec draft) (sendFollower
 
 -- the entries of the log, as they stand
 abbrev pub logIn : Shape → List ℕ → List ℕ
-logIn sh b = part b (startOf sh 3 + 4) (24 * num b (startOf sh 3) 4)
+logIn sh b = part b (startOf sh atLog + 4) (24 * num b (startOf sh atLog) 4)
 
 -- ---- what is sent
 

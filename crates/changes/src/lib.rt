@@ -2,12 +2,15 @@
 use rules::Answer;
 use rules::Message;
 use rules::Shape;
+use rules::kind;
+use rules::refusal;
+use rules::status;
 ghost use mathlib.Core.Path.{_≡_};
 ghost use Prim.Native.Nat.{_+_, _*_, _≤_, _<_};
 ghost use lib.ListN.{length};
 ghost use Rattle.octets.specs.Bytes.{num, splice};
 ghost use Rattle.rules.specs.Wire.{numbersOf};
-ghost use Rattle.rules.specs.Image.{tableAt, image, stateOf};
+ghost use Rattle.rules.specs.Image.{tableAt, image, stateOf, atLog};
 ghost use Rattle.rules.specs.Step.{onChangeView, onStartView};
 ghost use Rattle.rules.specs.Bytes.{left, closes};
 ghost use Rattle.entries.specs.Table.{Table};
@@ -25,7 +28,7 @@ pub fn enter(shape: Shape, state: &mut [u8], view: u32, leads: bool, message: &[
     ensures { λ _. ⌜ now (state .exit) ≡ image shape (enteredBy shape (stateOf shape (now (state .entry))) view (viewsOf shape (now (message .entry))) leads) ⌝ }
 {
     views::take_view(shape, state, view, message);
-    places::put_status(state, 2);
+    places::put_status(state, status::VIEW_CHANGE);
     places::put_boundary(state, 0);
     views::empty_tables(shape, state);
     if leads {
@@ -48,7 +51,7 @@ pub fn leads_by(shape: Shape, state: &[u8], message: &[u8]) -> bool
 // How many entries the log has.
 fn log_count(shape: Shape, state: &[u8]) -> usize
     requires { ⌜ Sized shape (now state) ⌝ }
-    ensures { λ r. ⌜ r ≡ num (now (state .entry)) (startOf shape 3) 4 ⌝ }
+    ensures { λ r. ⌜ r ≡ num (now (state .entry)) (startOf shape atLog) 4 ⌝ }
 {
     let place = places::places_of(shape).log;
     octets::get32(state, place) as usize
@@ -56,7 +59,7 @@ fn log_count(shape: Shape, state: &[u8]) -> usize
 
 // Writes a message with the log, lent as it stands, first into the outgoing buffer, and says where it ends.
 fn tell_log(shape: Shape, state: &[u8], out: &mut [u8], m: Message) -> usize
-    requires { ⌜ Sized shape (now state) × (num (now state) (startOf shape 3) 4 ≤ shape .c) × (24 + 4 * shape .s + 8 * length (numbersOf m) + 24 * num (now state) (startOf shape 3) 4 ≤ length (now out)) ⌝ }
+    requires { ⌜ Sized shape (now state) × (num (now state) (startOf shape atLog) 4 ≤ shape .c) × (24 + 4 * shape .s + 8 * length (numbersOf m) + 24 * num (now state) (startOf shape atLog) 4 ≤ length (now out)) ⌝ }
     ensures { λ r. ⌜ (r ≡ length (messageBytes shape (now (state .entry)) m (logIn shape (now (state .entry))))) × (now (out .exit) ≡ splice (now (out .entry)) 0 (messageBytes shape (now (state .entry)) m (logIn shape (now (state .entry))))) ⌝ }
 {
     let start = places::places_of(shape).log + 4;
@@ -66,12 +69,12 @@ fn tell_log(shape: Shape, state: &[u8], out: &mut [u8], m: Message) -> usize
 
 // Kind 8 to the leader of the own group: last normal gView, sync point and log.
 fn tell_vote(shape: Shape, state: &[u8], out: &mut [u8]) -> usize
-    requires { ⌜ Sized shape (now state) × (num (now state) 0 1 < shape .s) × (num (now state) (startOf shape 3) 4 ≤ shape .c) × (40 + 4 * shape .s + 24 * num (now state) (startOf shape 3) 4 ≤ length (now out)) ⌝ }
+    requires { ⌜ Sized shape (now state) × (num (now state) 0 1 < shape .s) × (num (now state) (startOf shape atLog) 4 ≤ shape .c) × (40 + 4 * shape .s + 24 * num (now state) (startOf shape atLog) 4 ≤ length (now out)) ⌝ }
     ensures { λ r. ⌜ (r ≡ length (messageBytes shape (now (state .entry)) (voteIn shape (now (state .entry))) (logIn shape (now (state .entry))))) × (now (out .exit) ≡ splice (now (out .entry)) 0 (messageBytes shape (now (state .entry)) (voteIn shape (now (state .entry))) (logIn shape (now (state .entry))))) ⌝ }
 {
     let own = octets::get8(state, 0);
     let leader = places::view_at(shape, state, own as u64) as u64 % shape.n;
-    let h = handler::headed(state, 8, own, group::only(leader));
+    let h = handler::headed(state, kind::VOTE, own, group::only(leader));
     let normal = places::get_normal(state) as u64;
     let m = Message::Vote(h, normal, places::get_sync(state));
     tell_log(shape, state, out, m)
@@ -79,12 +82,12 @@ fn tell_vote(shape: Shape, state: &[u8], out: &mut [u8]) -> usize
 
 // Kind 9 to all followers: the log.
 fn tell_start(shape: Shape, state: &[u8], out: &mut [u8]) -> usize
-    requires { ⌜ Sized shape (now state) × (num (now state) 1 1 < shape .n) × (num (now state) (startOf shape 3) 4 ≤ shape .c) × (24 + 4 * shape .s + 24 * num (now state) (startOf shape 3) 4 ≤ length (now out)) ⌝ }
+    requires { ⌜ Sized shape (now state) × (num (now state) 1 1 < shape .n) × (num (now state) (startOf shape atLog) 4 ≤ shape .c) × (24 + 4 * shape .s + 24 * num (now state) (startOf shape atLog) 4 ≤ length (now out)) ⌝ }
     ensures { λ r. ⌜ (r ≡ length (messageBytes shape (now (state .entry)) (startIn shape (now (state .entry))) (logIn shape (now (state .entry))))) × (now (out .exit) ≡ splice (now (out .entry)) 0 (messageBytes shape (now (state .entry)) (startIn shape (now (state .entry))) (logIn shape (now (state .entry))))) ⌝ }
 {
     let own = octets::get8(state, 0);
     let mask = group::others(shape.n, places::get_replica(state));
-    let h = handler::headed(state, 9, own, mask);
+    let h = handler::headed(state, kind::START_VIEW, own, mask);
     let m = Message::StartView(h);
     tell_log(shape, state, out, m)
 }
@@ -103,7 +106,7 @@ pub fn on_change_view(
     ensures { λ r. ⌜ left r (now (state .exit)) (now (out .exit)) ≡ handled 7 onChangeView shape m (now (state .entry)) (now (message .entry)) (now (out .entry)) ⌝ }
 {
     let Message::ChangeView(h) = m else {
-        return Answer::Refused(2);
+        return Answer::Refused(refusal::MALFORMED);
     };
     let view = h.view;
     if leads_by(shape, state, message) {
@@ -111,8 +114,8 @@ pub fn on_change_view(
         return Answer::Done(0);
     }
     let count = log_count(shape, state);
-    if out.len() < kinds::length_for(shape.s, 8, count) {
-        return Answer::Refused(9);
+    if out.len() < kinds::length_for(shape.s, kind::VOTE, count) {
+        return Answer::Refused(refusal::NO_ROOM);
     }
     enter(shape, state, view, false, message);
     let sent = tell_vote(shape, state, out);
@@ -133,13 +136,13 @@ pub fn on_start_view(
     ensures { λ r. ⌜ left r (now (state .exit)) (now (out .exit)) ≡ handled 9 onStartView shape m (now (state .entry)) (now (message .entry)) (now (out .entry)) ⌝ }
 {
     let Message::StartView(h) = m else {
-        return Answer::Refused(2);
+        return Answer::Refused(refusal::MALFORMED);
     };
     let view = h.view;
-    let at = kinds::entries_at(shape.s, 9);
+    let at = kinds::entries_at(shape.s, kind::START_VIEW);
     let number = octets::get32(message, at) as usize;
     if (shape.c as usize) < number {
-        return Answer::Refused(8);
+        return Answer::Refused(refusal::FULL);
     }
     views::begin(shape, state, view, message, message, at + 4, number);
     Answer::Done(0)
@@ -158,8 +161,8 @@ pub fn start_leading(
     ensures { λ r. ⌜ left r (now (state .exit)) (now (out .exit)) ≡ closes shape (now (state .entry)) (now (out .entry)) (ledBy shape (stateOf shape (now (state .entry))) view (viewsOf shape (now (message .entry))) (tableAt (shape .c) (now (draft .entry)) 0)) ⌝ }
 {
     let number = entries::count(draft);
-    if out.len() < kinds::length_for(shape.s, 9, number) {
-        return Answer::Refused(9);
+    if out.len() < kinds::length_for(shape.s, kind::START_VIEW, number) {
+        return Answer::Refused(refusal::NO_ROOM);
     }
     views::begin(shape, state, view, message, draft, 4, number);
     let sent = tell_start(shape, state, out);

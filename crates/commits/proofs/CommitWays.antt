@@ -8,8 +8,9 @@ use lib.ListN.{length, getD}
 use lib.Dec.{ltb, leb}
 use borrow.Author.Tests.{lt-ltb, le-ltb, le-leb, lt-leb}
 use Rattle.octets.specs.Bytes.{le, num, splice}
-use Rattle.rules.specs.Choice.{pick}
-use Rattle.rules.specs.Wire.{Wire, known, tagOf, numbersOf}
+use Rattle.rules.specs.Choice.{pick, any}
+use Rattle.rules.specs.Wire.{Wire, tagOf, numbersOf}
+use Rattle.rules.specs.Kind.{known}
 use Rattle.rules.specs.Wire as wires
 use Rattle.rules.specs.Read.{wireIn}
 use Rattle.rules.specs.State.{State}
@@ -28,21 +29,21 @@ use Rattle.handler.proofs.Told.{told, told-number}
 use Rattle.handler.proofs.Closes.{quiet, closes-refused, closes-quiet, handled-own}
 
 -- the rule at a point
-at-most : (sh : Shape) (st : State) (w : Wire) (p : ℕ) → wires.number w 0 ≡ p → p ≤ st .commit → onCommit sh st w ≡ refused 7
+at-most : (sh : Shape) (st : State) (w : Wire) (p : ℕ) → wires.number w 0 ≡ p → p ≤ st .logged .commit → onCommit sh st w ≡ refused 7
 unfolding onCommit pick
-at-most sh st w p e h = rw (e, le-ltb (st .commit) p h)
+at-most sh st w p e h = rw (e, le-ltb (st .logged .commit) p h)
 
-past : (sh : Shape) (st : State) (w : Wire) (p : ℕ) → wires.number w 0 ≡ p → st .commit < p → st .sync < p → onCommit sh st w ≡ refused 7
+past : (sh : Shape) (st : State) (w : Wire) (p : ℕ) → wires.number w 0 ≡ p → st .logged .commit < p → st .logged .sync < p → onCommit sh st w ≡ refused 7
 unfolding onCommit pick
-past sh st w p e h g = rw (e, lt-ltb (st .commit) p h, lt-leb p (st .sync) g)
+past sh st w p e h g = rw (e, lt-ltb (st .logged .commit) p h, lt-leb p (st .logged .sync) g)
 
-between : (sh : Shape) (st : State) (w : Wire) (p : ℕ) → wires.number w 0 ≡ p → st .commit < p → p ≤ st .sync → onCommit sh st w ≡ done (withCommit st p) []
+between : (sh : Shape) (st : State) (w : Wire) (p : ℕ) → wires.number w 0 ≡ p → st .logged .commit < p → p ≤ st .logged .sync → onCommit sh st w ≡ done (withCommit st p) []
 unfolding onCommit pick
-between sh st w p e h g = rw (e, lt-ltb (st .commit) p h, le-leb p (st .sync) g)
+between sh st w p e h g = rw (e, lt-ltb (st .logged .commit) p h, le-leb p (st .logged .sync) g)
 
 module _ (sh : Shape) (b msg out : List ℕ) (m : Message) (h : Header) (p : ℕ) (r : Ready sh b m msg) (e : m ≡ Commit h p) where
   point-is : wires.number (wireIn (sh .s) msg) 0 ≡ p
-  unfolding pick
+  unfolding pick any
   point-is =
       told-number (sh .n) (sh .s) m msg (told (sh .n) (sh .s) m msg (r .told) (ap (λ (x : Message). known (tagOf x)) e)) 0
       ∙ ap (λ (x : Message). getD (numbersOf x) 0 0) e
@@ -52,18 +53,18 @@ module _ (sh : Shape) (b msg out : List ℕ) (m : Message) (h : Header) (p : ℕ
 
   pub not-above : (c : ℕ) → c ≡ num b 32 8 → p ≤ c → leaves 7 b out ≡ handled 11 onCommit sh m b msg out
   not-above c a g =
-      let q : p ≤ stateOf sh b .commit = omega (arith, commit-of (r .stands)) in
+      let q : p ≤ stateOf sh b .logged .commit = omega (arith, commit-of (r .stands)) in
       sym (by-rule (refused 7) (at-most sh (stateOf sh b) _ p point-is q) ∙ closes-refused sh b out 7)
 
   pub not-synced : (c y : ℕ) → c ≡ num b 32 8 → c < p → y ≡ num b 24 8 → y < p → leaves 7 b out ≡ handled 11 onCommit sh m b msg out
   not-synced c y a g d f =
-      let q : stateOf sh b .commit < p = omega (arith, commit-of (r .stands)) in
-      let z : stateOf sh b .sync < p = omega (arith, sync-of (r .stands)) in
+      let q : stateOf sh b .logged .commit < p = omega (arith, commit-of (r .stands)) in
+      let z : stateOf sh b .logged .sync < p = omega (arith, sync-of (r .stands)) in
       sym (by-rule (refused 7) (past sh (stateOf sh b) _ p point-is q z) ∙ closes-refused sh b out 7)
 
   pub taken : (c y : ℕ) (b′ : List ℕ) → c ≡ num b 32 8 → c < p → y ≡ num b 24 8 → p ≤ y → b′ ≡ splice b 32 (le 8 p) → quiet b′ out ≡ handled 11 onCommit sh m b msg out
   taken c y b′ a g d f w =
-      let q : stateOf sh b .commit < p = omega (arith, commit-of (r .stands)) in
-      let z : p ≤ stateOf sh b .sync = omega (arith, sync-of (r .stands)) in
+      let q : stateOf sh b .logged .commit < p = omega (arith, commit-of (r .stands)) in
+      let z : p ≤ stateOf sh b .logged .sync = omega (arith, sync-of (r .stands)) in
       let l = put-commit (stands-laid (r .stands)) p w in
       sym (by-rule (done (withCommit (stateOf sh b) p) []) (between sh (stateOf sh b) _ p point-is q z) ∙ closes-quiet sh b out (withCommit (stateOf sh b) p) ∙ ap (λ (x : List ℕ). quiet x out) (sym (l .bytes)))

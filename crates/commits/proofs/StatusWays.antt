@@ -10,13 +10,14 @@ use lib.Dec.{eqb, leb, lit<}
 use borrow.Author.Tests.{lt-ltb, le-ltb}
 use Rattle.octets.specs.Bytes.{le, num, splice, flat}
 use Rattle.octets.proofs.Codecs.{back-number}
-use Rattle.rules.specs.Choice.{pick, isSome}
+use Rattle.rules.specs.Choice.{pick, isSome, any}
 use Rattle.rules.specs.Group.{only}
-use Rattle.rules.specs.Wire.{Wire, known, wireBytes, tagOf, headerIn, numbersOf}
+use Rattle.rules.specs.Wire.{Wire, wireBytes, tagOf, headerIn, numbersOf}
+use Rattle.rules.specs.Kind.{known, fromOutside, rowOf}
 use Rattle.rules.specs.Wire as wires
 use Rattle.rules.specs.Read.{wireIn, lengthFor}
 use Rattle.rules.specs.State.{State}
-use Rattle.rules.specs.Image.{pointAt, tableBytes, image, stateOf}
+use Rattle.rules.specs.Image.{pointAt, tableBytes, image, stateOf, atHeard, atLog}
 use Rattle.rules.specs.Commit.{commitPoint}
 use Rattle.rules.specs.Step.{Outcome, refused, done, send, stale, committed, onSyncStatus}
 use Rattle.rules.specs.Bytes.{Left, leaves, closes}
@@ -46,11 +47,11 @@ stale-read b a p v f e q = rw (e, q) (go (eqb (num b a 1) 0))
     go false = refl
 
 module _ {sh : Shape} {st : State} {b : List ℕ} (s : Stands sh st b) where
-  pub log-counted : (at : ℕ) → at ≡ startOf sh 3 → num b at 4 ≡ length (st .log)
+  pub log-counted : (at : ℕ) → at ≡ startOf sh atLog → num b at 4 ≡ length (st .logged .log)
   unfolding tableBytes
   log-counted at e =
       let t = stands-fits s .log in
-      back-number 4 b at (length (st .log)) _ (omega (arith, t .room, t .counted)) (drop-all (stands-laid s) 3 at (lit< tt) e ∙ append-assoc (le 4 (length (st .log))) _ _)
+      back-number 4 b at (length (st .logged .log)) _ (omega (arith, t .room, t .counted)) (drop-all (stands-laid s) 3 at (lit< tt) e ∙ append-assoc (le 4 (length (st .logged .log))) _ _)
 
   -- ---- what is kept and sent
 
@@ -66,15 +67,15 @@ module _ {sh : Shape} {st : State} {b : List ℕ} (s : Stands sh st b) where
     kept-sender : Sender sh next
     kept-sender = let f = stands-fits s in record { group = f .group; replica = f .replica; view = f .view; places = f .gVecPlaces; gVec = f .gVec }
 
-    pub commit-sent : b′ ≡ image sh next → messageBytes sh b′ (Commit (headedIn b′ 11 (num b′ 0 1) (only from)) c) [] ≡ wireBytes (send st 11 (st .group) (only from) (c ∷ []) [])
+    pub commit-sent : b′ ≡ image sh next → messageBytes sh b′ (Commit (headedIn b′ 11 (num b′ 0 1) (only from)) c) [] ≡ wireBytes (send st 11 (st .site .group) (only from) (c ∷ []) [])
     unfolding flat
     commit-sent e =
-        message-sent (kept-laid e) kept-sender (Commit (headedIn b′ 11 (num b′ 0 1) (only from)) c) [] 11 (st .group) (only from) (c ∷ []) []
+        message-sent (kept-laid e) kept-sender (Commit (headedIn b′ 11 (num b′ 0 1) (only from)) c) [] 11 (st .site .group) (only from) (c ∷ []) []
         (ap (λ (g : ℕ). headedIn b′ 11 g (only from)) (own-group (kept-laid e) kept-sender)) refl refl tt
 
-  pub commit-long : (to c : ℕ) → length (wireBytes (send st 11 (st .group) to (c ∷ []) [])) ≡ lengthFor (sh .s) 11 0
-  unfolding pick
-  commit-long to c = sent-length (sh .s) st 11 (st .group) to (c ∷ []) [] (stands-fits s .gVecPlaces) refl refl
+  pub commit-long : (to c : ℕ) → length (wireBytes (send st 11 (st .site .group) to (c ∷ []) [])) ≡ lengthFor (sh .s) 11 0
+  unfolding pick rowOf
+  commit-long to c = sent-length (sh .s) st 11 (st .site .group) to (c ∷ []) [] (stands-fits s .gVecPlaces) refl refl
 
 -- ---- the rule at a point
 
@@ -83,14 +84,14 @@ module _ (sh : Shape) (st : State) (w : Wire) (from p : ℕ) (f : w .fromReplica
   unfolding onSyncStatus pick
   old h = rw (f, e, h)
 
-  past : stale p (getD (st .heard) from none) ≡ false → length (st .log) < p → onSyncStatus sh st w ≡ refused 7
+  past : stale p (getD (st .heard) from none) ≡ false → length (st .logged .log) < p → onSyncStatus sh st w ≡ refused 7
   unfolding onSyncStatus pick
-  past h g = rw (f, e, h, lt-ltb (length (st .log)) p g)
+  past h g = rw (f, e, h, lt-ltb (length (st .logged .log)) p g)
 
-  news : stale p (getD (st .heard) from none) ≡ false → p ≤ length (st .log) → (c : ℕ) → c ≡ commitPoint (sh .n) (st .replica) (length (st .log)) (set (st .heard) from (some p)) (st .commit)
-      → onSyncStatus sh st w ≡ done (committed st c (set (st .heard) from (some p))) (send st 11 (st .group) (only from) (c ∷ []) [] ∷ [])
+  news : stale p (getD (st .heard) from none) ≡ false → p ≤ length (st .logged .log) → (c : ℕ) → c ≡ commitPoint (sh .n) (st .site .replica) (length (st .logged .log)) (set (st .heard) from (some p)) (st .logged .commit)
+      → onSyncStatus sh st w ≡ done (committed st c (set (st .heard) from (some p))) (send st 11 (st .site .group) (only from) (c ∷ []) [] ∷ [])
   unfolding onSyncStatus pick
-  news h g c q = rw (f, e, h, le-ltb (length (st .log)) p g, q)
+  news h g c q = rw (f, e, h, le-ltb (length (st .logged .log)) p g, q)
 
 -- ---- the ways
 
@@ -105,7 +106,7 @@ module _ (sh : Shape) (b msg out : List ℕ) (m : Message) (h : Header) (p : ℕ
   heard = set (st .heard) from (some p)
 
   kind-known : known (tagOf m) ≡ true
-  unfolding pick
+  unfolding pick any
   kind-known = ap (λ (x : Message). known (tagOf x)) e
 
   point-is : wires.number (wireIn (sh .s) msg) 0 ≡ p
@@ -116,34 +117,35 @@ module _ (sh : Shape) (b msg out : List ℕ) (m : Message) (h : Header) (p : ℕ
 
   -- the sender is a replica of the group
   pub from-below : from < sh .n
-  from-below = rw e at (told-sender (sh .n) (sh .s) m msg (ready-told sh b msg m r kind-known) (ap (λ (x : Message). wires.fromOutside (tagOf x)) e) .1)
+  unfolding rowOf
+  from-below = rw e at (told-sender (sh .n) (sh .s) m msg (ready-told sh b msg m r kind-known) (ap (λ (x : Message). fromOutside (tagOf x)) e) .1)
 
   by-rule : (o : Outcome) → onSyncStatus sh st (wireIn (sh .s) msg) ≡ o → handled 10 onSyncStatus sh m b msg out ≡ closes sh b out o
   by-rule o q = handled-own 10 onSyncStatus sh m b msg out (ap tagOf e) ∙ ap (closes sh b out) q
 
-  stale-is : (t v : Bool) → t ≡ stale p (pointAt b (startOf sh 2 + 9 * from)) → t ≡ v → stale p (getD (st .heard) from none) ≡ v
+  stale-is : (t v : Bool) → t ≡ stale p (pointAt b (startOf sh atHeard + 9 * from)) → t ≡ v → stale p (getD (st .heard) from none) ≡ v
   stale-is t v q z = ap (stale p) (sym (heard-at (r .stands) from from-below)) ∙ sym q ∙ z
 
-  pub not-news : (t : Bool) → t ≡ stale p (pointAt b (startOf sh 2 + 9 * from)) → t ≡ true → leaves 7 b out ≡ handled 10 onSyncStatus sh m b msg out
+  pub not-news : (t : Bool) → t ≡ stale p (pointAt b (startOf sh atHeard + 9 * from)) → t ≡ true → leaves 7 b out ≡ handled 10 onSyncStatus sh m b msg out
   not-news t q z = sym (by-rule (refused 7) (old sh st _ from p from-is point-is (stale-is t true q z)) ∙ closes-refused sh b out 7)
 
-  module _ (t : Bool) (q : t ≡ stale p (pointAt b (startOf sh 2 + 9 * from))) (z : t ≡ false) (len : ℕ) (d : len ≡ length (st .log)) where
+  module _ (t : Bool) (q : t ≡ stale p (pointAt b (startOf sh atHeard + 9 * from))) (z : t ≡ false) (len : ℕ) (d : len ≡ length (st .logged .log)) where
     pub past-log : len < p → leaves 7 b out ≡ handled 10 onSyncStatus sh m b msg out
     past-log g = sym (by-rule (refused 7) (past sh st _ from p from-is point-is (stale-is t false q z) (rw d at g)) ∙ closes-refused sh b out 7)
 
     module _ (g : p ≤ len) where
-      after : (c : ℕ) → c ≡ commitPoint (sh .n) (st .replica) len heard (st .commit) → handled 10 onSyncStatus sh m b msg out ≡ closes sh b out (done (committed st c heard) (send st 11 (st .group) (only from) (c ∷ []) [] ∷ []))
+      after : (c : ℕ) → c ≡ commitPoint (sh .n) (st .site .replica) len heard (st .logged .commit) → handled 10 onSyncStatus sh m b msg out ≡ closes sh b out (done (committed st c heard) (send st 11 (st .site .group) (only from) (c ∷ []) [] ∷ []))
       after c y = by-rule _ (news sh st _ from p from-is point-is (stale-is t false q z) (rw d at g) c (rw d at y))
 
       pub no-room : (need : ℕ) → need ≡ lengthFor (sh .s) 11 0 → length out < need → leaves 9 b out ≡ handled 10 onSyncStatus sh m b msg out
       no-room need n k =
-          let c = commitPoint (sh .n) (st .replica) len heard (st .commit) in
+          let c = commitPoint (sh .n) (st .site .replica) len heard (st .logged .commit) in
           sym (after c refl ∙ closes-short sh b out (committed st c heard) _ (omega (arith, commit-long (r .stands) (only from) c)))
 
-      pub kept : (need c sent : ℕ) (b′ out′ : List ℕ) → need ≡ lengthFor (sh .s) 11 0 → need ≤ length out → c ≡ commitPoint (sh .n) (st .replica) len heard (st .commit) → b′ ≡ image sh (committed st c heard)
+      pub kept : (need c sent : ℕ) (b′ out′ : List ℕ) → need ≡ lengthFor (sh .s) 11 0 → need ≤ length out → c ≡ commitPoint (sh .n) (st .site .replica) len heard (st .logged .commit) → b′ ≡ image sh (committed st c heard)
           → sent ≡ length (messageBytes sh b′ (Commit (headedIn b′ 11 (num b′ 0 1) (only from)) c) [])
           → out′ ≡ splice out 0 (messageBytes sh b′ (Commit (headedIn b′ 11 (num b′ 0 1) (only from)) c) [])
-          → _≡_ {A = Left} (record { number = 0; sent = sent; state = b′; out = out′ }) (handled 10 onSyncStatus sh m b msg out)
+          → _≡_ {A = Left} (record { refused = false; number = 0; sent = sent; state = b′; out = out′ }) (handled 10 onSyncStatus sh m b msg out)
       kept need c sent b′ out′ n k y w v o =
           let x = commit-sent (r .stands) from p c from-below b′ w in
           sym (after c y ∙ closes-one sh b out (committed st c heard) _ (omega (arith, commit-long (r .stands) (only from) c)) ∙ rw (v ∙ ap length x, o ∙ ap (splice out 0) x, w))

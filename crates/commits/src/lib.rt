@@ -2,6 +2,8 @@
 use rules::Answer;
 use rules::Message;
 use rules::Shape;
+use rules::kind;
+use rules::refusal;
 ghost use mathlib.Core.Path.{_≡_};
 ghost use mathlib.Core.Option.{some};
 ghost use mathlib.Core.List.{[]};
@@ -11,7 +13,7 @@ ghost use Rattle.octets.specs.Bytes.{num, splice};
 ghost use Rattle.rules.specs.Group as sets;
 ghost use Rattle.rules.specs.Read.{lengthFor};
 ghost use Rattle.rules.specs.Commit.{commitPoint};
-ghost use Rattle.rules.specs.Image.{pointAt, image, stateOf};
+ghost use Rattle.rules.specs.Image.{pointAt, image, stateOf, atHeard};
 ghost use Rattle.rules.specs.Step.{stale, committed, onCommit, onSyncStatus};
 ghost use Rattle.rules.specs.Bytes.{left};
 ghost use Rattle.rules.specs.declared.Message.the-variants as cases;
@@ -31,13 +33,13 @@ pub fn on_commit(
     ensures { λ r. ⌜ left r (now (state .exit)) (now (out .exit)) ≡ handled 11 onCommit shape m (now (state .entry)) (now (message .entry)) (now (out .entry)) ⌝ }
 {
     let Message::Commit(_, point) = m else {
-        return Answer::Refused(2);
+        return Answer::Refused(refusal::MALFORMED);
     };
     if point <= places::get_commit(state) {
-        return Answer::Refused(7);
+        return Answer::Refused(refusal::NOTHING_TO_DO);
     }
     if places::get_sync(state) < point {
-        return Answer::Refused(7);
+        return Answer::Refused(refusal::NOTHING_TO_DO);
     }
     places::put_commit(state, point);
     Answer::Done(0)
@@ -46,7 +48,7 @@ pub fn on_commit(
 // Kind 10, once nothing refuses it: keeps the point that a follower reports, raises the commit point by it, and gives the commit point.
 pub fn keep_status(shape: Shape, state: &mut [u8], from: u64, point: u64, len: u64) -> u64
     requires { ⌜ Stands shape (stateOf shape (now state)) (now state) × (from < shape .n) ⌝ }
-    ensures { λ r. ⌜ (r ≡ commitPoint (shape .n) (stateOf shape (now (state .entry)) .replica) len (set (stateOf shape (now (state .entry)) .heard) from (some point)) (stateOf shape (now (state .entry)) .commit)) × (now (state .exit) ≡ image shape (committed (stateOf shape (now (state .entry))) r (set (stateOf shape (now (state .entry)) .heard) from (some point)))) ⌝ }
+    ensures { λ r. ⌜ (r ≡ commitPoint (shape .n) (stateOf shape (now (state .entry)) .site .replica) len (set (stateOf shape (now (state .entry)) .heard) from (some point)) (stateOf shape (now (state .entry)) .logged .commit)) × (now (state .exit) ≡ image shape (committed (stateOf shape (now (state .entry))) r (set (stateOf shape (now (state .entry)) .heard) from (some point)))) ⌝ }
 {
     places::put_heard(shape, state, from, point);
     let layout = places::places_of(shape);
@@ -62,7 +64,7 @@ pub fn keep_status(shape: Shape, state: &mut [u8], from: u64, point: u64, len: u
 // Whether the point is not above what this replica reported. One that has reported nothing is not taken as having reported 0.
 fn is_stale(shape: Shape, state: &[u8], from: u64, point: u64) -> bool
     requires { ⌜ Sized shape (now state) × (from < shape .n) ⌝ }
-    ensures { λ r. ⌜ r ≡ stale point (pointAt (now (state .entry)) (startOf shape 2 + 9 * from)) ⌝ }
+    ensures { λ r. ⌜ r ≡ stale point (pointAt (now (state .entry)) (startOf shape atHeard + 9 * from)) ⌝ }
 {
     let heard = places::heard_flag(shape, state, from);
     let last = places::heard_point(shape, state, from);
@@ -72,7 +74,7 @@ fn is_stale(shape: Shape, state: &[u8], from: u64, point: u64) -> bool
 // The length of the own log.
 fn log_length(shape: Shape, state: &[u8]) -> u64
     requires { ⌜ Stands shape (stateOf shape (now state)) (now state) ⌝ }
-    ensures { λ r. ⌜ r ≡ length (stateOf shape (now (state .entry)) .log) ⌝ }
+    ensures { λ r. ⌜ r ≡ length (stateOf shape (now (state .entry)) .logged .log) ⌝ }
 {
     let place = places::places_of(shape).log;
     octets::get32(state, place) as u64
@@ -85,7 +87,7 @@ fn tell_commit(shape: Shape, state: &[u8], out: &mut [u8], to: u64, commit: u64)
 {
     let own = octets::get8(state, 0);
     let mask = group::only(to);
-    let h = handler::headed(state, 11, own, mask);
+    let h = handler::headed(state, kind::COMMIT, own, mask);
     let m = Message::Commit(h, commit);
     handler::tell(shape, state, out, 0, m, &state[0..0])
 }
@@ -102,18 +104,18 @@ pub fn on_sync_status(
     ensures { λ r. ⌜ left r (now (state .exit)) (now (out .exit)) ≡ handled 10 onSyncStatus shape m (now (state .entry)) (now (message .entry)) (now (out .entry)) ⌝ }
 {
     let Message::SyncStatus(h, point) = m else {
-        return Answer::Refused(2);
+        return Answer::Refused(refusal::MALFORMED);
     };
     let from = h.from_replica as u64;
     if is_stale(shape, state, from, point) {
-        return Answer::Refused(7);
+        return Answer::Refused(refusal::NOTHING_TO_DO);
     }
     let len = log_length(shape, state);
     if len < point {
-        return Answer::Refused(7);
+        return Answer::Refused(refusal::NOTHING_TO_DO);
     }
-    if out.len() < kinds::length_for(shape.s, 11, 0) {
-        return Answer::Refused(9);
+    if out.len() < kinds::length_for(shape.s, kind::COMMIT, 0) {
+        return Answer::Refused(refusal::NO_ROOM);
     }
     let commit = keep_status(shape, state, from, point, len);
     let sent = tell_commit(shape, state, out, from, commit);

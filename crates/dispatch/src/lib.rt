@@ -2,6 +2,7 @@
 use rules::Answer;
 use rules::Message;
 use rules::Shape;
+use rules::refusal;
 ghost use mathlib.Core.Path.{_≡_};
 ghost use lib.Dec.{eqb};
 ghost use Rattle.rules.specs.Choice.{pick};
@@ -31,10 +32,10 @@ pub fn handle(shape: Shape, state: &mut [u8], m: Message, message: &[u8], out: &
     ensures { λ r. ⌜ left r (now (state .exit)) (now (out .exit)) ≡ closes shape (now (state .entry)) (now (out .entry)) (steps.handle (tagOf m) shape (stateOf shape (now (state .entry))) (wireIn (shape .s) (now (message .entry)))) ⌝ }
 {
     match m {
-        Message::WrongSizes => Answer::Refused(2),
-        Message::Malformed(_) => Answer::Refused(2),
-        Message::FastReply(_, _, _, _) => Answer::Refused(2),
-        Message::SlowReply(_, _) => Answer::Refused(2),
+        Message::WrongSizes => Answer::Refused(refusal::MALFORMED),
+        Message::Malformed(_) => Answer::Refused(refusal::MALFORMED),
+        Message::FastReply(_, _, _, _) => Answer::Refused(refusal::MALFORMED),
+        Message::SlowReply(_, _) => Answer::Refused(refusal::MALFORMED),
         Message::Transaction(_, _, _) => arrivals::on_transaction(shape, state, m, message, out),
         Message::Note(_) => arrivals::on_note(shape, state, m, message, out),
         Message::ReplicaSync(_) => syncs::on_replica_sync(shape, state, m, message, out),

@@ -8,7 +8,7 @@ use Rattle.octets.proofs.Codecs.{All}
 use Rattle.rules.specs.Choice.{any, keep}
 use Rattle.rules.specs.Entry.{noEntry, among, without}
 use Rattle.rules.specs.Log.{distinct}
-use Rattle.rules.specs.Step.{dueBy}
+use Rattle.rules.specs.Early.{dueOf}
 use Rattle.rules.specs.declared.Entry.{Entry}
 use Rattle.rules.proofs.Choice.{pick-true, Pairs, at-all, pairs-keep}
 use Rattle.rules.proofs.Order.{perm-pairs, ordered-perm}
@@ -31,6 +31,6 @@ unfolding any
 without-none es = keep-all (λ e. not (among [] e)) es (at-all (λ e. not (among [] e) ≡ true) noEntry es (λ i l. refl))
 
 -- no transaction stands twice among those due
-pub due-apart : (time : ℕ) (es : List Entry) → distinct es ≡ true → Pairs Apart (dueBy time es)
+pub due-apart : (time : ℕ) (es : List Entry) → distinct es ≡ true → Pairs Apart (dueOf time es)
 due-apart time es h =
     perm-pairs Apart apart-turns (ordered-perm (keep (λ e. leb (e .stamp) time) es)) (pairs-keep (λ e. leb (e .stamp) time) Apart es (distinct-pairs es h))

@@ -14,7 +14,7 @@ use Rattle.octets.proofs.Codecs.{All}
 use Rattle.rules.specs.Choice.{pick, keep}
 use Rattle.rules.specs.Entry.{noEntry, entryOf, sameTxn, before}
 use Rattle.rules.specs.Log.{distinct}
-use Rattle.rules.specs.Step.{dueBy}
+use Rattle.rules.specs.Early.{dueOf}
 use Rattle.rules.specs.declared.Entry.{Entry}
 use Rattle.rules.proofs.Choice.{by-test, by-cases, pick-true, pick-false, and-left, and-right, and-both, or-cases, or-second, fails, clash, at-all, all-at, all-keep, kept-passes, pairs-at}
 use Rattle.rules.proofs.Order.{before-strict, before-asym, before-total, key-txn, Perm, perm-none, perm-next, perm-swap, perm-then, perm-all, ordered-perm, ordered-at, ordered-length}
@@ -45,7 +45,7 @@ module _ (time : ℕ) (es : List Entry) where
     pub count-skip : time < e .stamp → r ≡ m → r ≡ length (keep (λ x. leb (x .stamp) time) (take (k + 1) es))
     count-skip u v = v ∙ sym (count-next ∙ ap (λ (xs : List Entry). m + length xs) (pick-false (leb (e .stamp) time) (e ∷ []) [] (lt-leb (e .stamp) time u)) ∙ omega arith)
 
-pub count-end : (time : ℕ) (es : List Entry) (k m : ℕ) → length es ≤ k → m ≡ length (keep (λ e. leb (e .stamp) time) (take k es)) → m ≡ length (dueBy time es)
+pub count-end : (time : ℕ) (es : List Entry) (k m : ℕ) → length es ≤ k → m ≡ length (keep (λ e. leb (e .stamp) time) (take k es)) → m ≡ length (dueOf time es)
 count-end time es k m l h =
     h ∙ ap (λ (xs : List Entry). length (keep (λ e. leb (e .stamp) time) xs)) (take-all k es l) ∙ sym (ordered-length (keep (λ e. leb (e .stamp) time) es))
 
@@ -162,62 +162,62 @@ kept-at p P (x ∷ xs) a (suc j) l h = kept-at p P xs (kept-rest P (p x) x (keep
 
 module _ (time : ℕ) (es : List Entry) where
   -- each is an entry that passes
-  pub due-of : (k : ℕ) → k < length (dueBy time es) → In es (entryOf (dueBy time es) k)
+  pub due-of : (k : ℕ) → k < length (dueOf time es) → In es (entryOf (dueOf time es) k)
   due-of k l =
-      all-at (In es) noEntry (dueBy time es)
+      all-at (In es) noEntry (dueOf time es)
       (perm-all (In es) (ordered-perm (keep (λ e. leb (e .stamp) time) es)) (all-keep (λ e. leb (e .stamp) time) (In es) es (all-in es))) k l
 
-  pub due-passes : (k : ℕ) → k < length (dueBy time es) → leb (entryOf (dueBy time es) k .stamp) time ≡ true
+  pub due-passes : (k : ℕ) → k < length (dueOf time es) → leb (entryOf (dueOf time es) k .stamp) time ≡ true
   due-passes k l =
-      all-at (λ e. leb (e .stamp) time ≡ true) noEntry (dueBy time es)
+      all-at (λ e. leb (e .stamp) time ≡ true) noEntry (dueOf time es)
       (perm-all (λ e. leb (e .stamp) time ≡ true) (ordered-perm (keep (λ e. leb (e .stamp) time) es)) (kept-passes (λ e. leb (e .stamp) time) es)) k l
 
   -- and each entry that passes is one of them
-  pub due-in : (j : ℕ) → j < length es → leb (entryOf es j .stamp) time ≡ true → In (dueBy time es) (entryOf es j)
+  pub due-in : (j : ℕ) → j < length es → leb (entryOf es j .stamp) time ≡ true → In (dueOf time es) (entryOf es j)
   due-in j l h =
-      kept-at (λ e. leb (e .stamp) time) (In (dueBy time es)) es
-      (perm-all (In (dueBy time es)) (perm-turns (ordered-perm (keep (λ e. leb (e .stamp) time) es))) (all-in (dueBy time es))) j l h
+      kept-at (λ e. leb (e .stamp) time) (In (dueOf time es)) es
+      (perm-all (In (dueOf time es)) (perm-turns (ordered-perm (keep (λ e. leb (e .stamp) time) es))) (all-in (dueOf time es))) j l h
 
   module _ (d : distinct es ≡ true) where
     -- each comes before the later ones
-    pub due-rises : (k m : ℕ) → k < m → m < length (dueBy time es) → before (entryOf (dueBy time es) k) (entryOf (dueBy time es) m) ≡ true
+    pub due-rises : (k m : ℕ) → k < m → m < length (dueOf time es) → before (entryOf (dueOf time es) k) (entryOf (dueOf time es) m) ≡ true
     due-rises k m u l =
-        let x : Entry = entryOf (dueBy time es) k in
-        let y : Entry = entryOf (dueBy time es) m in
+        let x : Entry = entryOf (dueOf time es) k in
+        let y : Entry = entryOf (dueOf time es) m in
         by-cases (before x y) (λ t. t)
-        (λ t. clash (sameTxn x y) (key-txn x y (before-total x y t (ordered-at (keep (λ e. leb (e .stamp) time) es) k m u l))) (pairs-at Apart noEntry (dueBy time es) (due-apart time es d) k m u l))
+        (λ t. clash (sameTxn x y) (key-txn x y (before-total x y t (ordered-at (keep (λ e. leb (e .stamp) time) es) k m u l))) (pairs-at Apart noEntry (dueOf time es) (due-apart time es d) k m u l))
 
     module _ (i : ℕ) (last : Entry) (g : Reached time es i last) where
       -- entry i of them is next
-      next-is : i < length (dueBy time es) → isNext time i last (entryOf (dueBy time es) i) ≡ true
+      next-is : i < length (dueOf time es) → isNext time i last (entryOf (dueOf time es) i) ≡ true
       unfolding isNext
       next-is l =
-          and-both (leb (entryOf (dueBy time es) i .stamp) time) (eqb i 0 || before last (entryOf (dueBy time es) i)) (due-passes i l)
+          and-both (leb (entryOf (dueOf time es) i .stamp) time) (eqb i 0 || before last (entryOf (dueOf time es) i)) (due-passes i l)
           (go (decLt 0 i))
         where
-          go : Dec (0 < i) → (eqb i 0 || before last (entryOf (dueBy time es) i)) ≡ true
-          go (yes u) = or-second (eqb i 0) (before last (entryOf (dueBy time es) i)) (rw (g .after u) (due-rises (i - 1) i (omega arith) l))
+          go : Dec (0 < i) → (eqb i 0 || before last (entryOf (dueOf time es) i)) ≡ true
+          go (yes u) = or-second (eqb i 0) (before last (entryOf (dueOf time es) i)) (rw (g .after u) (due-rises (i - 1) i (omega arith) l))
           go (no u) = let z : i ≡ 0 = omega arith in rw (eq-eqb i 0 z)
 
       -- and none before it
-      next-from : (k : ℕ) → k < length (dueBy time es) → isNext time i last (entryOf (dueBy time es) k) ≡ true → i ≤ k
+      next-from : (k : ℕ) → k < length (dueOf time es) → isNext time i last (entryOf (dueOf time es) k) ≡ true → i ≤ k
       unfolding isNext
       next-from k l s = go (decLt k i) (decLt k (i - 1))
         where
           go : Dec (k < i) → Dec (k < i - 1) → i ≤ k
           go (no u) w = omega arith
           go (yes u) w =
-              or-cases (eqb i 0) (before last (entryOf (dueBy time es) k))
-              (and-right (leb (entryOf (dueBy time es) k .stamp) time) (eqb i 0 || before last (entryOf (dueBy time es) k)) s)
+              or-cases (eqb i 0) (before last (entryOf (dueOf time es) k))
+              (and-right (leb (entryOf (dueOf time es) k .stamp) time) (eqb i 0 || before last (entryOf (dueOf time es) k)) s)
               (λ v. let z = eqb-true i 0 v in absurd (omega arith))
-              (λ v. clash (before (entryOf (dueBy time es) (i - 1)) (entryOf (dueBy time es) k)) (rw (g .after (omega arith)) at v) (back w))
+              (λ v. clash (before (entryOf (dueOf time es) (i - 1)) (entryOf (dueOf time es) k)) (rw (g .after (omega arith)) at v) (back w))
             where
-              back : Dec (k < i - 1) → before (entryOf (dueBy time es) (i - 1)) (entryOf (dueBy time es) k) ≡ false
-              back (yes m) = before-asym (entryOf (dueBy time es) k) (entryOf (dueBy time es) (i - 1)) (due-rises k (i - 1) m (omega (arith, g .within)))
-              back (no m) = let z : k ≡ i - 1 = omega arith in rw z (before-strict .never (entryOf (dueBy time es) (i - 1)))
+              back : Dec (k < i - 1) → before (entryOf (dueOf time es) (i - 1)) (entryOf (dueOf time es) k) ≡ false
+              back (yes m) = before-asym (entryOf (dueOf time es) k) (entryOf (dueOf time es) (i - 1)) (due-rises k (i - 1) m (omega (arith, g .within)))
+              back (no m) = let z : k ≡ i - 1 = omega arith in rw z (before-strict .never (entryOf (dueOf time es) (i - 1)))
 
       -- an entry that is next is one of them from i on
-      next-in : (r : ℕ) → r < length es → isNext time i last (entryOf es r) ≡ true → (k : ℕ) × (k < length (dueBy time es)) × (entryOf (dueBy time es) k ≡ entryOf es r) × (i ≤ k)
+      next-in : (r : ℕ) → r < length es → isNext time i last (entryOf es r) ≡ true → (k : ℕ) × (k < length (dueOf time es)) × (entryOf (dueOf time es) k ≡ entryOf es r) × (i ≤ k)
       unfolding isNext
       next-in r u w =
           let m = due-in r u (and-left (leb (entryOf es r .stamp) time) (eqb i 0 || before last (entryOf es r)) w) in
@@ -227,7 +227,7 @@ module _ (time : ℕ) (es : List Entry) where
       pub due-found : (n k r : ℕ) → n ≡ length es → n ≤ k → Least (isNext time i last) (entryOf es) n k r → DueAt time es i r
       due-found n k r hn hk s = record { found = λ l. found l (decLt r (length es)); none = λ l. none l (decLt r (length es)) }
         where
-          found : i < length (dueBy time es) → Dec (r < length es) → (r < length es) × (entryOf es r ≡ entryOf (dueBy time es) i)
+          found : i < length (dueOf time es) → Dec (r < length es) → (r < length es) × (entryOf es r ≡ entryOf (dueOf time es) i)
           found l (no u) =
               let o = due-of i l in
               let p : isNext time i last (entryOf es (o .0)) ≡ true = rw (o .2) (next-is l) in
@@ -239,12 +239,12 @@ module _ (time : ℕ) (es : List Entry) where
               let b : before (entryOf es (o .0)) (entryOf es r) ≡ false = s .least (omega arith) (o .0) (omega (arith, o .1)) p in
               (u, sym (m .2) ∙ same l m (rw (o .2, ← m .2) at b) (decLt i (m .0)))
             where
-              same : i < length (dueBy time es) → (m : (k : ℕ) × (k < length (dueBy time es)) × (entryOf (dueBy time es) k ≡ entryOf es r) × (i ≤ k))
-                  → before (entryOf (dueBy time es) i) (entryOf (dueBy time es) (m .0)) ≡ false → Dec (i < m .0) → entryOf (dueBy time es) (m .0) ≡ entryOf (dueBy time es) i
-              same l m b (yes v) = clash (before (entryOf (dueBy time es) i) (entryOf (dueBy time es) (m .0))) (due-rises i (m .0) v (m .1)) b
-              same l m b (no v) = let z : m .0 ≡ i = omega (arith, m .3) in ap (entryOf (dueBy time es)) z
+              same : i < length (dueOf time es) → (m : (k : ℕ) × (k < length (dueOf time es)) × (entryOf (dueOf time es) k ≡ entryOf es r) × (i ≤ k))
+                  → before (entryOf (dueOf time es) i) (entryOf (dueOf time es) (m .0)) ≡ false → Dec (i < m .0) → entryOf (dueOf time es) (m .0) ≡ entryOf (dueOf time es) i
+              same l m b (yes v) = clash (before (entryOf (dueOf time es) i) (entryOf (dueOf time es) (m .0))) (due-rises i (m .0) v (m .1)) b
+              same l m b (no v) = let z : m .0 ≡ i = omega (arith, m .3) in ap (entryOf (dueOf time es)) z
 
-          none : length (dueBy time es) ≤ i → Dec (r < length es) → r ≡ length es
+          none : length (dueOf time es) ≤ i → Dec (r < length es) → r ≡ length es
           none l (no u) = omega (arith, s .within)
           none l (yes u) = let m = next-in r u (s .passes (omega arith)) in absurd (omega (arith, m .1, m .3))
 
@@ -253,7 +253,7 @@ module _ (time : ℕ) (es : List Entry) where
 pub reached-none : (time : ℕ) (es : List Entry) (last : Entry) → Reached time es 0 last
 reached-none time es last = record { within = omega arith; after = λ h. absurd (omega arith) }
 
-pub reached-next : (time : ℕ) (es : List Entry) (i r : ℕ) (e : Entry) → DueAt time es i r → i < length (dueBy time es) → e ≡ entryOf es r → Reached time es (i + 1) e
+pub reached-next : (time : ℕ) (es : List Entry) (i r : ℕ) (e : Entry) → DueAt time es i r → i < length (dueOf time es) → e ≡ entryOf es r → Reached time es (i + 1) e
 reached-next time es i r e a l q =
     let z : i + 1 - 1 ≡ i = omega arith in
-    record { within = omega arith; after = λ h. q ∙ a .found l .1 ∙ ap (entryOf (dueBy time es)) (sym z) }
+    record { within = omega arith; after = λ h. q ∙ a .found l .1 ∙ ap (entryOf (dueOf time es)) (sym z) }

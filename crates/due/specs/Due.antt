@@ -7,19 +7,19 @@ use lib.ListN.{length}
 use lib.Dec.{eqb, leb}
 use Rattle.rules.specs.Choice.{pick}
 use Rattle.rules.specs.Entry.{entryOf, before}
-use Rattle.rules.specs.Step.{dueBy}
+use Rattle.rules.specs.Early.{dueOf}
 use Rattle.rules.specs.declared.Entry.{Entry}
 use Rattle.repeats.specs.Repeat.{firstTo}
 
 -- the first i of the entries due by a time are found, and the last of them is `last`
 pub record Reached (time : ℕ) (es : List Entry) (i : ℕ) (last : Entry) : Type 0 where
-  pub within : i ≤ length (dueBy time es)
-  pub after : 0 < i → last ≡ entryOf (dueBy time es) (i - 1)
+  pub within : i ≤ length (dueOf time es)
+  pub after : 0 < i → last ≡ entryOf (dueOf time es) (i - 1)
 
 -- r is the place in es of entry i of those due by a time, or the length of es where there are only i
 pub record DueAt (time : ℕ) (es : List Entry) (i r : ℕ) : Type 0 where
-  pub found : i < length (dueBy time es) → (r < length es) × (entryOf es r ≡ entryOf (dueBy time es) i)
-  pub none : length (dueBy time es) ≤ i → r ≡ length es
+  pub found : i < length (dueOf time es) → (r < length es) × (entryOf es r ≡ entryOf (dueOf time es) i)
+  pub none : length (dueOf time es) ≤ i → r ≡ length es
 
 -- due by a time, and after the last of the first i
 unfoldable pub isNext : ℕ → ℕ → Entry → Entry → Bool

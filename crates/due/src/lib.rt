@@ -7,7 +7,7 @@ ghost use lib.ListN.{length};
 ghost use Rattle.rules.specs.Image.{tableAt};
 ghost use Rattle.rules.specs.Entry.{entryOf};
 ghost use Rattle.rules.specs.Log.{distinct};
-ghost use Rattle.rules.specs.Step.{dueBy};
+ghost use Rattle.rules.specs.Early.{dueOf};
 ghost use Rattle.entries.specs.Table.{Table};
 ghost use Rattle.due.specs.Due.{isNext, Reached, DueAt};
 ghost use Rattle.due.specs.Due as search;
@@ -15,7 +15,7 @@ ghost use Rattle.due.specs.Due as search;
 // How many entries are due by a time.
 pub fn count_due(t: &[u8], c: usize, time: u64) -> usize
     requires { ⌜ Table c (now t) ⌝ }
-    ensures { λ r. ⌜ r ≡ length (dueBy time (tableAt c (now (t .entry)) 0)) ⌝ }
+    ensures { λ r. ⌜ r ≡ length (dueOf time (tableAt c (now (t .entry)) 0)) ⌝ }
 {
     let n = entries::count(t);
     let mut due = 0;

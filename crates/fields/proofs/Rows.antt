@@ -1,17 +1,20 @@
--- Rows that may be absent, and tests by places: what straight-line code makes of them. Assumes nothing.
-use Prim.Native.Nat.{ℕ, _+_, _*_, _^_, _≤_, _<_}
+-- Rows one after the other, and tests by places: what the code makes of them. Assumes nothing.
+use Prim.Native.Nat.{ℕ, zero, suc, _+_, _*_, _≤_, _<_}
 use mathlib.Core.Path.{_≡_, refl, sym, ap, _∙_}
 use mathlib.Core.Bool.{Bool, true, false, _&&_, _||_, not}
 use mathlib.Core.List.{List, [], _∷_, _++_}
 use native.Mathlib.Omega.{arith}
-use lib.Dec.{eqb, ltb, leb}
-use borrow.Author.Tests.{lt-leb}
-use Rattle.rules.specs.Choice.{pick, when, allOf}
+use lib.Dec.{eqb, leb}
+use native.Mathlib.Decide.{decLe}
+use native.Mathlib.Numerals.{add-one}
+use borrow.Author.Tests.{lt-leb, not-true, not-false}
+use Rattle.rules.specs.Choice.{pick, allOf}
 use Rattle.rules.specs.Entry.{latest, stampFits}
-use Rattle.rules.specs.Wire.{viewsIn, numbersIn}
-use Rattle.rules.specs.Read.{Fields, Row, _to_is_, bodyRows, numberRow, numbersAt, entriesAt, firstFits, secondFits, entriesFit, firstWrong}
+use Rattle.rules.specs.Kind.{viewsIn, numbersIn}
+use Rattle.rules.specs.Read.{Fields, Row, _to_is_, bodyRows, numberRows, numbersAt, entriesAt, numberFits, entriesFit, firstWrong, andThen}
 use Rattle.rules.specs.declared.Verdict.{Verdict}
 use Rattle.rules.specs.declared.Verdict.the-variants.{Fine, Wrong}
+use Rattle.fields.specs.Parts.{numbersWrong}
 
 pub either-is : (t a b : Bool) → ((t && a) || (not t && b)) ≡ pick t a b
 unfolding pick
@@ -27,59 +30,70 @@ pub and-false : (a : Bool) → (a && false) ≡ false
 and-false true = refl
 and-false false = refl
 
-pub all-two : (a b : Bool) → allOf (a ∷ b ∷ []) ≡ (a && b)
-unfolding allOf
-all-two a b = ap (λ (t : Bool). a && t) (and-true b)
-
 pub all-three : (a b c : Bool) → allOf (a ∷ b ∷ c ∷ []) ≡ (a && (b && c))
 unfolding allOf
 all-three a b c = ap (λ (t : Bool). a && (b && t)) (and-true c)
+
+pub all-five : (a b c d e : Bool) → allOf (a ∷ b ∷ c ∷ d ∷ e ∷ []) ≡ (a && (b && (c && (d && e))))
+unfolding allOf
+all-five a b c d e = ap (λ (t : Bool). a && (b && (c && (d && t)))) (and-true e)
 
 -- past the latest timestamp there is none
 pub too-late : (t : ℕ) → latest < t → stampFits t ≡ false
 too-late t h = rw (lt-leb t latest h) (and-false (leb 1 t))
 
--- ---- a row that is there only where the kind has the number
-row-if : (t right : Bool) (a u a′ u′ : ℕ) (rest : List Row) → a ≡ a′ → u ≡ u′ → firstWrong (pick t ((a to u is right) ∷ []) [] ++ rest) ≡ pick (when t right) (firstWrong rest) (Wrong a′ u′)
-unfolding firstWrong pick
-row-if true right a u a′ u′ rest e f = rw (e, f)
-row-if false right a u a′ u′ rest e f = refl
+-- ---- rows one after the other
 
-row-free : (t : Bool) (a u : ℕ) (rest : List Row) → firstWrong (pick t ((a to u is true) ∷ []) [] ++ rest) ≡ firstWrong rest
-unfolding firstWrong pick
-row-free true a u rest = refl
-row-free false a u rest = refl
+pub rows-after : (xs ys : List Row) → firstWrong (xs ++ ys) ≡ andThen (firstWrong xs) (firstWrong ys)
+unfolding firstWrong andThen pick
+rows-after [] ys = refl
+rows-after (r ∷ xs) ys = go (r .right) (rows-after xs ys)
+  where
+    go : (t : Bool) → firstWrong (xs ++ ys) ≡ andThen (firstWrong xs) (firstWrong ys) → pick t (firstWrong (xs ++ ys)) (Wrong (r .at) (r .end)) ≡ andThen (pick t (firstWrong xs) (Wrong (r .at) (r .end))) (firstWrong ys)
+    go true e = e
+    go false e = refl
 
 module _ (s : ℕ) (m : Fields) where
-  abbrev q : ℕ
-  q = numbersAt s (m .kind)
+  abbrev verdict : ℕ → Verdict
+  verdict i = firstWrong (numberRows s m i)
 
-  abbrev last : List Row
-  last = (entriesAt s (m .kind) to entriesAt s (m .kind) + 4 is entriesFit m) ∷ []
+  abbrev from : ℕ
+  from = numbersAt s (m .kind) + 4
+
+  -- one more number
+  one-more : (i : ℕ) → verdict (suc i) ≡ andThen (verdict i) (pick (numberFits m i) Fine (Wrong (from + 8 * i) (from + 8 * i + 8)))
+  unfolding numberRows firstWrong
+  one-more i = rows-after (numberRows s m i) ((from + 8 * i to from + 8 * i + 8 is numberFits m i) ∷ [])
+
+  pub none-wrong : verdict 0 ≡ Fine
+  unfolding numberRows firstWrong
+  none-wrong = refl
+
+  pub next-fine : (i : ℕ) (t : Bool) → verdict i ≡ Fine → t ≡ numberFits m i → not t ≡ false → verdict (i + 1) ≡ Fine
+  unfolding andThen pick
+  next-fine i t e q h = rw add-one (one-more i ∙ rw (e, sym q ∙ not-false t h))
+
+  stays : (i n a u : ℕ) → verdict i ≡ Wrong a u → i ≤ n → verdict n ≡ Wrong a u
+  unfolding andThen
+  stays i zero a u e l = let q : i ≡ 0 = omega arith in rw q at e
+  stays i (suc n) a u e l = go (decLe i n) (stays i n a u e)
+    where
+      go : Dec (i ≤ n) → (i ≤ n → verdict n ≡ Wrong a u) → verdict (suc n) ≡ Wrong a u
+      go (yes x) r = one-more n ∙ rw (r x)
+      go (no x) r = let q : i ≡ suc n = omega arith in rw q at e
+
+  pub next-wrong : (i n a : ℕ) (t : Bool) → verdict i ≡ Fine → t ≡ numberFits m i → not t ≡ true → i < n → a ≡ from → Wrong (a + 8 * i) (a + 8 * i + 8) ≡ verdict n
+  unfolding andThen pick
+  next-wrong i n a t e q h l f =
+      let w : verdict (suc i) ≡ Wrong (from + 8 * i) (from + 8 * i + 8) = one-more i ∙ rw (e, sym q ∙ not-true t h) in
+      rw f (sym (stays (suc i) n (from + 8 * i) (from + 8 * i + 8) w (omega arith)))
+
+  pub all-fine : (i n : ℕ) → verdict i ≡ Fine → i ≡ n → Fine ≡ verdict n
+  all-fine i n e q = rw q at (sym e)
 
   abbrev atCount : Verdict
   atCount = pick (entriesFit m) Fine (Wrong (entriesAt s (m .kind)) (entriesAt s (m .kind) + 4))
 
-  abbrev atSecond : Verdict
-  atSecond = pick (when (ltb 1 (numbersIn (m .kind))) (secondFits m)) atCount (Wrong (q + 12) (q + 20))
-
-  abbrev atFirst : Verdict
-  atFirst = pick (when (ltb 0 (numbersIn (m .kind))) (firstFits m)) atSecond (Wrong (q + 4) (q + 12))
-
-  third : firstWrong (numberRow s m 2 true ++ last) ≡ atCount
+  pub body-rows : firstWrong (bodyRows s m) ≡ pick (eqb (m .views) (viewsIn s (m .kind))) (pick (eqb (m .numbers) (numbersIn (m .kind))) (andThen (numbersWrong s m) atCount) (Wrong (numbersAt s (m .kind)) (numbersAt s (m .kind) + 4))) (Wrong 12 16)
   unfolding firstWrong
-  third = row-free (ltb 2 (numbersIn (m .kind))) (q + 4 + 8 * 2) (q + 4 + 8 * 2 + 8) last
-
-  second : firstWrong (numberRow s m 1 (secondFits m) ++ (numberRow s m 2 true ++ last)) ≡ atSecond
-  second =
-      row-if (ltb 1 (numbersIn (m .kind))) (secondFits m) (q + 4 + 8 * 1) (q + 4 + 8 * 1 + 8) (q + 12) (q + 20) (numberRow s m 2 true ++ last) (omega arith) (omega arith)
-      ∙ ap (λ (v : Verdict). pick (when (ltb 1 (numbersIn (m .kind))) (secondFits m)) v (Wrong (q + 12) (q + 20))) third
-
-  first : firstWrong (numberRow s m 0 (firstFits m) ++ (numberRow s m 1 (secondFits m) ++ (numberRow s m 2 true ++ last))) ≡ atFirst
-  first =
-      row-if (ltb 0 (numbersIn (m .kind))) (firstFits m) (q + 4 + 8 * 0) (q + 4 + 8 * 0 + 8) (q + 4) (q + 12) (numberRow s m 1 (secondFits m) ++ (numberRow s m 2 true ++ last)) (omega arith) (omega arith)
-      ∙ ap (λ (v : Verdict). pick (when (ltb 0 (numbersIn (m .kind))) (firstFits m)) v (Wrong (q + 4) (q + 12))) second
-
-  pub body-rows : firstWrong (bodyRows s m) ≡ pick (eqb (m .views) (viewsIn s (m .kind))) (pick (eqb (m .numbers) (numbersIn (m .kind))) atFirst (Wrong q (q + 4))) (Wrong 12 16)
-  unfolding firstWrong
-  body-rows = ap (λ (v : Verdict). pick (eqb (m .views) (viewsIn s (m .kind))) (pick (eqb (m .numbers) (numbersIn (m .kind))) v (Wrong q (q + 4))) (Wrong 12 16)) first
+  body-rows = ap (λ (v : Verdict). pick (eqb (m .views) (viewsIn s (m .kind))) (pick (eqb (m .numbers) (numbersIn (m .kind))) v (Wrong (numbersAt s (m .kind)) (numbersAt s (m .kind) + 4))) (Wrong 12 16)) (rows-after (numberRows s m (numbersIn (m .kind))) _)

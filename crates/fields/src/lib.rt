@@ -1,8 +1,10 @@
-// A message's fields, and whether they are right. Each function is straight-line code on truth values, as its rows are.
+// A message's fields, and whether they are right. Tests of rows are straight-line code on truth values; the numbers are a row in a loop.
 ghost use mathlib.Core.Path.{_≡_};
 ghost use mathlib.Core.Bool.{Bool};
 ghost use Prim.Native.Nat.{ℕ, _+_, _*_, _^_, _≤_, _<_};
+ghost use mathlib.Core.List.{[]};
 ghost use lib.Dec.{ltb};
+ghost use lib.ListN.{getD};
 ghost use Rattle.rules.specs.Choice as choice;
 ghost use Rattle.rules.specs.Entry as entry;
 ghost use Rattle.rules.specs.Read as reading;
@@ -21,15 +23,28 @@ use rules::Entry;
 use rules::Header;
 use rules::Verdict;
 
-// What a message says beside its entries: the header, the three zeros, the three counts, and its numbers, 0 where it has none.
+// The kinds whose fields are limited each in its own way.
+const TRANSACTION: u8 = 1;
+
+const NOTE: u8 = 3;
+
+const FAST_REPLY: u8 = 5;
+
+const VOTE: u8 = 8;
+
+const VERIFY_REPLY: u8 = 19;
+
+const TICK: u8 = 23;
+
+// The greatest timestamp.
+const LATEST: u64 = 9223372036854775807;
+
+// What a message says beside its numbers and its entries: the header, the three zeros, and the three counts.
 pub struct Parts {
     pub header: Header,
     pub zeros: u64,
     pub views: u64,
     pub numbers: u64,
-    pub first: u64,
-    pub second: u64,
-    pub third: u64,
     pub entries: u64,
 }
 
@@ -49,7 +64,7 @@ fn either(t: bool, a: bool, b: bool) -> bool
 
 // The first wrong field of the header.
 pub fn head_wrong(n: u64, s: u64, p: Parts) -> Verdict
-    ensures { λ r. ⌜ r ≡ reading.firstWrong (reading.headRows n s (parts.fieldsOf p)) ⌝ }
+    ensures { λ r. ⌜ r ≡ reading.firstWrong (reading.headRows n s (parts.fieldsOf p [])) ⌝ }
 {
     let h = p.header;
     let k = h.kind;
@@ -92,93 +107,110 @@ pub fn head_wrong(n: u64, s: u64, p: Parts) -> Verdict
 fn stamp_fits(t: u64) -> bool
     ensures { λ r. ⌜ r ≡ entry.stampFits t ⌝ }
 {
-    (1 <= t) & (t <= 9223372036854775807)
+    (1 <= t) & (t <= LATEST)
 }
 
 // Whether a send time and a bound make a timestamp. Their sum is not taken where it would be too great.
 fn sum_fits(t: u64, bound: u64) -> bool
     ensures { λ r. ⌜ r ≡ entry.stampFits (t + bound) ⌝ }
 {
-    if 9223372036854775807 < t {
+    if LATEST < t {
         return false;
     }
-    if 9223372036854775807 - t < bound {
+    if LATEST - t < bound {
         return false;
     }
     stamp_fits(t + bound)
 }
 
-// Whether the first number is right.
-fn first_fits(p: Parts) -> bool
-    ensures { λ r. ⌜ r ≡ reading.firstFits (parts.fieldsOf p) ⌝ }
+// Number i, or 0 where there is none.
+pub fn number_of(numbers: &[u64], i: usize) -> u64
+    ensures { λ r. ⌜ r ≡ getD (now (numbers .entry)) i 0 ⌝ }
 {
-    let h = p.header;
-    let k = h.kind;
-    let placed = !(k == 5) | (p.first <= 1);
-    let normal = !(k == 8) | (p.first < h.view as u64);
-    let time = !(k == 23) | (p.first <= 9223372036854775807);
-    placed & (normal & time)
+    if i < numbers.len() {
+        return numbers[i];
+    }
+    0
 }
 
-// Whether the second number is right.
-fn second_fits(p: Parts) -> bool
-    ensures { λ r. ⌜ r ≡ reading.secondFits (parts.fieldsOf p) ⌝ }
+// Whether number j is right.
+fn number_fits(p: Parts, numbers: &[u64], j: usize) -> bool
+    ensures { λ r. ⌜ r ≡ reading.numberFits (parts.fieldsOf p (now (numbers .entry))) j ⌝ }
 {
     let h = p.header;
     let k = h.kind;
-    let due = !(k == 1) | sum_fits(p.first, p.second);
-    let position = !(k == 5) | either(p.first == 0, p.second == 0, 1 <= p.second);
-    due & position
+    let first = number_of(numbers, 0);
+    let second = number_of(numbers, 1);
+    let due = !((k == TRANSACTION) & (j == 1)) | sum_fits(first, second);
+    let placed = !((k == FAST_REPLY) & (j == 0)) | (first <= 1);
+    let paired = either(first == 0, second == 0, 1 <= second);
+    let position = !((k == FAST_REPLY) & (j == 1)) | paired;
+    let normal = !((k == VOTE) & (j == 0)) | (first < h.view as u64);
+    let time = !((k == TICK) & (j == 0)) | (first <= LATEST);
+    due & (placed & (position & (normal & time)))
+}
+
+// The first wrong one of the kind's numbers.
+fn numbers_wrong(s: u64, p: Parts, numbers: &[u64]) -> Verdict
+    requires { ⌜ s ≤ 8 ⌝ }
+    ensures { λ r. ⌜ r ≡ parts.numbersWrong s (parts.fieldsOf p (now (numbers .entry))) ⌝ }
+{
+    let h = p.header;
+    let k = h.kind;
+    let count = numbers_in(k) as usize;
+    let from = numbers_at(s, k) + 4;
+    let mut i = 0;
+    while i < count {
+        if !number_fits(p, numbers, i) {
+            let at = from + 8 * i;
+            return Verdict::Wrong(at, at + 8);
+        }
+        i += 1;
+    }
+    Verdict::Fine
 }
 
 // Whether the count of entries is right.
-fn entries_fit(p: Parts) -> bool
-    ensures { λ r. ⌜ r ≡ reading.entriesFit (parts.fieldsOf p) ⌝ }
+fn entries_fit(p: Parts, numbers: &[u64]) -> bool
+    ensures { λ r. ⌜ r ≡ reading.entriesFit (parts.fieldsOf p (now (numbers .entry))) ⌝ }
 {
     let h = p.header;
     let k = h.kind;
+    let sync = number_of(numbers, 1);
     either(
         with_one(k),
         p.entries == 1,
         either(
             with_log(k),
-            !(k == 8) | (p.second <= p.entries),
+            !(k == VOTE) | (sync <= p.entries),
             p.entries == 0,
         ),
     )
 }
 
+// One verdict, and where it is fine another.
+fn and_then(first: Verdict, rest: Verdict) -> Verdict
+    ensures { λ r. ⌜ r ≡ reading.andThen first rest ⌝ }
+{
+    match first {
+        Verdict::Fine => rest,
+        Verdict::Wrong(a, u) => Verdict::Wrong(a, u),
+    }
+}
+
 // The first wrong count or number.
-pub fn body_wrong(s: u64, p: Parts) -> Verdict
+pub fn body_wrong(s: u64, p: Parts, numbers: &[u64]) -> Verdict
     requires { ⌜ s ≤ 8 ⌝ }
-    ensures { λ r. ⌜ r ≡ reading.firstWrong (reading.bodyRows s (parts.fieldsOf p)) ⌝ }
+    ensures { λ r. ⌜ r ≡ reading.firstWrong (reading.bodyRows s (parts.fieldsOf p (now (numbers .entry)))) ⌝ }
 {
     let h = p.header;
     let k = h.kind;
-    let count = numbers_in(k);
     let q = numbers_at(s, k);
     let e = entries_at(s, k);
-    field(
-        p.views == views_in(s, k),
-        12,
-        16,
-        field(
-            p.numbers == count,
-            q,
-            q + 4,
-            field(
-                !(0 < count) | first_fits(p),
-                q + 4,
-                q + 12,
-                field(
-                    !(1 < count) | second_fits(p),
-                    q + 12,
-                    q + 20,
-                    field(entries_fit(p), e, e + 4, Verdict::Fine),
-                ),
-            ),
-        ),
-    )
+    let last = field(entries_fit(p, numbers), e, e + 4, Verdict::Fine);
+    let rest = and_then(numbers_wrong(s, p, numbers), last);
+    let counted = field(p.numbers == numbers_in(k), q, q + 4, rest);
+    field(p.views == views_in(s, k), 12, 16, counted)
 }
 
 // Whether the mask names no group past s.
@@ -193,16 +225,16 @@ pub fn below(mask: u16, s: u64) -> bool
 fn stamp_right(kind: u8, t: u64) -> bool
     ensures { λ r. ⌜ r ≡ reading.stampRight kind t ⌝ }
 {
-    either(kind == 1, t == 0, stamp_fits(t))
+    either(kind == TRANSACTION, t == 0, stamp_fits(t))
 }
 
 // Whether an entry's mask is right.
 fn mask_right(s: u64, h: Header, mask: u16) -> bool
-    ensures { λ r. ⌜ r ≡ reading.maskRight s (parts.fieldsOf (parts.headed h)) mask ⌝ }
+    ensures { λ r. ⌜ r ≡ reading.maskRight s (parts.headFields h) mask ⌝ }
 {
     let k = h.kind;
-    let to = !((k == 1) | (k == 3)) | group::holds(mask, h.to_group as u64);
-    let from = !((k == 3) | (k == 19)) | group::holds(mask, h.from_group as u64);
+    let to = !((k == TRANSACTION) | (k == NOTE)) | group::holds(mask, h.to_group as u64);
+    let from = !((k == NOTE) | (k == VERIFY_REPLY)) | group::holds(mask, h.from_group as u64);
     group::some_of(mask, s) & (to & from)
 }
 

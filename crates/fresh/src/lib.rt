@@ -1,6 +1,8 @@
 // The fresh state of a replica, and how long a state is.
 use rules::Answer;
 use rules::Shape;
+use rules::refusal;
+use rules::status;
 ghost use mathlib.Core.Path.{_≡_};
 ghost use mathlib.Core.List.{[]};
 ghost use Rattle.rules.specs.Bytes.{left, startBytes};
@@ -22,20 +24,20 @@ pub fn start(shape: Shape, group: u64, replica: u64, state: &mut [u8]) -> Answer
     ensures { λ r. ⌜ left r (now (state .exit)) [] ≡ startBytes shape group replica (now (state .entry)) ⌝ }
 {
     if !group::shape_fits(shape) {
-        return Answer::Refused(1);
+        return Answer::Refused(refusal::WRONG_STATE);
     }
     if shape.s <= group {
-        return Answer::Refused(1);
+        return Answer::Refused(refusal::WRONG_STATE);
     }
     if shape.n <= replica {
-        return Answer::Refused(1);
+        return Answer::Refused(refusal::WRONG_STATE);
     }
     if state.len() != places::places_of(shape).end {
-        return Answer::Refused(1);
+        return Answer::Refused(refusal::WRONG_STATE);
     }
     octets::fill_zero(state, 0, state.len());
     octets::put8(state, 0, group as u8);
     octets::put8(state, 1, replica as u8);
-    octets::put8(state, 2, 1);
+    octets::put8(state, 2, status::NORMAL);
     Answer::Done(0)
 }

@@ -11,11 +11,12 @@ use borrow.Author.Tests.{eq-eqb, ne-eqb, le-leb}
 use Rattle.octets.specs.Bytes.{num, part}
 use Rattle.rules.specs.Choice.{pick, any, every}
 use Rattle.rules.specs.Group.{holds}
-use Rattle.rules.specs.Entry.{sameTxn, among, entryFits, mayFollow, followsLast, lastStamp}
+use Rattle.rules.specs.Entry.{sameTxn, among, entryFits, mayFollow}
+use Rattle.rules.specs.Log.{followsLast, lastStamp}
 use Rattle.rules.specs.Log.{goodLog, allHold, distinct}
 use Rattle.rules.specs.State.{Note, State, leads, noted, notedTo, greatestTo, buffersGood, earlyGood, notesDistinct}
 use Rattle.rules.specs.State as rule
-use Rattle.rules.specs.Image.{noteLength, stateLength, tableAt, stateOf}
+use Rattle.rules.specs.Image.{noteLength, stateLength, tableAt, stateOf, atEarly, atLate, atLog, atNotes}
 use Rattle.rules.specs.declared.Entry.{Entry}
 use Rattle.rules.specs.declared.Shape.{Shape}
 use Rattle.rules.proofs.Choice.{or-left, any-append}
@@ -189,61 +190,61 @@ distinct-front (x ∷ xs) ys h =
     and-both _ _ (ap not m) (distinct-front xs ys (and-r (not (among (xs ++ ys) x)) (distinct (xs ++ ys)) h))
 
 -- log and buffers: one pass over each and a test for repeats say what the rules ask
-module _ (sh : Shape) (st : State) (last : ℕ) (log early late apart : Bool) (e0 : (log && distinct (st .log)) ≡ goodLog (sh .s) (st .group) (st .log)) (e1 : last ≡ lastStamp (st .log))
-    (e2 : early ≡ every (fits (sh .s) (st .group) (st .group) last) (st .early)) (e3 : late ≡ every (fits (sh .s) (st .group) (st .group) 0) (st .late)) (e4 : apart ≡ distinct (st .log ++ (st .early ++ st .late))) where
-  follows-is : every (λ e. leb last (e .stamp)) (st .early) ≡ every (followsLast (st .log)) (st .early)
+module _ (sh : Shape) (st : State) (last : ℕ) (log early late apart : Bool) (e0 : (log && distinct (st .logged .log)) ≡ goodLog (sh .s) (st .site .group) (st .logged .log)) (e1 : last ≡ lastStamp (st .logged .log))
+    (e2 : early ≡ every (fits (sh .s) (st .site .group) (st .site .group) last) (st .waiting .early)) (e3 : late ≡ every (fits (sh .s) (st .site .group) (st .site .group) 0) (st .waiting .late)) (e4 : apart ≡ distinct (st .logged .log ++ (st .waiting .early ++ st .waiting .late))) where
+  follows-is : every (λ e. leb last (e .stamp)) (st .waiting .early) ≡ every (followsLast (st .logged .log)) (st .waiting .early)
   unfolding mayFollow
-  follows-is = ap (λ (x : ℕ). every (λ (e : Entry). leb x (e .stamp)) (st .early)) e1
+  follows-is = ap (λ (x : ℕ). every (λ (e : Entry). leb x (e .stamp)) (st .waiting .early)) e1
 
   to-entries : (log && (early && (late && apart))) ≡ true → entriesGood sh st ≡ true
   unfolding entriesGood buffersGood
   to-entries h =
-      let k = st .group in
+      let k = st .site .group in
       let h1 : (early && (late && apart)) ≡ true = and-r log (early && (late && apart)) h in
       let h2 : (late && apart) ≡ true = and-r early (late && apart) h1 in
-      let d : distinct (st .log ++ (st .early ++ st .late)) ≡ true = sym e4 ∙ and-r late apart h2 in
-      let f : Fit (sh .s) k last (st .early) = fit (sh .s) k last (st .early) (sym e2 ∙ and-l early (late && apart) h1) in
-      let g : Fit (sh .s) k 0 (st .late) = fit (sh .s) k 0 (st .late) (sym e3 ∙ and-l late apart h2) in
-      and-both _ _ (sym e0 ∙ and-both _ _ (and-l log (early && (late && apart)) h) (distinct-front (st .log) (st .early ++ st .late) d))
-      (and-both _ _ (join _ (d also sym follows-is ∙ f .after also each-append (λ (e : Entry). holds (e .mask) k) (st .early) (st .late) (f .masks) (g .masks) also tt))
-      (each-append (entryFits (sh .s)) (st .early) (st .late) (f .ranges) (g .ranges)))
+      let d : distinct (st .logged .log ++ (st .waiting .early ++ st .waiting .late)) ≡ true = sym e4 ∙ and-r late apart h2 in
+      let f : Fit (sh .s) k last (st .waiting .early) = fit (sh .s) k last (st .waiting .early) (sym e2 ∙ and-l early (late && apart) h1) in
+      let g : Fit (sh .s) k 0 (st .waiting .late) = fit (sh .s) k 0 (st .waiting .late) (sym e3 ∙ and-l late apart h2) in
+      and-both _ _ (sym e0 ∙ and-both _ _ (and-l log (early && (late && apart)) h) (distinct-front (st .logged .log) (st .waiting .early ++ st .waiting .late) d))
+      (and-both _ _ (join _ (d also sym follows-is ∙ f .after also each-append (λ (e : Entry). holds (e .mask) k) (st .waiting .early) (st .waiting .late) (f .masks) (g .masks) also tt))
+      (each-append (entryFits (sh .s)) (st .waiting .early) (st .waiting .late) (f .ranges) (g .ranges)))
 
   from-entries : entriesGood sh st ≡ true → (log && (early && (late && apart))) ≡ true
   unfolding entriesGood buffersGood
   from-entries h =
-      let k = st .group in
-      let fit-ones : Bool = every (entryFits (sh .s)) (st .early ++ st .late) in
-      let h1 : (buffersGood st && fit-ones) ≡ true = and-r (goodLog (sh .s) k (st .log)) (buffersGood st && fit-ones) h in
+      let k = st .site .group in
+      let fit-ones : Bool = every (entryFits (sh .s)) (st .waiting .early ++ st .waiting .late) in
+      let h1 : (buffersGood st && fit-ones) ≡ true = and-r (goodLog (sh .s) k (st .logged .log)) (buffersGood st && fit-ones) h in
       let u = split _ (and-l (buffersGood st) fit-ones h1) in
       let r : fit-ones ≡ true = and-r (buffersGood st) fit-ones h1 in
-      let m : allHold k (st .early) ≡ true = each-front (λ (e : Entry). holds (e .mask) k) (st .early) (st .late) (u 2) in
-      let n : allHold k (st .late) ≡ true = each-back (λ (e : Entry). holds (e .mask) k) (st .early) (st .late) (u 2) in
-      let f : Fit (sh .s) k last (st .early) = record { ranges = each-front (entryFits (sh .s)) (st .early) (st .late) r; after = follows-is ∙ u 1; masks = m } in
-      let g : Fit (sh .s) k 0 (st .late) = record { ranges = each-back (entryFits (sh .s)) (st .early) (st .late) r; after = from-zero (sh .s) k (st .late); masks = n } in
-      and-both _ _ (and-l log (distinct (st .log)) (e0 ∙ and-l (goodLog (sh .s) k (st .log)) (buffersGood st && fit-ones) h))
-      (and-both _ _ (e2 ∙ fit-so (sh .s) k last (st .early) f) (and-both _ _ (e3 ∙ fit-so (sh .s) k 0 (st .late) g) (e4 ∙ u 0)))
+      let m : allHold k (st .waiting .early) ≡ true = each-front (λ (e : Entry). holds (e .mask) k) (st .waiting .early) (st .waiting .late) (u 2) in
+      let n : allHold k (st .waiting .late) ≡ true = each-back (λ (e : Entry). holds (e .mask) k) (st .waiting .early) (st .waiting .late) (u 2) in
+      let f : Fit (sh .s) k last (st .waiting .early) = record { ranges = each-front (entryFits (sh .s)) (st .waiting .early) (st .waiting .late) r; after = follows-is ∙ u 1; masks = m } in
+      let g : Fit (sh .s) k 0 (st .waiting .late) = record { ranges = each-back (entryFits (sh .s)) (st .waiting .early) (st .waiting .late) r; after = from-zero (sh .s) k (st .waiting .late); masks = n } in
+      and-both _ _ (and-l log (distinct (st .logged .log)) (e0 ∙ and-l (goodLog (sh .s) k (st .logged .log)) (buffersGood st && fit-ones) h))
+      (and-both _ _ (e2 ∙ fit-so (sh .s) k last (st .waiting .early) f) (and-both _ _ (e3 ∙ fit-so (sh .s) k 0 (st .waiting .late) g) (e4 ∙ u 0)))
 
   entries-test : (log && (early && (late && apart))) ≡ entriesGood sh st
   entries-test = truth _ _ to-entries from-entries
 
 module _ (sh : Shape) (b : List ℕ) (z : length b ≡ stateLength sh) where
-  pub entries-are : (l3 l4 l5 group last : ℕ) (log early late apart : Bool) → l3 ≡ startOf sh 3 → l4 ≡ startOf sh 4 → l5 ≡ startOf sh 5 → group ≡ num b 0 1 → last ≡ lastStamp (tableAt (sh .c) b l3)
+  pub entries-are : (l3 l4 l5 group last : ℕ) (log early late apart : Bool) → l3 ≡ startOf sh atLog → l4 ≡ startOf sh atEarly → l5 ≡ startOf sh atLate → group ≡ num b 0 1 → last ≡ lastStamp (tableAt (sh .c) b l3)
       → (log && distinct (tableAt (sh .c) b l3)) ≡ goodLog (sh .s) group (tableAt (sh .c) b l3) → early ≡ every (fits (sh .s) group group last) (tableAt (sh .c) b l4) → late ≡ every (fits (sh .s) group group 0) (tableAt (sh .c) b l5)
       → apart ≡ distinct (tableAt (sh .c) b l3 ++ (tableAt (sh .c) b l4 ++ tableAt (sh .c) b l5)) → (log && (early && (late && apart))) ≡ entriesGood sh (stateOf sh b)
   entries-are l3 l4 l5 group last log early late apart p3 p4 p5 g e1 a1 a2 a3 a4 =
       let f = fields sh b z in
       let st = stateOf sh b in
-      let t3 : tableAt (sh .c) b l3 ≡ st .log = ap (tableAt (sh .c) b) p3 ∙ sym (f .log) in
-      let t4 : tableAt (sh .c) b l4 ≡ st .early = ap (tableAt (sh .c) b) p4 ∙ sym (f .early) in
-      let t5 : tableAt (sh .c) b l5 ≡ st .late = ap (tableAt (sh .c) b) p5 ∙ sym (f .late) in
-      let k : group ≡ st .group = g ∙ sym (f .group) in
+      let t3 : tableAt (sh .c) b l3 ≡ st .logged .log = ap (tableAt (sh .c) b) p3 ∙ sym (f .log) in
+      let t4 : tableAt (sh .c) b l4 ≡ st .waiting .early = ap (tableAt (sh .c) b) p4 ∙ sym (f .early) in
+      let t5 : tableAt (sh .c) b l5 ≡ st .waiting .late = ap (tableAt (sh .c) b) p5 ∙ sym (f .late) in
+      let k : group ≡ st .site .group = g ∙ sym (f .group) in
       entries-test sh st last log early late apart (rw (t3, k) at a1) (rw t3 at e1) (rw (t4, k) at a2) (rw (t5, k) at a3) (rw (t3, t4, t5) at a4)
 
-  module _ (t : List ℕ) (u : t ≡ part b (startOf sh 6) (4 + noteLength (sh .s) * sh .c)) where
-    pub notes-are : notesAt (sh .c) (sh .s) t ≡ stateOf sh b .notes
+  module _ (t : List ℕ) (u : t ≡ part b (startOf sh atNotes) (4 + noteLength (sh .s) * sh .c)) where
+    pub notes-are : notesAt (sh .c) (sh .s) t ≡ stateOf sh b .waiting .notes
     notes-are = ap (notesAt (sh .c) (sh .s)) u ∙ sym (fields sh b z .notes)
 
-    pub early-is : (at k : ℕ) (r : Bool) → at ≡ startOf sh 4 → k ≡ num b 0 1 → r ≡ every (notedRight (sh .s) (notesAt (sh .c) (sh .s) t) k) (tableAt (sh .c) b at) → r ≡ every (earlyGood sh (stateOf sh b)) (stateOf sh b .early)
+    pub early-is : (at k : ℕ) (r : Bool) → at ≡ startOf sh atEarly → k ≡ num b 0 1 → r ≡ every (notedRight (sh .s) (notesAt (sh .c) (sh .s) t) k) (tableAt (sh .c) b at) → r ≡ every (earlyGood sh (stateOf sh b)) (stateOf sh b .waiting .early)
     unfolding notedRight earlyGood
     early-is at k r p g h =
         let f = fields sh b z in
@@ -252,33 +253,33 @@ module _ (sh : Shape) (b : List ℕ) (z : length b ≡ stateLength sh) where
   pub early-idle : (status : ℕ) → status ≡ num b 2 1 → (status ≡ 1 → ⊥) → true ≡ earlyRight sh (stateOf sh b)
   unfolding earlyRight
   early-idle status e h =
-      let g : eqb (stateOf sh b .status) 1 ≡ false = ap (λ (y : ℕ). eqb y 1) (fields sh b z .status ∙ sym e) ∙ ne-eqb status 1 h in
+      let g : eqb (stateOf sh b .view .status) 1 ≡ false = ap (λ (y : ℕ). eqb y 1) (fields sh b z .status ∙ sym e) ∙ ne-eqb status 1 h in
       rw g
 
   pub early-follower : (l : Bool) → l ≡ leads sh (stateOf sh b) → not l ≡ true → true ≡ earlyRight sh (stateOf sh b)
   unfolding earlyRight
   early-follower l e h = let g : leads sh (stateOf sh b) ≡ false = sym e ∙ when-not l h in rw (g, and-false)
 
-  pub early-leader : (status : ℕ) (l r : Bool) → status ≡ num b 2 1 → status ≡ 1 → l ≡ leads sh (stateOf sh b) → not l ≡ false → r ≡ every (earlyGood sh (stateOf sh b)) (stateOf sh b .early) → r ≡ earlyRight sh (stateOf sh b)
+  pub early-leader : (status : ℕ) (l r : Bool) → status ≡ num b 2 1 → status ≡ 1 → l ≡ leads sh (stateOf sh b) → not l ≡ false → r ≡ every (earlyGood sh (stateOf sh b)) (stateOf sh b .waiting .early) → r ≡ earlyRight sh (stateOf sh b)
   unfolding earlyRight
   early-leader status l r e h p q w =
-      let g : eqb (stateOf sh b .status) 1 ≡ true = ap (λ (y : ℕ). eqb y 1) (fields sh b z .status ∙ sym e) ∙ eq-eqb status 1 h in
+      let g : eqb (stateOf sh b .view .status) 1 ≡ true = ap (λ (y : ℕ). eqb y 1) (fields sh b z .status ∙ sym e) ∙ eq-eqb status 1 h in
       let k : leads sh (stateOf sh b) ≡ true = sym p ∙ unless-not l q in
       rw (g, k) w
 
   -- the notes and what they say
   module _ (t : List ℕ) (w : Lent sh b t) where
-    told : notesDistinct (notesAt (sh .c) (sh .s) t) ≡ notesDistinct (stateOf sh b .notes)
+    told : notesDistinct (notesAt (sh .c) (sh .s) t) ≡ notesDistinct (stateOf sh b .waiting .notes)
     told = ap notesDistinct (notes-are t (w .is))
 
     pub right-rows : (table : List ℕ) (r : Bool) → NoteRows (sh .c) (sh .s) t table → r ≡ earlyRight sh (stateOf sh b) → r ≡ notesRight sh (stateOf sh b)
     unfolding notesRight
-    right-rows table r q h = let d : notesDistinct (stateOf sh b .notes) ≡ true = sym (rows-apart (sh .c) (sh .s) t (w .notes) table q ∙ told) in rw d h
+    right-rows table r q h = let d : notesDistinct (stateOf sh b .waiting .notes) ≡ true = sym (rows-apart (sh .c) (sh .s) t (w .notes) table q ∙ told) in rw d h
 
     pub notes-twice : (a : Bool) → a ≡ notesDistinct (notesAt (sh .c) (sh .s) t) → not a ≡ true → false ≡ notesRight sh (stateOf sh b)
     unfolding notesRight
-    notes-twice a e h = let d : notesDistinct (stateOf sh b .notes) ≡ false = sym (e ∙ told) ∙ when-not a h in rw d
+    notes-twice a e h = let d : notesDistinct (stateOf sh b .waiting .notes) ≡ false = sym (e ∙ told) ∙ when-not a h in rw d
 
     pub right-search : (a r : Bool) → a ≡ notesDistinct (notesAt (sh .c) (sh .s) t) → not a ≡ false → r ≡ earlyRight sh (stateOf sh b) → r ≡ notesRight sh (stateOf sh b)
     unfolding notesRight
-    right-search a r e h q = let d : notesDistinct (stateOf sh b .notes) ≡ true = sym (e ∙ told) ∙ unless-not a h in rw d q
+    right-search a r e h q = let d : notesDistinct (stateOf sh b .waiting .notes) ≡ true = sym (e ∙ told) ∙ unless-not a h in rw d q

@@ -14,7 +14,7 @@ use Rattle.octets.proofs.Codecs.{All, length-items}
 use Rattle.rules.specs.Choice.{pick, every, passes}
 use Rattle.rules.specs.Read.{entryAt, entryWide}
 use Rattle.rules.specs.State.{Note, Vote, countsGood, placesGood}
-use Rattle.rules.specs.Image.{tableLength, noteLength, voteLength, replyLength, stateLength, pointAt, tableAt, noteAt, voteAt, replyAt, stateOf}
+use Rattle.rules.specs.Image.{tableLength, noteLength, voteLength, replyLength, stateLength, pointAt, tableAt, noteAt, voteAt, replyAt, stateOf, atDraft, atEarly, atGVec, atHeard, atLate, atLog, atNotes, atReplies, atVotes}
 use Rattle.rules.specs.declared.Entry.{Entry}
 use Rattle.rules.specs.declared.Shape.{Shape}
 use Rattle.rules.proofs.Tests.{and-both, join, _also_, each-of, each-append, all-items, all-1}
@@ -54,13 +54,13 @@ module _ (sh : Shape) (b : List ℕ) (z : length b ≡ stateLength sh) where
       let f = fields sh b z in
       let c : ℕ = sh .c in
       join _
-      (table-room c b (startOf sh 3) (stateOf sh b .log) (f .log)
-      also table-room c b (startOf sh 4) (stateOf sh b .early) (f .early)
-      also table-room c b (startOf sh 5) (stateOf sh b .late) (f .late)
-      also le-leb (length (stateOf sh b .notes)) c (rw (f .notes) (notes-within c (sh .s) _))
-      also table-room c b (startOf sh 8) (stateOf sh b .draft) (f .draft)
-      also every-row (passes (λ (v : Vote). leb (length (v .log)) c)) (voteAt c b) (voteLength c) (startOf sh 7) (sh .n) (stateOf sh b .votes) (f .votes) (λ i l. passes-any (λ (v : Vote). leb (length (v .log)) c) _ _ (table-room c b _ _ refl))
-      also every-row (passes (λ (es : List Entry). leb (length es) c)) (replyAt c b) (replyLength c) (startOf sh 9) (sh .s) (stateOf sh b .replies) (f .replies) (λ i l. passes-any (λ (es : List Entry). leb (length es) c) _ _ (table-room c b _ _ refl))
+      (table-room c b (startOf sh atLog) (stateOf sh b .logged .log) (f .log)
+      also table-room c b (startOf sh atEarly) (stateOf sh b .waiting .early) (f .early)
+      also table-room c b (startOf sh atLate) (stateOf sh b .waiting .late) (f .late)
+      also le-leb (length (stateOf sh b .waiting .notes)) c (rw (f .notes) (notes-within c (sh .s) _))
+      also table-room c b (startOf sh atDraft) (stateOf sh b .change .draft) (f .draft)
+      also every-row (passes (λ (v : Vote). leb (length (v .log)) c)) (voteAt c b) (voteLength c) (startOf sh atVotes) (sh .n) (stateOf sh b .change .votes) (f .votes) (λ i l. passes-any (λ (v : Vote). leb (length (v .log)) c) _ _ (table-room c b _ _ refl))
+      also every-row (passes (λ (es : List Entry). leb (length es) c)) (replyAt c b) (replyLength c) (startOf sh atReplies) (sh .s) (stateOf sh b .change .replies) (f .replies) (λ i l. passes-any (λ (es : List Entry). leb (length es) c) _ _ (table-room c b _ _ refl))
       also tt)
 
 -- ---- widths
@@ -114,24 +114,24 @@ module _ (sh : Shape) (b : List ℕ) (z : length b ≡ stateLength sh) (bs : Byt
       let st = stateOf sh b in
       let c : ℕ = sh .c in
       let m : ℕ = 4 + noteLength (sh .s) * c in
-      let t : List ℕ = part b (startOf sh 6) m in
-      let ws : every entryWide (st .log ++ (st .early ++ (st .late ++ st .draft))) ≡ true
-      = each-append entryWide (st .log) _ (wide-at (startOf sh 3) (st .log) (f .log) (omega arith))
-      (each-append entryWide (st .early) _ (wide-at (startOf sh 4) (st .early) (f .early) (omega arith))
-      (each-append entryWide (st .late) _ (wide-at (startOf sh 5) (st .late) (f .late) (omega arith))
-      (wide-at (startOf sh 8) (st .draft) (f .draft) (omega arith)))) in
+      let t : List ℕ = part b (startOf sh atNotes) m in
+      let ws : every entryWide (st .logged .log ++ (st .waiting .early ++ (st .waiting .late ++ st .change .draft))) ≡ true
+      = each-append entryWide (st .logged .log) _ (wide-at (startOf sh atLog) (st .logged .log) (f .log) (omega arith))
+      (each-append entryWide (st .waiting .early) _ (wide-at (startOf sh atEarly) (st .waiting .early) (f .early) (omega arith))
+      (each-append entryWide (st .waiting .late) _ (wide-at (startOf sh atLate) (st .waiting .late) (f .late) (omega arith))
+      (wide-at (startOf sh atDraft) (st .change .draft) (f .draft) (omega arith)))) in
       join _
-      (eq-eqb (length (st .gVec)) (sh .s) (ap length (f .gVec) ∙ length-items (λ a. num b a 4) 4 (startOf sh 1) (sh .s))
-      also eq-eqb (length (st .votes)) (sh .n) (ap length (f .votes) ∙ length-items (voteAt c b) (voteLength c) (startOf sh 7) (sh .n))
-      also eq-eqb (length (st .replies)) (sh .s) (ap length (f .replies) ∙ length-items (replyAt c b) (replyLength c) (startOf sh 9) (sh .s))
-      also eq-eqb (length (st .heard)) (sh .n) (ap length (f .heard) ∙ length-items (pointAt b) 9 (startOf sh 2) (sh .n))
+      (eq-eqb (length (st .view .gVec)) (sh .s) (ap length (f .gVec) ∙ length-items (λ a. num b a 4) 4 (startOf sh atGVec) (sh .s))
+      also eq-eqb (length (st .change .votes)) (sh .n) (ap length (f .votes) ∙ length-items (voteAt c b) (voteLength c) (startOf sh atVotes) (sh .n))
+      also eq-eqb (length (st .change .replies)) (sh .s) (ap length (f .replies) ∙ length-items (replyAt c b) (replyLength c) (startOf sh atReplies) (sh .s))
+      also eq-eqb (length (st .heard)) (sh .n) (ap length (f .heard) ∙ length-items (pointAt b) 9 (startOf sh atHeard) (sh .n))
       also (ap (λ (v : ℕ). ltb v (2 ^ 32)) (f .view) ∙ num-fits b bs 8 4 (omega arith))
-      also every-row (λ (v : ℕ). ltb v (2 ^ 32)) (λ a. num b a 4) 4 (startOf sh 1) (sh .s) (st .gVec) (f .gVec) (λ i l. num-fits b bs (startOf sh 1 + 4 * i) 4 (omega arith))
-      also every-row (passes (λ (p : ℕ). ltb p (2 ^ 64))) (pointAt b) 9 (startOf sh 2) (sh .n) (st .heard) (f .heard) (λ i l. passes-any (λ (p : ℕ). ltb p (2 ^ 64)) _ _ (num-fits b bs (startOf sh 2 + 9 * i + 1) 8 (omega arith)))
-      also (ap (every (λ (x : Note). ltb (x .request) (2 ^ 32) && eqb (length (x .stamps)) (sh .s))) (f .notes) ∙ each-of (λ (x : Note). ltb (x .request) (2 ^ 32) && eqb (length (x .stamps)) (sh .s)) (notesAt c (sh .s) t) (all-1 (note-wide (sh .s)) (notesAt c (sh .s) t) (notes-fit t (bytes-part b (startOf sh 6) m bs) c (sh .s) (length-part b (startOf sh 6) m (omega arith)))))
+      also every-row (λ (v : ℕ). ltb v (2 ^ 32)) (λ a. num b a 4) 4 (startOf sh atGVec) (sh .s) (st .view .gVec) (f .gVec) (λ i l. num-fits b bs (startOf sh atGVec + 4 * i) 4 (omega arith))
+      also every-row (passes (λ (p : ℕ). ltb p (2 ^ 64))) (pointAt b) 9 (startOf sh atHeard) (sh .n) (st .heard) (f .heard) (λ i l. passes-any (λ (p : ℕ). ltb p (2 ^ 64)) _ _ (num-fits b bs (startOf sh atHeard + 9 * i + 1) 8 (omega arith)))
+      also (ap (every (λ (x : Note). ltb (x .request) (2 ^ 32) && eqb (length (x .stamps)) (sh .s))) (f .notes) ∙ each-of (λ (x : Note). ltb (x .request) (2 ^ 32) && eqb (length (x .stamps)) (sh .s)) (notesAt c (sh .s) t) (all-1 (note-wide (sh .s)) (notesAt c (sh .s) t) (notes-fit t (bytes-part b (startOf sh atNotes) m bs) c (sh .s) (length-part b (startOf sh atNotes) m (omega arith)))))
       also ws
-      also every-row (passes (λ (v : Vote). every entryWide (v .log))) (voteAt c b) (voteLength c) (startOf sh 7) (sh .n) (st .votes) (f .votes)
-      (λ i l. let w : voteLength c * i + voteLength c ≤ voteLength c * sh .n = within (voteLength c) i (sh .n) l in passes-any (λ (v : Vote). every entryWide (v .log)) _ _ (table-wide b bs c (startOf sh 7 + voteLength c * i + 13) (omega arith)))
-      also every-row (passes (every entryWide)) (replyAt c b) (replyLength c) (startOf sh 9) (sh .s) (st .replies) (f .replies)
-      (λ i l. let w : replyLength c * i + replyLength c ≤ replyLength c * sh .s = within (replyLength c) i (sh .s) l in passes-any (every entryWide) _ _ (table-wide b bs c (startOf sh 9 + replyLength c * i + 1) (omega arith)))
+      also every-row (passes (λ (v : Vote). every entryWide (v .log))) (voteAt c b) (voteLength c) (startOf sh atVotes) (sh .n) (st .change .votes) (f .votes)
+      (λ i l. let w : voteLength c * i + voteLength c ≤ voteLength c * sh .n = within (voteLength c) i (sh .n) l in passes-any (λ (v : Vote). every entryWide (v .log)) _ _ (table-wide b bs c (startOf sh atVotes + voteLength c * i + 13) (omega arith)))
+      also every-row (passes (every entryWide)) (replyAt c b) (replyLength c) (startOf sh atReplies) (sh .s) (st .change .replies) (f .replies)
+      (λ i l. let w : replyLength c * i + replyLength c ≤ replyLength c * sh .s = within (replyLength c) i (sh .s) l in passes-any (every entryWide) _ _ (table-wide b bs c (startOf sh atReplies + replyLength c * i + 1) (omega arith)))
       also tt)

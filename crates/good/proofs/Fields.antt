@@ -8,7 +8,7 @@ use Rattle.octets.specs.Bytes.{num, part, items}
 use Rattle.octets.proofs.Codecs.{getD-items}
 use Rattle.rules.specs.Read.{entryAt}
 use Rattle.rules.specs.State.{State}
-use Rattle.rules.specs.Image.{tableLength, noteLength, voteLength, replyLength, stateLength, pointAt, tableAt, voteAt, replyAt, stateIn, stateOf}
+use Rattle.rules.specs.Image.{tableLength, noteLength, voteLength, replyLength, stateLength, pointAt, tableAt, voteAt, replyAt, stateIn, stateOf, atDraft, atEarly, atGVec, atHeard, atLate, atLog, atNotes, atReplies, atVotes}
 use Rattle.rules.specs.declared.Shape.{Shape}
 use Rattle.notes.specs.Notes.{notesAt}
 use Rattle.places.specs.Layout.{startOf}
@@ -73,24 +73,24 @@ row-in get b a k n o e h =
 -- ---- the fields
 
 pub record Fields (sh : Shape) (b : List ℕ) (st : State) : Type 0 where
-  pub group : st .group ≡ num b 0 1
-  pub replica : st .replica ≡ num b 1 1
-  pub status : st .status ≡ num b 2 1
-  pub view : st .view ≡ num b 8 4
-  pub normal : st .normal ≡ num b 12 4
+  pub group : st .site .group ≡ num b 0 1
+  pub replica : st .site .replica ≡ num b 1 1
+  pub status : st .view .status ≡ num b 2 1
+  pub view : st .view .gView ≡ num b 8 4
+  pub normal : st .view .normal ≡ num b 12 4
   pub clock : st .clock ≡ num b 16 8
-  pub sync : st .sync ≡ num b 24 8
-  pub commit : st .commit ≡ num b 32 8
-  pub boundary : st .boundary ≡ num b 40 8
-  pub gVec : st .gVec ≡ items (λ a. num b a 4) 4 (startOf sh 1) (sh .s)
-  pub heard : st .heard ≡ items (pointAt b) 9 (startOf sh 2) (sh .n)
-  pub log : st .log ≡ tableAt (sh .c) b (startOf sh 3)
-  pub early : st .early ≡ tableAt (sh .c) b (startOf sh 4)
-  pub late : st .late ≡ tableAt (sh .c) b (startOf sh 5)
-  pub notes : st .notes ≡ notesAt (sh .c) (sh .s) (part b (startOf sh 6) (4 + noteLength (sh .s) * sh .c))
-  pub votes : st .votes ≡ items (voteAt (sh .c) b) (voteLength (sh .c)) (startOf sh 7) (sh .n)
-  pub draft : st .draft ≡ tableAt (sh .c) b (startOf sh 8)
-  pub replies : st .replies ≡ items (replyAt (sh .c) b) (replyLength (sh .c)) (startOf sh 9) (sh .s)
+  pub sync : st .logged .sync ≡ num b 24 8
+  pub commit : st .logged .commit ≡ num b 32 8
+  pub boundary : st .change .boundary ≡ num b 40 8
+  pub gVec : st .view .gVec ≡ items (λ a. num b a 4) 4 (startOf sh atGVec) (sh .s)
+  pub heard : st .heard ≡ items (pointAt b) 9 (startOf sh atHeard) (sh .n)
+  pub log : st .logged .log ≡ tableAt (sh .c) b (startOf sh atLog)
+  pub early : st .waiting .early ≡ tableAt (sh .c) b (startOf sh atEarly)
+  pub late : st .waiting .late ≡ tableAt (sh .c) b (startOf sh atLate)
+  pub notes : st .waiting .notes ≡ notesAt (sh .c) (sh .s) (part b (startOf sh atNotes) (4 + noteLength (sh .s) * sh .c))
+  pub votes : st .change .votes ≡ items (voteAt (sh .c) b) (voteLength (sh .c)) (startOf sh atVotes) (sh .n)
+  pub draft : st .change .draft ≡ tableAt (sh .c) b (startOf sh atDraft)
+  pub replies : st .change .replies ≡ items (replyAt (sh .c) b) (replyLength (sh .c)) (startOf sh atReplies) (sh .s)
 
 module _ (sh : Shape) (b : List ℕ) (size : length b ≡ stateLength sh) where
   pub fields : Fields sh b (stateOf sh b)
@@ -117,19 +117,19 @@ module _ (sh : Shape) (b : List ℕ) (size : length b ≡ stateLength sh) where
         sync = num-in b 0 48 h 24 24 8 (omega arith) (omega arith);
         commit = num-in b 0 48 h 32 32 8 (omega arith) (omega arith);
         boundary = num-in b 0 48 h 40 40 8 (omega arith) (omega arith);
-        gVec = row-in (λ x a. num x a 4) b a1 4 (sh .s) (startOf sh 1) (omega arith) (λ i j l e. num-in b a1 (4 * sh .s) (omega arith) i j 4 l e);
-        heard = row-in pointAt b a2 9 (sh .n) (startOf sh 2) (omega arith) (point-in b a2 (9 * sh .n) (omega arith));
-        log = table-in b a3 t (omega arith) (sh .c) 0 (startOf sh 3) (omega arith) (omega arith);
-        early = table-in b a4 t (omega arith) (sh .c) 0 (startOf sh 4) (omega arith) (omega arith);
-        late = table-in b a5 t (omega arith) (sh .c) 0 (startOf sh 5) (omega arith) (omega arith);
+        gVec = row-in (λ x a. num x a 4) b a1 4 (sh .s) (startOf sh atGVec) (omega arith) (λ i j l e. num-in b a1 (4 * sh .s) (omega arith) i j 4 l e);
+        heard = row-in pointAt b a2 9 (sh .n) (startOf sh atHeard) (omega arith) (point-in b a2 (9 * sh .n) (omega arith));
+        log = table-in b a3 t (omega arith) (sh .c) 0 (startOf sh atLog) (omega arith) (omega arith);
+        early = table-in b a4 t (omega arith) (sh .c) 0 (startOf sh atEarly) (omega arith) (omega arith);
+        late = table-in b a5 t (omega arith) (sh .c) 0 (startOf sh atLate) (omega arith) (omega arith);
         notes =
-            let e : a6 ≡ startOf sh 6 = omega arith in
+            let e : a6 ≡ startOf sh atNotes = omega arith in
             ap (λ (x : ℕ). notesAt (sh .c) (sh .s) (part b x (4 + noteLength (sh .s) * sh .c))) e;
-        votes = row-in (voteAt (sh .c)) b a7 (voteLength (sh .c)) (sh .n) (startOf sh 7) (omega arith) (vote-in b a7 (voteLength (sh .c) * sh .n) (omega arith) (sh .c));
-        draft = table-in b a8 t (omega arith) (sh .c) 0 (startOf sh 8) (omega arith) (omega arith);
-        replies = row-in (replyAt (sh .c)) b a9 (replyLength (sh .c)) (sh .s) (startOf sh 9) (omega arith) (reply-in b a9 (replyLength (sh .c) * sh .s) (omega arith) (sh .c));
+        votes = row-in (voteAt (sh .c)) b a7 (voteLength (sh .c)) (sh .n) (startOf sh atVotes) (omega arith) (vote-in b a7 (voteLength (sh .c) * sh .n) (omega arith) (sh .c));
+        draft = table-in b a8 t (omega arith) (sh .c) 0 (startOf sh atDraft) (omega arith) (omega arith);
+        replies = row-in (replyAt (sh .c)) b a9 (replyLength (sh .c)) (sh .s) (startOf sh atReplies) (omega arith) (reply-in b a9 (replyLength (sh .c) * sh .s) (omega arith) (sh .c));
       }
 
   -- the own group's view
-  pub view-of : (j : ℕ) → j < sh .s → getD (stateOf sh b .gVec) j 0 ≡ num b (startOf sh 1 + 4 * j) 4
-  view-of j l = ap (λ (xs : List ℕ). getD xs j 0) (fields .gVec) ∙ getD-items (λ a. num b a 4) 4 (startOf sh 1) (sh .s) j 0 l
+  pub view-of : (j : ℕ) → j < sh .s → getD (stateOf sh b .view .gVec) j 0 ≡ num b (startOf sh atGVec + 4 * j) 4
+  view-of j l = ap (λ (xs : List ℕ). getD xs j 0) (fields .gVec) ∙ getD-items (λ a. num b a 4) 4 (startOf sh atGVec) (sh .s) j 0 l

@@ -15,7 +15,7 @@ use Rattle.rules.specs.Entry.{latest}
 use Rattle.rules.specs.Log.{goodLog, allHold}
 use Rattle.rules.specs.State.{leads, viewGood, heardGood, voteGood, replyGood, keptGood, held}
 use Rattle.rules.specs.Read.{entryAt}
-use Rattle.rules.specs.Image.{voteLength, replyLength, stateLength, pointBytes, pointAt, tableAt, voteAt, replyAt, stateOf}
+use Rattle.rules.specs.Image.{voteLength, replyLength, stateLength, pointBytes, pointAt, tableAt, voteAt, replyAt, stateOf, atGVec, atHeard, atLog, atReplies, atVotes}
 use Rattle.rules.specs.declared.Entry.{Entry}
 use Rattle.rules.specs.declared.Shape.{Shape}
 use Rattle.rules.proofs.Choice.{every-append}
@@ -129,18 +129,18 @@ module _ (sh : Shape) (b : List ℕ) (z : length b ≡ stateLength sh) where
       let f = fields sh b z in
       rw (e1, e2, e3, e4, e5, f .group, f .replica, f .status, f .clock, f .boundary, and-true)
 
-  pub leads-is : (group replica view : ℕ) (r : Bool) → num b 0 1 < sh .s → group ≡ num b 0 1 → view ≡ num b (startOf sh 1 + 4 * group) 4 → replica ≡ num b 1 1 → r ≡ eqb replica (view % sh .n) → r ≡ leads sh (stateOf sh b)
+  pub leads-is : (group replica view : ℕ) (r : Bool) → num b 0 1 < sh .s → group ≡ num b 0 1 → view ≡ num b (startOf sh atGVec + 4 * group) 4 → replica ≡ num b 1 1 → r ≡ eqb replica (view % sh .n) → r ≡ leads sh (stateOf sh b)
   leads-is group replica view r l e1 e2 e3 e4 =
       let f = fields sh b z in
-      let g : group ≡ stateOf sh b .group = e1 ∙ sym (f .group) in
+      let g : group ≡ stateOf sh b .site .group = e1 ∙ sym (f .group) in
       let h : group < sh .s = omega arith in
-      let v : view ≡ getD (stateOf sh b .gVec) (stateOf sh b .group) 0 = e2 ∙ sym (view-of sh b z group h) ∙ ap (λ (j : ℕ). getD (stateOf sh b .gVec) j 0) g in
+      let v : view ≡ getD (stateOf sh b .view .gVec) (stateOf sh b .site .group) 0 = e2 ∙ sym (view-of sh b z group h) ∙ ap (λ (j : ℕ). getD (stateOf sh b .view .gVec) j 0) g in
       e4 ∙ ap₂ (λ (x y : ℕ). eqb x (y % sh .n)) (e3 ∙ sym (f .replica)) v
 
-  log-count : (at n : ℕ) → at ≡ startOf sh 3 → n ≡ min (num b at 4) (sh .c) → n ≡ length (stateOf sh b .log)
+  log-count : (at n : ℕ) → at ≡ startOf sh atLog → n ≡ min (num b at 4) (sh .c) → n ≡ length (stateOf sh b .logged .log)
   log-count at n p q = count-is (sh .c) b at n q ∙ ap (λ (a : ℕ). length (tableAt (sh .c) b a)) p ∙ ap length (sym (fields sh b z .log))
 
-  pub points-is : (at n sync commit : ℕ) → at ≡ startOf sh 3 → n ≡ min (num b at 4) (sh .c) → sync ≡ num b 24 8 → commit ≡ num b 32 8 → (leb commit sync && leb sync n) ≡ pointsGood (stateOf sh b)
+  pub points-is : (at n sync commit : ℕ) → at ≡ startOf sh atLog → n ≡ min (num b at 4) (sh .c) → sync ≡ num b 24 8 → commit ≡ num b 32 8 → (leb commit sync && leb sync n) ≡ pointsGood (stateOf sh b)
   unfolding pointsGood
   points-is at n sync commit p q e2 e1 =
       let f = fields sh b z in
@@ -152,30 +152,30 @@ module _ (sh : Shape) (b : List ℕ) (z : length b ≡ stateLength sh) where
   view-is status normal view l e1 e2 e3 e4 =
       let f = fields sh b z in
       rw (e1 ∙ sym (f .status), e2 ∙ sym (f .normal), e3 ∙ sym (f .view), e4)
-      (ap (λ (t : Bool). t && when (eqb (stateOf sh b .status) 3) (leads sh (stateOf sh b))) (sym (pick-both (eqb (stateOf sh b .status) 1) _ _)))
+      (ap (λ (t : Bool). t && when (eqb (stateOf sh b .view .status) 3) (leads sh (stateOf sh b))) (sym (pick-both (eqb (stateOf sh b .view .status) 1) _ _)))
 
-  heard-form : same (flat pointBytes (items (pointAt b) 9 (startOf sh 2) (sh .n))) (part b (startOf sh 2) (9 * sh .n)) ≡ sectionForm sh b 2
+  heard-form : same (flat pointBytes (items (pointAt b) 9 (startOf sh atHeard) (sh .n))) (part b (startOf sh atHeard) (9 * sh .n)) ≡ sectionForm sh b 2
   unfolding sectionForm
   heard-form =
-      let e : startOf sh 2 ≡ 0 + 48 + 4 * sh .s = omega arith in
+      let e : startOf sh atHeard ≡ 0 + 48 + 4 * sh .s = omega arith in
       ap₂ (λ (xs : List (Option ℕ)) (j : ℕ). same (flat pointBytes xs) (part b j (9 * sh .n))) (sym (fields sh b z .heard)) e
 
-  pub heard-is : (at n status sync : ℕ) (l w : Bool) → at ≡ startOf sh 3 → n ≡ min (num b at 4) (sh .c) → status ≡ num b 2 1 → sync ≡ num b 24 8 → l ≡ leads sh (stateOf sh b)
-      → w ≡ (same (flat pointBytes (items (pointAt b) 9 (startOf sh 2) (sh .n))) (part b (startOf sh 2) (9 * sh .n)) && every (passes (λ p. not (eqb status 1) || (l && leb p sync))) (items (pointAt b) 9 (startOf sh 2) (sh .n)))
+  pub heard-is : (at n status sync : ℕ) (l w : Bool) → at ≡ startOf sh atLog → n ≡ min (num b at 4) (sh .c) → status ≡ num b 2 1 → sync ≡ num b 24 8 → l ≡ leads sh (stateOf sh b)
+      → w ≡ (same (flat pointBytes (items (pointAt b) 9 (startOf sh atHeard) (sh .n))) (part b (startOf sh atHeard) (9 * sh .n)) && every (passes (λ p. not (eqb status 1) || (l && leb p sync))) (items (pointAt b) 9 (startOf sh atHeard) (sh .n)))
       → (w && (not (eqb status 1) || (not l || eqb sync n))) ≡ (sectionForm sh b 2 && heardGood sh (stateOf sh b))
   unfolding heardGood
   heard-is at n status sync l w p q e1 e2 e4 e5 =
       let f = fields sh b z in
       let st = stateOf sh b in
-      let g : Bool = same (flat pointBytes (items (pointAt b) 9 (startOf sh 2) (sh .n))) (part b (startOf sh 2) (9 * sh .n)) in
-      heard-both (eqb status 1) g l (eqb sync n) w sync (items (pointAt b) 9 (startOf sh 2) (sh .n)) e5
+      let g : Bool = same (flat pointBytes (items (pointAt b) 9 (startOf sh atHeard) (sh .n))) (part b (startOf sh atHeard) (9 * sh .n)) in
+      heard-both (eqb status 1) g l (eqb sync n) w sync (items (pointAt b) 9 (startOf sh atHeard) (sh .n)) e5
       ∙ rw (heard-form, e1 ∙ sym (f .status), e2 ∙ sym (f .sync), log-count at n p q, e4, sym (f .heard))
 
   -- ---- votes and replies
 
   module _ (r : ℕ) (flag : Bool) where
     abbrev votePlace : ℕ
-    votePlace = startOf sh 7 + voteLength (sh .c) * r
+    votePlace = startOf sh atVotes + voteLength (sh .c) * r
 
     pub vote-unset : flag ≡ isSome (voteAt (sh .c) b votePlace) → not flag ≡ true → true ≡ passes (voteGood sh (stateOf sh b)) (voteAt (sh .c) b votePlace)
     unfolding voteAt
@@ -190,7 +190,7 @@ module _ (sh : Shape) (b : List ℕ) (z : length b ≡ stateLength sh) where
 
   module _ (j : ℕ) (flag : Bool) where
     abbrev replyPlace : ℕ
-    replyPlace = startOf sh 9 + replyLength (sh .c) * j
+    replyPlace = startOf sh atReplies + replyLength (sh .c) * j
 
     pub reply-unset : flag ≡ isSome (replyAt (sh .c) b replyPlace) → not flag ≡ true → true ≡ passes (replyGood sh (stateOf sh b) j) (replyAt (sh .c) b replyPlace)
     unfolding replyAt
@@ -210,20 +210,20 @@ module _ (sh : Shape) (b : List ℕ) (z : length b ≡ stateLength sh) where
       ∙ ap (count (λ i. isSome (getD (items get k o n) i none))) (sym (length-items get k o n))
       ∙ ap held (sym e)
 
-  replies-each : every (λ j. passes (replyGood sh (stateOf sh b) j) (replyAt (sh .c) b (startOf sh 9 + replyLength (sh .c) * j))) (below (sh .s)) ≡ every (λ j. passes (replyGood sh (stateOf sh b) j) (getD (stateOf sh b .replies) j none)) (below (sh .s))
+  replies-each : every (λ j. passes (replyGood sh (stateOf sh b) j) (replyAt (sh .c) b (startOf sh atReplies + replyLength (sh .c) * j))) (below (sh .s)) ≡ every (λ j. passes (replyGood sh (stateOf sh b) j) (getD (stateOf sh b .change .replies) j none)) (below (sh .s))
   replies-each =
-      below-agree _ _ (sh .s) (λ j l. ap (passes (replyGood sh (stateOf sh b) j)) (sym (ap (λ (xs : List (Option (List Entry))). getD xs j none) (fields sh b z .replies) ∙ getD-items (replyAt (sh .c) b) (replyLength (sh .c)) (startOf sh 9) (sh .s) j none l)))
+      below-agree _ _ (sh .s) (λ j l. ap (passes (replyGood sh (stateOf sh b) j)) (sym (ap (λ (xs : List (Option (List Entry))). getD xs j none) (fields sh b z .replies) ∙ getD-items (replyAt (sh .c) b) (replyLength (sh .c)) (startOf sh atReplies) (sh .s) j none l)))
 
-  pub kept-is : (status votes replies most : ℕ) (v w : Bool) → status ≡ num b 2 1 → votes ≡ count (λ r. isSome (voteAt (sh .c) b (startOf sh 7 + voteLength (sh .c) * r))) (sh .n) → replies ≡ count (λ j. isSome (replyAt (sh .c) b (startOf sh 9 + replyLength (sh .c) * j))) (sh .s)
-      → v ≡ every (passes (voteGood sh (stateOf sh b))) (items (voteAt (sh .c) b) (voteLength (sh .c)) (startOf sh 7) (sh .n)) → w ≡ every (λ j. passes (replyGood sh (stateOf sh b) j) (replyAt (sh .c) b (startOf sh 9 + replyLength (sh .c) * j))) (below (sh .s)) → most ≡ majority (sh .n)
+  pub kept-is : (status votes replies most : ℕ) (v w : Bool) → status ≡ num b 2 1 → votes ≡ count (λ r. isSome (voteAt (sh .c) b (startOf sh atVotes + voteLength (sh .c) * r))) (sh .n) → replies ≡ count (λ j. isSome (replyAt (sh .c) b (startOf sh atReplies + replyLength (sh .c) * j))) (sh .s)
+      → v ≡ every (passes (voteGood sh (stateOf sh b))) (items (voteAt (sh .c) b) (voteLength (sh .c)) (startOf sh atVotes) (sh .n)) → w ≡ every (λ j. passes (replyGood sh (stateOf sh b) j) (replyAt (sh .c) b (startOf sh atReplies + replyLength (sh .c) * j))) (below (sh .s)) → most ≡ majority (sh .n)
       → (v && (w && ((not (eqb status 2) || ltb votes most) && (not (eqb status 3) || ltb replies (sh .s - 1))))) ≡ keptGood sh (stateOf sh b)
   unfolding keptGood allOf
   kept-is status votes replies most v w e1 e2 e3 e4 e5 e6 =
       let f = fields sh b z in
       let st = stateOf sh b in
-      let a : v ≡ every (passes (voteGood sh st)) (st .votes) = e4 ∙ ap (every (passes (voteGood sh st))) (sym (f .votes)) in
-      let c : w ≡ every (λ j. passes (replyGood sh st j) (getD (st .replies) j none)) (below (sh .s)) = e5 ∙ replies-each in
-      let d : votes ≡ held (st .votes) = e2 ∙ held-row (voteAt (sh .c) b) (voteLength (sh .c)) (startOf sh 7) (sh .n) (st .votes) (f .votes) in
-      let g : replies ≡ held (st .replies) = e3 ∙ held-row (replyAt (sh .c) b) (replyLength (sh .c)) (startOf sh 9) (sh .s) (st .replies) (f .replies) in
-      let i : status ≡ st .status = e1 ∙ sym (f .status) in
+      let a : v ≡ every (passes (voteGood sh st)) (st .change .votes) = e4 ∙ ap (every (passes (voteGood sh st))) (sym (f .votes)) in
+      let c : w ≡ every (λ j. passes (replyGood sh st j) (getD (st .change .replies) j none)) (below (sh .s)) = e5 ∙ replies-each in
+      let d : votes ≡ held (st .change .votes) = e2 ∙ held-row (voteAt (sh .c) b) (voteLength (sh .c)) (startOf sh atVotes) (sh .n) (st .change .votes) (f .votes) in
+      let g : replies ≡ held (st .change .replies) = e3 ∙ held-row (replyAt (sh .c) b) (replyLength (sh .c)) (startOf sh atReplies) (sh .s) (st .change .replies) (f .replies) in
+      let i : status ≡ st .view .status = e1 ∙ sym (f .status) in
       rw (a, c, d, g, i, e6, and-true)

@@ -14,7 +14,7 @@ use Rattle.rules.specs.Group.{shapeFits}
 use Rattle.rules.specs.Entry.{entryFits}
 use Rattle.rules.specs.Log.{goodLog}
 use Rattle.rules.specs.State.{State, viewGood, heardGood, keptGood, countsGood, buffersGood, noteFits, notesDistinct, rangesGood, placesGood, good}
-use Rattle.rules.specs.Image.{tableLength, noteLength, stateLength, tableBytes, notesSection, image, tableAt, stateIn, stateOf, goodBytes}
+use Rattle.rules.specs.Image.{tableLength, noteLength, stateLength, tableBytes, notesSection, image, tableAt, stateIn, stateOf, goodBytes, atDraft, atEarly, atLate, atLog, atNotes, atVotes}
 use Rattle.rules.specs.declared.Shape.{Shape}
 use Rattle.rules.proofs.Tests.{and-l, and-r, and-both, split, join, _also_, same-true}
 use Rattle.entries.proofs.Table.{count-table}
@@ -76,56 +76,56 @@ module _ (sh : Shape) (b : List ℕ) (s : Sized sh b) (bs : Bytes b) (e : tables
       let t : ℕ = tableLength (sh .c) in
       let a3 : ℕ = 0 + 48 + 4 * sh .s + 9 * sh .n in
       let a6 : ℕ = a3 + t + t + t in
-      let q : a6 ≡ startOf sh 6 = omega arith in
-      let g : stateOf sh b .group < sh .s = ltb-true _ _ (split _ h 0) in
-      let k : stateOf sh b .group ≡ num b 0 1 = fields sh b z .group in
+      let q : a6 ≡ startOf sh atNotes = omega arith in
+      let g : stateOf sh b .site .group < sh .s = ltb-true _ _ (split _ h 0) in
+      let k : stateOf sh b .site .group ≡ num b 0 1 = fields sh b z .group in
       record {
         known = record { sized = s; group = omega arith };
-        log = room-at (sh .c) b a3 (startOf sh 3) (omega arith) m (omega arith) log-form;
-        early = room-at (sh .c) b (a3 + t) (startOf sh 4) (omega arith) m (omega arith) early-form;
-        late = room-at (sh .c) b (a3 + t + t) (startOf sh 5) (omega arith) m (omega arith) late-form;
+        log = room-at (sh .c) b a3 (startOf sh atLog) (omega arith) m (omega arith) log-form;
+        early = room-at (sh .c) b (a3 + t) (startOf sh atEarly) (omega arith) m (omega arith) early-form;
+        late = room-at (sh .c) b (a3 + t + t) (startOf sh atLate) (omega arith) m (omega arith) late-form;
         notes = subst (λ (a : ℕ). Notes (sh .c) (sh .s) (notesPart a)) q (notes-form a6 (omega arith) ne);
       }
 
 -- ---- the notes lent as a slice of their own
 
 module _ (sh : Shape) (b : List ℕ) (from upto : ℕ) where
-  pub notes-lent : from ≡ startOf sh 6 → upto ≡ startOf sh 7 → take (upto - from) (drop from b) ≡ part b (startOf sh 6) (4 + noteLength (sh .s) * sh .c)
+  pub notes-lent : from ≡ startOf sh atNotes → upto ≡ startOf sh atVotes → take (upto - from) (drop from b) ≡ part b (startOf sh atNotes) (4 + noteLength (sh .s) * sh .c)
   unfolding part
   notes-lent e f =
       let m : upto - from ≡ 4 + noteLength (sh .s) * sh .c = omega arith in
       ap₂ (λ (x y : ℕ). take x (drop y b)) m e
 
-  pub lent-notes : Notes (sh .c) (sh .s) (part b (startOf sh 6) (4 + noteLength (sh .s) * sh .c)) → from ≡ startOf sh 6 → upto ≡ startOf sh 7 → Lent sh b (take (upto - from) (drop from b))
+  pub lent-notes : Notes (sh .c) (sh .s) (part b (startOf sh atNotes) (4 + noteLength (sh .s) * sh .c)) → from ≡ startOf sh atNotes → upto ≡ startOf sh atVotes → Lent sh b (take (upto - from) (drop from b))
   lent-notes h e f = record { notes = subst (λ (t : List ℕ). Notes (sh .c) (sh .s) t) (sym (notes-lent e f)) h; is = notes-lent e f }
 
   -- what is found of them, said of the section
-  pub section-fits : length b ≡ stateLength sh → (r : Bool) → from ≡ startOf sh 6 → upto ≡ startOf sh 7
+  pub section-fits : length b ≡ stateLength sh → (r : Bool) → from ≡ startOf sh atNotes → upto ≡ startOf sh atVotes
       → r ≡ (same (notesSection (sized (sh .c) (sh .s)) (notesAt (sh .c) (sh .s) (take (upto - from) (drop from b)))) (take (upto - from) (drop from b)) && every noteFits (notesAt (sh .c) (sh .s) (take (upto - from) (drop from b))))
-      → r ≡ (sectionForm sh b 6 && every noteFits (stateOf sh b .notes))
+      → r ≡ (sectionForm sh b 6 && every noteFits (stateOf sh b .waiting .notes))
   unfolding sectionForm
   section-fits z r e f h =
       let t : List ℕ = take (upto - from) (drop from b) in
-      let xs : notesAt (sh .c) (sh .s) t ≡ stateOf sh b .notes = notes-are sh b z t (notes-lent e f) in
+      let xs : notesAt (sh .c) (sh .s) t ≡ stateOf sh b .waiting .notes = notes-are sh b z t (notes-lent e f) in
       let k : ℕ = tableLength (sh .c) in
-      let q : startOf sh 6 ≡ 0 + 48 + 4 * sh .s + 9 * sh .n + k + k + k = omega arith in
+      let q : startOf sh atNotes ≡ 0 + 48 + 4 * sh .s + 9 * sh .n + k + k + k = omega arith in
       let y : t ≡ part b (0 + 48 + 4 * sh .s + 9 * sh .n + k + k + k) (4 + noteLength (sh .s) * sh .c) = notes-lent e f ∙ ap (λ (j : ℕ). part b j (4 + noteLength (sh .s) * sh .c)) q in
-      h ∙ ap₂ _&&_ (ap₂ same (ap (notesSection (sized (sh .c) (sh .s))) xs ∙ sym (section-of sh (stateOf sh b .notes))) y) (ap (every noteFits) xs)
+      h ∙ ap₂ _&&_ (ap₂ same (ap (notesSection (sized (sh .c) (sh .s))) xs ∙ sym (section-of sh (stateOf sh b .waiting .notes))) y) (ap (every noteFits) xs)
 
 -- ---- the twelve together
 
 module _ (sh : Shape) (st : State) (counts : countsGood sh st ≡ true) (places : placesGood sh st ≡ true) where
-  to-good : (headFits sh st && (every noteFits (st .notes) && restGood sh st)) ≡ true → good sh st ≡ true
+  to-good : (headFits sh st && (every noteFits (st .waiting .notes) && restGood sh st)) ≡ true → good sh st ≡ true
   unfolding good rangesGood headFits restGood pointsGood entriesGood notesRight earlyRight
   to-good e =
-      let h = split _ (and-l (headFits sh st) (every noteFits (st .notes) && restGood sh st) e) in
-      let n = and-r (headFits sh st) (every noteFits (st .notes) && restGood sh st) e in
-      let r = split _ (and-r (every noteFits (st .notes)) (restGood sh st) n) in
-      let w = and-r (goodLog (sh .s) (st .group) (st .log)) (buffersGood st && every (entryFits (sh .s)) (st .early ++ st .late)) (r 5) in
-      let ranges : rangesGood sh st ≡ true = join _ (h 0 also h 1 also h 2 also h 3 also h 4 also h 5 also and-r (buffersGood st) _ w also and-l (every noteFits (st .notes)) (restGood sh st) n also and-l (notesDistinct (st .notes)) _ (r 6) also tt) in
-      join _ (and-l (goodLog (sh .s) (st .group) (st .log)) (buffersGood st && every (entryFits (sh .s)) (st .early ++ st .late)) (r 5) also r 1 also and-l (leb (st .commit) (st .sync)) (leb (st .sync) (length (st .log))) (r 2) also and-r (leb (st .commit) (st .sync)) (leb (st .sync) (length (st .log))) (r 2) also r 3 also r 0 also r 4 also counts also and-l (buffersGood st) _ w also and-r (notesDistinct (st .notes)) _ (r 6) also ranges also places also tt)
+      let h = split _ (and-l (headFits sh st) (every noteFits (st .waiting .notes) && restGood sh st) e) in
+      let n = and-r (headFits sh st) (every noteFits (st .waiting .notes) && restGood sh st) e in
+      let r = split _ (and-r (every noteFits (st .waiting .notes)) (restGood sh st) n) in
+      let w = and-r (goodLog (sh .s) (st .site .group) (st .logged .log)) (buffersGood st && every (entryFits (sh .s)) (st .waiting .early ++ st .waiting .late)) (r 5) in
+      let ranges : rangesGood sh st ≡ true = join _ (h 0 also h 1 also h 2 also h 3 also h 4 also h 5 also and-r (buffersGood st) _ w also and-l (every noteFits (st .waiting .notes)) (restGood sh st) n also and-l (notesDistinct (st .waiting .notes)) _ (r 6) also tt) in
+      join _ (and-l (goodLog (sh .s) (st .site .group) (st .logged .log)) (buffersGood st && every (entryFits (sh .s)) (st .waiting .early ++ st .waiting .late)) (r 5) also r 1 also and-l (leb (st .logged .commit) (st .logged .sync)) (leb (st .logged .sync) (length (st .logged .log))) (r 2) also and-r (leb (st .logged .commit) (st .logged .sync)) (leb (st .logged .sync) (length (st .logged .log))) (r 2) also r 3 also r 0 also r 4 also counts also and-l (buffersGood st) _ w also and-r (notesDistinct (st .waiting .notes)) _ (r 6) also ranges also places also tt)
 
-  from-good : good sh st ≡ true → (headFits sh st && (every noteFits (st .notes) && restGood sh st)) ≡ true
+  from-good : good sh st ≡ true → (headFits sh st && (every noteFits (st .waiting .notes) && restGood sh st)) ≡ true
   unfolding good rangesGood headFits restGood pointsGood entriesGood notesRight earlyRight
   from-good e =
       let g = split _ e in
@@ -134,7 +134,7 @@ module _ (sh : Shape) (st : State) (counts : countsGood sh st ≡ true) (places 
       (and-both _ _ (q 7)
       (join _ (g 5 also g 1 also and-both _ _ (g 2) (g 3) also g 4 also g 6 also and-both _ _ (g 0) (and-both _ _ (g 8) (q 6)) also and-both _ _ (q 8) (g 9) also tt)))
 
-  good-is : good sh st ≡ (headFits sh st && (every noteFits (st .notes) && restGood sh st))
+  good-is : good sh st ≡ (headFits sh st && (every noteFits (st .waiting .notes) && restGood sh st))
   good-is = truth _ _ from-good to-good
 
 -- ---- each way through the check
@@ -148,8 +148,8 @@ module _ (sh : Shape) (b : List ℕ) where
   unfolding goodBytes
   wrong-length n e h = let g : eqb (length b) (stateLength sh) ≡ false = ne-eqb _ _ (λ q. h (q ∙ sym e)) in simp (g, and-false)
 
-  pub notes-formed : (f : Bool) → f ≡ (sectionForm sh b 6 && every noteFits (stateOf sh b .notes)) → not f ≡ false → sectionForm sh b 6 ≡ true
-  notes-formed f e h = and-l (sectionForm sh b 6) (every noteFits (stateOf sh b .notes)) (sym e ∙ unless-not f h)
+  pub notes-formed : (f : Bool) → f ≡ (sectionForm sh b 6 && every noteFits (stateOf sh b .waiting .notes)) → not f ≡ false → sectionForm sh b 6 ≡ true
+  notes-formed f e h = and-l (sectionForm sh b 6) (every noteFits (stateOf sh b .waiting .notes)) (sym e ∙ unless-not f h)
 
   module _ (z : length b ≡ stateLength sh) where
     pub not-formed : (f : Bool) → f ≡ tablesForm sh b → not f ≡ true → false ≡ goodBytes sh b
@@ -160,7 +160,7 @@ module _ (sh : Shape) (b : List ℕ) where
         simp (k, and-false)
 
     module _ (bs : Bytes b) where
-      parts : good sh (stateOf sh b) ≡ (headFits sh (stateOf sh b) && (every noteFits (stateOf sh b .notes) && restGood sh (stateOf sh b)))
+      parts : good sh (stateOf sh b) ≡ (headFits sh (stateOf sh b) && (every noteFits (stateOf sh b .waiting .notes) && restGood sh (stateOf sh b)))
       parts = good-is sh (stateOf sh b) (counts-good sh b z) (places-good sh b z bs)
 
       pub head-unfit : (f : Bool) → f ≡ headFits sh (stateOf sh b) → not f ≡ true → false ≡ goodBytes sh b
@@ -171,7 +171,7 @@ module _ (sh : Shape) (b : List ℕ) where
           simp (k, and-false)
 
       -- form and range of the notes are asked together
-      pub notes-unfit : (f : Bool) → f ≡ (sectionForm sh b 6 && every noteFits (stateOf sh b .notes)) → not f ≡ true → false ≡ goodBytes sh b
+      pub notes-unfit : (f : Bool) → f ≡ (sectionForm sh b 6 && every noteFits (stateOf sh b .waiting .notes)) → not f ≡ true → false ≡ goodBytes sh b
       unfolding goodBytes
       notes-unfit f e h = go (sectionForm sh b 6) refl
         where
@@ -180,32 +180,32 @@ module _ (sh : Shape) (b : List ℕ) where
               let k : same (image sh (stateOf sh b)) b ≡ false = all-form sh b z ∙ simp (q, and-false) in
               simp (k, and-false)
           go true q =
-              let g : every noteFits (stateOf sh b .notes) ≡ false = ap (λ (t : Bool). t && every noteFits (stateOf sh b .notes)) (sym q) ∙ sym e ∙ when-not f h in
+              let g : every noteFits (stateOf sh b .waiting .notes) ≡ false = ap (λ (t : Bool). t && every noteFits (stateOf sh b .waiting .notes)) (sym q) ∙ sym e ∙ when-not f h in
               let k : good sh (stateOf sh b) ≡ false = parts ∙ simp (g, and-false) in
               simp (k, and-false)
 
-      pub all-good : (f d h n r : Bool) → f ≡ shapeFits sh → not f ≡ false → d ≡ tablesForm sh b → not d ≡ false → h ≡ headFits sh (stateOf sh b) → not h ≡ false → n ≡ (sectionForm sh b 6 && every noteFits (stateOf sh b .notes)) → not n ≡ false → r ≡ (sectionForm sh b 2 && restGood sh (stateOf sh b)) → r ≡ goodBytes sh b
+      pub all-good : (f d h n r : Bool) → f ≡ shapeFits sh → not f ≡ false → d ≡ tablesForm sh b → not d ≡ false → h ≡ headFits sh (stateOf sh b) → not h ≡ false → n ≡ (sectionForm sh b 6 && every noteFits (stateOf sh b .waiting .notes)) → not n ≡ false → r ≡ (sectionForm sh b 2 && restGood sh (stateOf sh b)) → r ≡ goodBytes sh b
       unfolding goodBytes
       all-good f d h n r e1 t1 e2 t2 e3 t3 e4 t4 e5 =
           let g1 : shapeFits sh ≡ true = sym e1 ∙ unless-not f t1 in
           let g2 : tablesForm sh b ≡ true = sym e2 ∙ unless-not d t2 in
           let g3 : headFits sh (stateOf sh b) ≡ true = sym e3 ∙ unless-not h t3 in
-          let g4 : (sectionForm sh b 6 && every noteFits (stateOf sh b .notes)) ≡ true = sym e4 ∙ unless-not n t4 in
-          let g5 : sectionForm sh b 6 ≡ true = and-l (sectionForm sh b 6) (every noteFits (stateOf sh b .notes)) g4 in
-          let g6 : every noteFits (stateOf sh b .notes) ≡ true = and-r (sectionForm sh b 6) (every noteFits (stateOf sh b .notes)) g4 in
+          let g4 : (sectionForm sh b 6 && every noteFits (stateOf sh b .waiting .notes)) ≡ true = sym e4 ∙ unless-not n t4 in
+          let g5 : sectionForm sh b 6 ≡ true = and-l (sectionForm sh b 6) (every noteFits (stateOf sh b .waiting .notes)) g4 in
+          let g6 : every noteFits (stateOf sh b .waiting .notes) ≡ true = and-r (sectionForm sh b 6) (every noteFits (stateOf sh b .waiting .notes)) g4 in
           let k : same (image sh (stateOf sh b)) b ≡ sectionForm sh b 2 = all-form sh b z ∙ rw (g2, g5, and-true) in
           let m : good sh (stateOf sh b) ≡ restGood sh (stateOf sh b) = parts ∙ rw (g3, g6) in
           simp (g1, eq-eqb (length b) (stateLength sh) z, k, m) e5
 
     -- what the tests after those say, taken together
-    pub rest-is : (k l8 : ℕ) (heard draft points view kept entries noting : Bool) → k ≡ num b 0 1 → l8 ≡ startOf sh 8
+    pub rest-is : (k l8 : ℕ) (heard draft points view kept entries noting : Bool) → k ≡ num b 0 1 → l8 ≡ startOf sh atDraft
         → heard ≡ (sectionForm sh b 2 && heardGood sh (stateOf sh b)) → draft ≡ goodLog (sh .s) k (tableAt (sh .c) b l8) → points ≡ pointsGood (stateOf sh b) → view ≡ viewGood sh (stateOf sh b) → kept ≡ keptGood sh (stateOf sh b) → entries ≡ entriesGood sh (stateOf sh b) → noting ≡ notesRight sh (stateOf sh b)
         → (heard && (draft && (points && (view && (kept && (entries && noting)))))) ≡ (sectionForm sh b 2 && restGood sh (stateOf sh b))
     unfolding restGood allOf
     rest-is k l8 heard draft points view kept entries noting ek p8 e1 e2 e3 e4 e5 e6 e7 =
         let f = fields sh b z in
         let st = stateOf sh b in
-        let d : draft ≡ goodLog (sh .s) (st .group) (st .draft) = e2 ∙ ap₂ (goodLog (sh .s)) (ek ∙ sym (f .group)) (ap (tableAt (sh .c) b) p8 ∙ sym (f .draft)) in
+        let d : draft ≡ goodLog (sh .s) (st .site .group) (st .change .draft) = e2 ∙ ap₂ (goodLog (sh .s)) (ek ∙ sym (f .group)) (ap (tableAt (sh .c) b) p8 ∙ sym (f .draft)) in
         ap (λ (t : Bool). t && (draft && (points && (view && (kept && (entries && noting)))))) e1
         ∙ and-assoc (sectionForm sh b 2) (heardGood sh st) (draft && (points && (view && (kept && (entries && noting)))))
         ∙ rw (d, e3, e4, e5, e6, e7, and-true)

@@ -2,6 +2,7 @@
 use notes::Point;
 use rules::Entry;
 use rules::Shape;
+use rules::status;
 ghost use mathlib.Core.Path.{_≡_};
 ghost use mathlib.Core.Bool.{true, _&&_, _||_, not};
 ghost use Prim.Native.Nat.{_+_, _*_, _≤_, _<_, min};
@@ -9,11 +10,11 @@ ghost use lib.Dec.{eqb, leb};
 ghost use lib.ListN.{length};
 ghost use Rattle.octets.specs.Bytes.{num, items, flat, part};
 ghost use Rattle.rules.specs.Choice.{pick, every, passes, below, same};
-ghost use Rattle.rules.specs.Entry.{lastStamp};
+ghost use Rattle.rules.specs.Log.{lastStamp};
 ghost use Rattle.rules.specs.Log.{goodLog, distinct};
 ghost use Rattle.rules.specs.State.{viewGood, heardGood, voteGood, replyGood, keptGood, noteFits, notesDistinct};
 ghost use Rattle.rules.specs.State as rule;
-ghost use Rattle.rules.specs.Image.{tableLength, voteLength, replyLength, pointBytes, pointAt, tableAt, voteAt, replyAt, stateOf, goodBytes};
+ghost use Rattle.rules.specs.Image.{tableLength, voteLength, replyLength, pointBytes, pointAt, tableAt, voteAt, replyAt, stateOf, goodBytes, atHeard, atReplies, atVotes};
 ghost use Rattle.logs.specs.Place.{fits};
 ghost use Rattle.notes.specs.Notes.{sized, notesAt, row, Notes};
 ghost use Rattle.lookups.specs.Rows.{NoteRows};
@@ -87,7 +88,9 @@ fn head_fits(shape: Shape, state: &[u8]) -> bool
     let clock = places::get_clock(state);
     let boundary = places::get_boundary(state);
     let times = (clock <= 9223372036854775807) & (boundary <= 9223372036854775807);
-    (group < shape.s) & ((replica < shape.n) & ((1 <= status) & ((status <= 3) & times)))
+    (group < shape.s)
+        & ((replica < shape.n)
+            & ((status::NORMAL <= status) & ((status <= status::CROSS_SHARD) & times)))
 }
 
 // Whether the own replica leads its group.
@@ -117,8 +120,9 @@ fn view_good(shape: Shape, state: &[u8]) -> bool
     let status = places::get_status(state);
     let normal = places::get_normal(state);
     let view = places::get_view(state);
-    let right = ((status == 1) & (normal == view)) | ((status != 1) & (normal < view));
-    right & ((status != 3) | leads(shape, state))
+    let right = ((status == status::NORMAL) & (normal == view))
+        | ((status != status::NORMAL) & (normal < view));
+    right & ((status != status::CROSS_SHARD) | leads(shape, state))
 }
 
 // ---- the points heard
@@ -126,7 +130,7 @@ fn view_good(shape: Shape, state: &[u8]) -> bool
 // Whether every point heard has its form and, where `asked`, none is above `most`, and none is there where the own replica is no leader.
 fn heard_within(shape: Shape, state: &[u8], asked: bool, leading: bool, most: u64) -> bool
     requires { ⌜ Sized shape (now state) ⌝ }
-    ensures { λ r. ⌜ r ≡ (same (flat pointBytes (items (pointAt (now (state .entry))) 9 (startOf shape 2) (shape .n))) (part (now (state .entry)) (startOf shape 2) (9 * shape .n)) && every (passes (λ p. not asked || (leading && leb p most))) (items (pointAt (now (state .entry))) 9 (startOf shape 2) (shape .n))) ⌝ }
+    ensures { λ r. ⌜ r ≡ (same (flat pointBytes (items (pointAt (now (state .entry))) 9 (startOf shape atHeard) (shape .n))) (part (now (state .entry)) (startOf shape atHeard) (9 * shape .n)) && every (passes (λ p. not asked || (leading && leb p most))) (items (pointAt (now (state .entry))) 9 (startOf shape atHeard) (shape .n))) ⌝ }
 {
     let at = places::places_of(shape).heard;
     let mut formed = true;
@@ -151,8 +155,8 @@ fn heard_good(shape: Shape, state: &[u8]) -> bool
     let status = places::get_status(state);
     let sync = places::get_sync(state);
     let leading = leads(shape, state);
-    let within = heard_within(shape, state, status == 1, leading, sync);
-    within & ((status != 1) | (!leading | (sync == count as u64)))
+    let within = heard_within(shape, state, status == status::NORMAL, leading, sync);
+    within & ((status != status::NORMAL) | (!leading | (sync == count as u64)))
 }
 
 // ---- votes and replies kept
@@ -160,7 +164,7 @@ fn heard_good(shape: Shape, state: &[u8]) -> bool
 // Whether the vote of replica r, where one is kept, is one of this view.
 fn vote_good(shape: Shape, state: &[u8], r: u64) -> bool
     requires { ⌜ Sized shape (now state) × (r < shape .n) ⌝ }
-    ensures { λ t. ⌜ t ≡ passes (voteGood shape (stateOf shape (now (state .entry)))) (voteAt (shape .c) (now (state .entry)) (startOf shape 7 + voteLength (shape .c) * r)) ⌝ }
+    ensures { λ t. ⌜ t ≡ passes (voteGood shape (stateOf shape (now (state .entry)))) (voteAt (shape .c) (now (state .entry)) (startOf shape atVotes + voteLength (shape .c) * r)) ⌝ }
 {
     if !places::vote_flag(shape, state, r) {
         return true;
@@ -183,7 +187,7 @@ fn vote_good(shape: Shape, state: &[u8], r: u64) -> bool
 // Whether every vote kept is one of this view.
 fn votes_good(shape: Shape, state: &[u8]) -> bool
     requires { ⌜ Sized shape (now state) ⌝ }
-    ensures { λ t. ⌜ t ≡ every (passes (voteGood shape (stateOf shape (now (state .entry))))) (items (voteAt (shape .c) (now (state .entry))) (voteLength (shape .c)) (startOf shape 7) (shape .n)) ⌝ }
+    ensures { λ t. ⌜ t ≡ every (passes (voteGood shape (stateOf shape (now (state .entry))))) (items (voteAt (shape .c) (now (state .entry))) (voteLength (shape .c)) (startOf shape atVotes) (shape .n)) ⌝ }
 {
     let mut fine = true;
     let mut r: u64 = 0;
@@ -197,7 +201,7 @@ fn votes_good(shape: Shape, state: &[u8]) -> bool
 // Whether the reply of group j, where one is kept, is one of another group to the own.
 fn reply_good(shape: Shape, state: &[u8], j: u64) -> bool
     requires { ⌜ Sized shape (now state) × (j < shape .s) ⌝ }
-    ensures { λ t. ⌜ t ≡ passes (replyGood shape (stateOf shape (now (state .entry))) j) (replyAt (shape .c) (now (state .entry)) (startOf shape 9 + replyLength (shape .c) * j)) ⌝ }
+    ensures { λ t. ⌜ t ≡ passes (replyGood shape (stateOf shape (now (state .entry))) j) (replyAt (shape .c) (now (state .entry)) (startOf shape atReplies + replyLength (shape .c) * j)) ⌝ }
 {
     if !places::reply_flag(shape, state, j) {
         return true;
@@ -211,7 +215,7 @@ fn reply_good(shape: Shape, state: &[u8], j: u64) -> bool
 // Whether every reply kept is one of another group to the own.
 fn replies_good(shape: Shape, state: &[u8]) -> bool
     requires { ⌜ Sized shape (now state) ⌝ }
-    ensures { λ t. ⌜ t ≡ every (λ j. passes (replyGood shape (stateOf shape (now (state .entry))) j) (replyAt (shape .c) (now (state .entry)) (startOf shape 9 + replyLength (shape .c) * j))) (below (shape .s)) ⌝ }
+    ensures { λ t. ⌜ t ≡ every (λ j. passes (replyGood shape (stateOf shape (now (state .entry))) j) (replyAt (shape .c) (now (state .entry)) (startOf shape atReplies + replyLength (shape .c) * j))) (below (shape .s)) ⌝ }
 {
     let mut fine = true;
     let mut j: u64 = 0;
@@ -232,8 +236,9 @@ fn kept_good(shape: Shape, state: &[u8]) -> bool
     let replies = places::held_replies(shape, state);
     let votes_fine = votes_good(shape, state);
     let replies_fine = replies_good(shape, state);
-    let few_votes = (status != 2) | (votes < rules::GroupSize(shape.n).majority());
-    let few_replies = (status != 3) | (replies < shape.s - 1);
+    let few_votes = (status != status::VIEW_CHANGE)
+        | (votes < rules::GroupSize(shape.n).majority());
+    let few_replies = (status != status::CROSS_SHARD) | (replies < shape.s - 1);
     votes_fine & (replies_fine & (few_votes & few_replies))
 }
 
@@ -316,7 +321,7 @@ fn early_good(shape: Shape, state: &[u8], t: &[u8], rows: &[u16], filled: bool) 
     requires { ⌜ Known shape (now state) × Lent shape (now state) (now t) × (filled ≡ true → NoteRows (shape .c) (shape .s) (now t) (now rows)) ⌝ }
     ensures { λ r. ⌜ r ≡ earlyRight shape (stateOf shape (now (state .entry))) ⌝ }
 {
-    if places::get_status(state) != 1 {
+    if places::get_status(state) != status::NORMAL {
         return true;
     }
     if !leads(shape, state) {
@@ -387,7 +392,7 @@ fn noting_good(shape: Shape, state: &[u8], t: &[u8]) -> bool
 // Whether the notes have their form and are in range.
 fn notes_fit(shape: Shape, state: &[u8]) -> bool
     requires { ⌜ Sized shape (now state) ⌝ }
-    ensures { λ r. ⌜ r ≡ (sectionForm shape (now (state .entry)) 6 && every noteFits (stateOf shape (now (state .entry)) .notes)) ⌝ }
+    ensures { λ r. ⌜ r ≡ (sectionForm shape (now (state .entry)) 6 && every noteFits (stateOf shape (now (state .entry)) .waiting .notes)) ⌝ }
 {
     let layout = places::places_of(shape);
     let from = layout.notes;

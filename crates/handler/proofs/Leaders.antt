@@ -13,6 +13,7 @@ use Rattle.octets.proofs.Codecs.{All}
 use Rattle.rules.specs.Choice.{pick, every, keep, below}
 use Rattle.rules.specs.Group.{holds, only, leader}
 use Rattle.rules.specs.Wire.{entryBytes, wireBytes, headerIn, numbersOf}
+use Rattle.rules.specs.Kind.{rowOf}
 use Rattle.rules.specs.Read.{lengthFor}
 use Rattle.rules.specs.State.{State}
 use Rattle.rules.specs.Step.{sends, sendLeader, otherGroups}
@@ -28,6 +29,7 @@ use Rattle.places.specs.Layout.{startOf, Laid}
 use Rattle.handler.specs.Sending.{messageBytes, headedIn, leaderIn, othersIn, askedOf, Asks, leaderBytes}
 use Rattle.handler.proofs.Rows.{all-below, flat-snoc, flat-ext, keep-ext, kept-more, kept-same, kept-within, sends-flat}
 use Rattle.handler.proofs.Sends.{Sender, own-group, view-in, message-sent}
+use Rattle.rules.specs.Image.{atGVec}
 
 -- the mask of all groups holds each
 full-table : every (λ s. every (λ j. holds (2 ^ s - 1) j) (below s)) (below 9) ≡ true
@@ -39,8 +41,8 @@ all-hold s j h l = below-at (λ j. holds (2 ^ s - 1) j) s (below-at (λ s. every
 
 pub all-others : (sh : Shape) (st : State) → sh .s ≤ 8 → otherGroups sh st (λ j. true) ≡ otherGroups sh st (holds (2 ^ sh .s - 1))
 all-others sh st h =
-    keep-ext (λ j. not (eqb j (st .group)) && true) (λ j. not (eqb j (st .group)) && holds (2 ^ sh .s - 1) j) (below (sh .s))
-    (all-map (λ j l. ap (λ (t : Bool). not (eqb j (st .group)) && t) (sym (all-hold (sh .s) j h l))) (below (sh .s)) (all-below (sh .s)))
+    keep-ext (λ j. not (eqb j (st .site .group)) && true) (λ j. not (eqb j (st .site .group)) && holds (2 ^ sh .s - 1) j) (below (sh .s))
+    (all-map (λ j l. ap (λ (t : Bool). not (eqb j (st .site .group)) && t) (sym (all-hold (sh .s) j h l))) (below (sh .s)) (all-below (sh .s)))
 
 module _ {sh : Shape} {st : State} {b : List ℕ} (l : Laid sh st b) (f : Sender sh st) where
   -- the other groups of a mask, by the bytes and by the state
@@ -51,7 +53,7 @@ module _ {sh : Shape} {st : State} {b : List ℕ} (l : Laid sh st b) (f : Sender
     leader-sent : (j : ℕ) → j < sh .s → leaderBytes sh b kind number entries j ≡ wireBytes (sendLeader sh st kind j xs es)
     unfolding leaderBytes
     leader-sent j u =
-        message-sent l f (askedOf kind number (headedIn b kind j (only (leaderIn sh b j)))) entries kind j (only (leader (sh .n) (st .gVec) j)) xs es
+        message-sent l f (askedOf kind number (headedIn b kind j (only (leaderIn sh b j)))) entries kind j (only (leader (sh .n) (st .view .gVec) j)) xs es
         (h _ ∙ ap (λ (v : ℕ). headedIn b kind j (only (v % sh .n))) (view-in l f j u))
         (q _) e fe
 
@@ -74,11 +76,11 @@ module _ {sh : Shape} {st : State} {b : List ℕ} (l : Laid sh st b) (f : Sender
 
 -- an entry goes with a note, none with a verify request
 pub asks-note : (entries : List ℕ) → length entries ≡ 24 → Asks 3 entries
-unfolding pick
+unfolding pick rowOf
 asks-note entries e = record { whole = omega arith; few = omega arith; long = λ s. rw e (omega arith) }
 
 pub asks-verify : (entries : List ℕ) → length entries ≡ 0 → Asks 18 entries
-unfolding pick
+unfolding pick rowOf
 asks-verify entries e = record { whole = omega arith; few = omega arith; long = λ s. rw e (omega arith) }
 
 -- ---- as they are written one after the other
@@ -93,7 +95,7 @@ pub asked-long : (m : Message) (kind number : ℕ) (h : Header) → m ≡ askedO
 asked-long m kind number h e = ap (λ (x : Message). length (numbersOf x)) e ∙ asked-numbers (eqb kind 3) h number
 
 -- the bytes of what is asked
-pub asked-is : (sh : Shape) (b : List ℕ) (kind number : ℕ) (entries : List ℕ) (j view t : ℕ) (h : Header) (m : Message) → view ≡ num b (startOf sh 1 + 4 * j) 4 → t ≡ only (view % sh .n) → h ≡ headedIn b kind j t → m ≡ askedOf kind number h → messageBytes sh b m entries ≡ leaderBytes sh b kind number entries j
+pub asked-is : (sh : Shape) (b : List ℕ) (kind number : ℕ) (entries : List ℕ) (j view t : ℕ) (h : Header) (m : Message) → view ≡ num b (startOf sh atGVec + 4 * j) 4 → t ≡ only (view % sh .n) → h ≡ headedIn b kind j t → m ≡ askedOf kind number h → messageBytes sh b m entries ≡ leaderBytes sh b kind number entries j
 unfolding leaderBytes
 asked-is sh b kind number entries j view t h m e q g d = rw (d, g, q, e)
 

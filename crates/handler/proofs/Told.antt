@@ -1,7 +1,7 @@
 -- What a case says of the message in the bytes. Assumes nothing.
 use Prim.Native.Nat.{ℕ, _+_, _*_, _^_, _<_}
 use mathlib.Core.Path.{_≡_, refl, sym, ap, subst, _∙_}
-use mathlib.Core.Bool.{Bool, true, false, _||_, true≢false}
+use mathlib.Core.Bool.{Bool, true, false, true≢false}
 use mathlib.Core.List.{List}
 use native.Mathlib.Omega.{arith}
 use lib.ListN.{length, getD}
@@ -10,11 +10,12 @@ use borrow.Author.Tests.{eqb-true, ltb-true}
 use Rattle.octets.specs.Bytes.{num, items}
 use Rattle.octets.proofs.Laws.{Bytes}
 use Rattle.octets.proofs.Codecs.{All, length-items, getD-items}
-use Rattle.rules.specs.Choice.{pick}
+use Rattle.rules.specs.Choice.{pick, any}
 use Rattle.rules.specs.Group.{sizesFit}
 use Rattle.rules.specs.Entry.{noEntry, entryOf}
 use Rattle.rules.specs.Log.{goodLog}
-use Rattle.rules.specs.Wire.{Wire, firstEntry, fromOutside, bare, withOne, withLog, known, viewsIn, numbersIn, headerOf, caseOf, tagOf, headerIn, numbersOf}
+use Rattle.rules.specs.Wire.{Wire, firstEntry, headerOf, caseOf, tagOf, headerIn, numbersOf}
+use Rattle.rules.specs.Kind.{fromOutside, bare, withOne, withLog, known, viewsIn, numbersIn}
 use Rattle.rules.specs.Wire as wires
 use Rattle.rules.specs.Read.{Read, malformed, message, read, wireIn, fieldsOf, entriesAt, lengthFor, entryAt, caseRead, decoded, formed}
 use Rattle.rules.specs.Image.{stateOf}
@@ -23,8 +24,8 @@ use Rattle.rules.specs.declared.Header.{Header}
 use Rattle.rules.specs.declared.Shape.{Shape}
 use Rattle.rules.specs.declared.Message.{Message}
 use Rattle.rules.specs.declared.Message.the-variants.{WrongSizes, Malformed}
-use Rattle.rules.proofs.Choice.{and-left, or-second, pick-false}
-use Rattle.rules.proofs.EachKind.{or-elim}
+use Rattle.rules.proofs.Choice.{and-left, pick-false}
+use Rattle.rules.proofs.EachKind.{one-known, log-known, log-later}
 use Rattle.rules.proofs.Entries.{EntryFits}
 use Rattle.rules.proofs.Verdicts.{Rights, message-right}
 use Rattle.rules.proofs.Messages.{Whole, read-whole, read-formed, formed-fits}
@@ -46,17 +47,7 @@ whole-known n s b w q = message-right n s (fieldsOf w) (length (w .entries)) (le
 
 whole-numbers : (n s : ℕ) (b : List ℕ) (w : Wire) → Whole n s b w → length (w .numbers) ≡ numbersIn (w .kind)
 unfolding fieldsOf
-whole-numbers n s b w q = eqb-true _ _ (message-right n s (fieldsOf w) (length (w .entries)) (length (w .entries)) (q .fine) .body 1)
-
--- a kind with a log is none with one entry, and is known
-no-one : (k : ℕ) → withLog k ≡ true → eqb k 1 ≡ false
-no-one k = or-elim (eqb k 4) _ (is 4 refl) (or-elim (eqb k 8) _ (is 8 refl) (or-elim (eqb k 9) _ (is 9 refl) (is 19 refl)))
-  where
-    is : (j : ℕ) → eqb j 1 ≡ false → eqb k j ≡ true → eqb k 1 ≡ false
-    is j f e = rw (eqb-true k j e) f
-
-log-known : (k : ℕ) → withLog k ≡ true → known k ≡ true
-log-known k e = or-second (withOne k) _ (rw e)
+whole-numbers n s b w q = eqb-true _ _ (message-right n s (fieldsOf w) (length (w .entries)) (length (w .entries)) (q .fine) .count)
 
 module _ (n s : ℕ) (m : Message) (msg : List ℕ) where
   told-whole : (w : Wire) → sizesFit n s ≡ true → read n s msg ≡ message w → m ≡ caseOf w → Told n s m msg
@@ -73,7 +64,7 @@ module _ (n s : ℕ) (m : Message) (msg : List ℕ) where
       }
 
   pub told : m ≡ decoded n s msg → known (tagOf m) ≡ true → Told n s m msg
-  unfolding decoded pick
+  unfolding decoded pick any
   told e k = go (sizesFit n s) (read n s msg) refl refl e
     where
       go : (t : Bool) (r : Read) → sizesFit n s ≡ t → read n s msg ≡ r → m ≡ pick t (caseRead r) WrongSizes → Told n s m msg
@@ -143,12 +134,8 @@ module _ (n s : ℕ) (m : Message) (msg : List ℕ) where
 
     -- a kind with one entry has one, the first
     pub told-one : withOne k ≡ true → length (w .entries) ≡ 1
-    unfolding pick
-    told-one =
-        or-elim (eqb k 1) _ (λ e. eqb-true _ _ (told-right 1 (eqb-true k 1 e) .body 4))
-        (or-elim (eqb k 3) _ (λ e. eqb-true _ _ (told-right 3 (eqb-true k 3 e) .body 2))
-        (or-elim (eqb k 5) _ (λ e. eqb-true _ _ (told-right 5 (eqb-true k 5 e) .body 5))
-        (λ e. eqb-true _ _ (told-right 6 (eqb-true k 6 e) .body 3))))
+    unfolding pick fieldsOf
+    told-one o = let h : withOne (w .kind) ≡ true = ap withOne (t .kind) ∙ o in eqb-true (length (w .entries)) 1 (rw h at (told-rights t .entries))
 
     pub told-first : withOne k ≡ true → (length msg ≡ lengthFor s k 1) × (entryAt msg (entriesAt s k + 4) ≡ firstEntry w)
     told-first e =
@@ -165,7 +152,7 @@ module _ (n s : ℕ) (m : Message) (msg : List ℕ) where
 
     -- a log is good for its destination group
     pub told-log : Bytes msg → withLog k ≡ true → goodLog s (headerIn m .«to_group») (w .entries) ≡ true
-    told-log bs e = ap (λ (h : Header). goodLog s (h .«to_group») (w .entries)) (sym (t .header)) ∙ log-good n s w (told-formed t bs) k (t .kind) e (no-one k e)
+    told-log bs e = ap (λ (h : Header). goodLog s (h .«to_group») (w .entries)) (sym (t .header)) ∙ log-good n s w (told-formed t bs) k (t .kind) e (log-later k e)
 
 -- ---- of what a handler is given
 
@@ -174,12 +161,12 @@ module _ (sh : Shape) (b msg : List ℕ) (m : Message) (r : Ready sh b m msg) wh
   ready-told = told (sh .n) (sh .s) m msg (r .told)
 
   -- it is for the own group
-  pub ready-group : known (tagOf m) ≡ true → headerIn m .«to_group» ≡ stateOf sh b .group
+  pub ready-group : known (tagOf m) ≡ true → headerIn m .«to_group» ≡ stateOf sh b .site .group
   ready-group e =
       ap (λ (h : Header). h .«to_group») (sym (ready-told e .header))
-      ∙ eqb-true _ _ (and-left (eqb (wireIn (sh .s) msg .toGroup) (stateOf sh b .group)) _ (r .here))
+      ∙ eqb-true _ _ (and-left (eqb (wireIn (sh .s) msg .toGroup) (stateOf sh b .site .group)) _ (r .here))
 
-  pub ready-log : Bytes msg → withLog (tagOf m) ≡ true → goodLog (sh .s) (stateOf sh b .group) (wireIn (sh .s) msg .entries) ≡ true
+  pub ready-log : Bytes msg → withLog (tagOf m) ≡ true → goodLog (sh .s) (stateOf sh b .site .group) (wireIn (sh .s) msg .entries) ≡ true
   ready-log bs e =
       let k : known (tagOf m) ≡ true = log-known (tagOf m) e in
       ap (λ (g : ℕ). goodLog (sh .s) g (wireIn (sh .s) msg .entries)) (sym (ready-group k)) ∙ told-log (sh .n) (sh .s) m msg (ready-told k) bs e
@@ -188,4 +175,4 @@ module _ (sh : Shape) (b msg : List ℕ) (m : Message) (r : Ready sh b m msg) wh
   pub ready-first : (k : ℕ) → tagOf m ≡ k → withOne k ≡ true → (length msg ≡ lengthFor (sh .s) k 1) × (entryAt msg (entriesAt (sh .s) k + 4) ≡ firstEntry (wireIn (sh .s) msg))
   ready-first k e o =
       let w : withOne (tagOf m) ≡ true = rw e o in
-      rw e at (told-first (sh .n) (sh .s) m msg (ready-told (rw w)) w)
+      rw e at (told-first (sh .n) (sh .s) m msg (ready-told (one-known (tagOf m) w)) w)

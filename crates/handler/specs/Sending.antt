@@ -16,10 +16,11 @@ use Rattle.rules.specs.declared.Shape.{Shape}
 use Rattle.rules.specs.declared.Message.{Message}
 use Rattle.rules.specs.declared.Message.the-variants.{Note, VerifyRequest}
 use Rattle.places.specs.Layout.{startOf}
+use Rattle.rules.specs.Image.{atGVec}
 
 -- a case with the state's gVec beside it and these entries, as bytes
 unfoldable pub messageBytes : Shape → List ℕ → Message → List ℕ → List ℕ
-messageBytes sh b m entries = wireBytes (wireFrom m (part b (startOf sh 1) (4 * sh .s)) entries)
+messageBytes sh b m entries = wireBytes (wireFrom m (part b (startOf sh atGVec) (4 * sh .s)) entries)
 
 -- the header of what the site sends
 abbrev pub headedIn : List ℕ → ℕ → ℕ → ℕ → Header
@@ -28,7 +29,7 @@ headedIn b kind toGroup toMask =
 
 -- the leader of group j
 abbrev pub leaderIn : Shape → List ℕ → ℕ → ℕ
-leaderIn sh b j = num b (startOf sh 1 + 4 * j) 4 % sh .n
+leaderIn sh b j = num b (startOf sh atGVec + 4 * j) 4 % sh .n
 
 -- the other groups in a mask, rising
 abbrev pub othersIn : Shape → List ℕ → ℕ → List ℕ

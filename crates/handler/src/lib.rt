@@ -3,6 +3,7 @@ use rules::Entry;
 use rules::Header;
 use rules::Message;
 use rules::Shape;
+use rules::kind;
 ghost use mathlib.Core.Path.{_≡_};
 ghost use mathlib.Core.Bool.{true, _&&_, not};
 ghost use lib.Dec.{eqb};
@@ -10,7 +11,8 @@ ghost use Rattle.rules.specs.Group as sets;
 ghost use Prim.Native.Nat.{_+_, _*_, _/_, _<_, _≤_};
 ghost use lib.ListN.{length};
 ghost use Rattle.octets.specs.Bytes.{num, splice, flat};
-ghost use Rattle.rules.specs.Wire.{firstEntry, withOne, tagOf, numbersOf};
+ghost use Rattle.rules.specs.Wire.{firstEntry, tagOf, numbersOf};
+ghost use Rattle.rules.specs.Kind.{withOne};
 ghost use Rattle.rules.specs.Read.{wireIn, lengthFor};
 ghost use Rattle.rules.specs.Image.{stateOf};
 ghost use Rattle.rules.specs.State as rule;
@@ -98,7 +100,7 @@ pub fn count_others(shape: Shape, state: &[u8], mask: u16) -> u64
 fn asked(kind: u8, number: u64, h: Header) -> Message
     ensures { λ r. ⌜ r ≡ askedOf kind number h ⌝ }
 {
-    if kind == 3 {
+    if kind == kind::TIMESTAMP_NOTE {
         return Message::Note(h);
     }
     Message::VerifyRequest(h, number)

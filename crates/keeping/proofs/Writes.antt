@@ -7,7 +7,7 @@ use native.Mathlib.Omega.{arith}
 use lib.ListN.{length, length-append}
 use Rattle.octets.specs.Bytes.{le, num, part, splice}
 use Rattle.octets.proofs.Laws.{length-le, splice-next, part-splice-after}
-use Rattle.rules.specs.Image.{tableLength, voteLength, stateLength, tableBytes, voteBytes, replyBytes}
+use Rattle.rules.specs.Image.{tableLength, voteLength, stateLength, tableBytes, voteBytes, replyBytes, atLog, atVotes}
 use Rattle.rules.specs.declared.Entry.{Entry}
 use Rattle.rules.specs.declared.Shape.{Shape}
 use Rattle.places.specs.Layout.{startOf, placesOf, PlaceAt, ownBytes}
@@ -32,17 +32,17 @@ unfolding voteBytes
 vote-kept b b1 b2 a x c n s es h e w1 w2 = moved b b2 _ _ a x (vote-joined b b1 b2 (tableBytes c es) a n s h w1 w2) e refl
 
 -- the own vote: its log lies before it, so it is still what it was
-pub own-kept : (sh : Shape) (b b1 b2 : List ℕ) (p : Places) (a n s r : ℕ) → p ≡ placesOf sh → length b ≡ stateLength sh → n ≡ num b 12 4 → s ≡ num b 24 8 → r ≡ num b 1 1 → PlaceAt sh 7 (voteLength (sh .c)) r a → b1 ≡ splice b a (le 1 1 ++ (le 4 n ++ le 8 s)) → b2 ≡ splice b1 (a + 13) (part b1 (p .log) (p .table)) → b2 ≡ splice b (startOf sh 7 + voteLength (sh .c) * num b 1 1) (ownBytes sh b)
+pub own-kept : (sh : Shape) (b b1 b2 : List ℕ) (p : Places) (a n s r : ℕ) → p ≡ placesOf sh → length b ≡ stateLength sh → n ≡ num b 12 4 → s ≡ num b 24 8 → r ≡ num b 1 1 → PlaceAt sh 7 (voteLength (sh .c)) r a → b1 ≡ splice b a (le 1 1 ++ (le 4 n ++ le 8 s)) → b2 ≡ splice b1 (a + 13) (part b1 (p .log) (p .table)) → b2 ≡ splice b (startOf sh atVotes + voteLength (sh .c) * num b 1 1) (ownBytes sh b)
 unfolding ownBytes
 own-kept sh b b1 b2 p a n s r e l en es er q w1 w2 =
-    let f : startOf sh 3 + tableLength (sh .c) ≤ a = omega (arith, q .at) in
+    let f : startOf sh atLog + tableLength (sh .c) ≤ a = omega (arith, q .at) in
     let g : a + 13 ≤ length b = omega (arith, q .within) in
-    let d : part b1 (p .log) (p .table) ≡ part b (startOf sh 3) (tableLength (sh .c))
+    let d : part b1 (p .log) (p .table) ≡ part b (startOf sh atLog) (tableLength (sh .c))
     = ap (λ (z : Places). part b1 (z .log) (z .table)) e
-    ∙ ap (λ (y : List ℕ). part y (startOf sh 3) (tableLength (sh .c))) w1
-    ∙ part-splice-after b a (le 1 1 ++ (le 4 n ++ le 8 s)) (startOf sh 3) (tableLength (sh .c)) (omega arith) f in
-    let w : b2 ≡ splice b a (le 1 1 ++ (le 4 n ++ (le 8 s ++ part b (startOf sh 3) (tableLength (sh .c))))) = vote-joined b b1 b2 _ a n s g w1 (w2 ∙ ap (splice b1 (a + 13)) d) in
-    moved b b2 _ _ a _ w (q .at ∙ ap (λ (z : ℕ). startOf sh 7 + voteLength (sh .c) * z) er) (ap (λ (z : ℕ). le 1 1 ++ (le 4 z ++ (le 8 s ++ part b (startOf sh 3) (tableLength (sh .c))))) en ∙ ap (λ (z : ℕ). le 1 1 ++ (le 4 (num b 12 4) ++ (le 8 z ++ part b (startOf sh 3) (tableLength (sh .c))))) es)
+    ∙ ap (λ (y : List ℕ). part y (startOf sh atLog) (tableLength (sh .c))) w1
+    ∙ part-splice-after b a (le 1 1 ++ (le 4 n ++ le 8 s)) (startOf sh atLog) (tableLength (sh .c)) (omega arith) f in
+    let w : b2 ≡ splice b a (le 1 1 ++ (le 4 n ++ (le 8 s ++ part b (startOf sh atLog) (tableLength (sh .c))))) = vote-joined b b1 b2 _ a n s g w1 (w2 ∙ ap (splice b1 (a + 13)) d) in
+    moved b b2 _ _ a _ w (q .at ∙ ap (λ (z : ℕ). startOf sh atVotes + voteLength (sh .c) * z) er) (ap (λ (z : ℕ). le 1 1 ++ (le 4 z ++ (le 8 s ++ part b (startOf sh atLog) (tableLength (sh .c))))) en ∙ ap (λ (z : ℕ). le 1 1 ++ (le 4 (num b 12 4) ++ (le 8 z ++ part b (startOf sh atLog) (tableLength (sh .c))))) es)
 
 -- ---- a reply
 

@@ -7,7 +7,7 @@ ghost use Prim.Native.Nat.{_+_, _*_, _≤_, _<_};
 ghost use lib.ListN.{length};
 ghost use Rattle.octets.specs.Bytes.{le, num, splice, items};
 ghost use Rattle.rules.specs.Read.{entryAt};
-ghost use Rattle.rules.specs.Image.{voteLength, replyLength, voteBytes, replyBytes};
+ghost use Rattle.rules.specs.Image.{voteLength, replyLength, voteBytes, replyBytes, atReplies, atVotes};
 ghost use Rattle.places.specs.Layout.{startOf, Sized, ownBytes};
 
 // Writes what stands before the log of a vote.
@@ -32,7 +32,7 @@ pub fn keep_vote(
     number: usize,
 )
     requires { ⌜ Sized shape (now state) × (r < shape .n) × (number ≤ shape .c) × (at + 24 * number ≤ length (now src)) ⌝ }
-    ensures { λ _. ⌜ now (state .exit) ≡ splice (now (state .entry)) (startOf shape 7 + voteLength (shape .c) * r) (voteBytes (shape .c) (some (record { normal = normal; sync = sync; log = items (entryAt (now (src .entry))) 24 at number }))) ⌝ }
+    ensures { λ _. ⌜ now (state .exit) ≡ splice (now (state .entry)) (startOf shape atVotes + voteLength (shape .c) * r) (voteBytes (shape .c) (some (record { normal = normal; sync = sync; log = items (entryAt (now (src .entry))) 24 at number }))) ⌝ }
 {
     let place = places::vote_place(shape, r);
     begin_vote(state, place, normal, sync);
@@ -42,7 +42,7 @@ pub fn keep_vote(
 // Keeps the own vote: the log is copied as it stands.
 pub fn keep_own_vote(shape: Shape, state: &mut [u8])
     requires { ⌜ Sized shape (now state) × (num (now state) 1 1 < shape .n) ⌝ }
-    ensures { λ _. ⌜ now (state .exit) ≡ splice (now (state .entry)) (startOf shape 7 + voteLength (shape .c) * num (now (state .entry)) 1 1) (ownBytes shape (now (state .entry))) ⌝ }
+    ensures { λ _. ⌜ now (state .exit) ≡ splice (now (state .entry)) (startOf shape atVotes + voteLength (shape .c) * num (now (state .entry)) 1 1) (ownBytes shape (now (state .entry))) ⌝ }
 {
     let normal = places::get_normal(state);
     let sync = places::get_sync(state);
@@ -55,7 +55,7 @@ pub fn keep_own_vote(shape: Shape, state: &mut [u8])
 // Keeps the reply of group j: the `number` entries that stand in `src` from `at` on.
 pub fn keep_reply(shape: Shape, state: &mut [u8], j: u64, src: &[u8], at: usize, number: usize)
     requires { ⌜ Sized shape (now state) × (j < shape .s) × (number ≤ shape .c) × (at + 24 * number ≤ length (now src)) ⌝ }
-    ensures { λ _. ⌜ now (state .exit) ≡ splice (now (state .entry)) (startOf shape 9 + replyLength (shape .c) * j) (replyBytes (shape .c) (some (items (entryAt (now (src .entry))) 24 at number))) ⌝ }
+    ensures { λ _. ⌜ now (state .exit) ≡ splice (now (state .entry)) (startOf shape atReplies + replyLength (shape .c) * j) (replyBytes (shape .c) (some (items (entryAt (now (src .entry))) 24 at number))) ⌝ }
 {
     let place = places::reply_place(shape, j);
     octets::put8(state, place, 1);

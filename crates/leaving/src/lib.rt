@@ -8,7 +8,7 @@ ghost use lib.ListN.{length, take, set};
 ghost use Rattle.rules.specs.Choice.{any, keep};
 ghost use Rattle.rules.specs.Entry.{noEntry};
 ghost use Rattle.rules.specs.State.{noteOf};
-ghost use Rattle.rules.specs.Step.{notesWithout};
+ghost use Rattle.rules.specs.Early.{notesWithout};
 ghost use Rattle.rules.specs.Image.{noteLength, tableAt};
 ghost use Rattle.entries.specs.First.{isOf};
 ghost use Rattle.entries.specs.Table.{Holds, Table};

@@ -13,7 +13,7 @@ use Rattle.octets.specs.Bytes.{num, items}
 use Rattle.octets.proofs.Laws.{bytes-known}
 use Rattle.octets.proofs.Codecs.{length-items, getD-items}
 use Rattle.rules.specs.Group.{holds}
-use Rattle.rules.specs.Entry.{noEntry, entryOf, sameTxn, among, entryFits, stampBefore}
+use Rattle.rules.specs.Entry.{noEntry, entryOf, sameTxn, among, entryFits, lastBefore}
 use Rattle.rules.specs.Log.{seenBefore, goodLog, allHold, distinct}
 use Rattle.rules.specs.Read.{entryAt}
 use Rattle.rules.specs.Image.{tableAt}
@@ -125,7 +125,7 @@ module _ (b : List ℕ) (at n : ℕ) (known : (i : ℕ) → getD b i 0 < 256) (h
     with-masks j =
         let f : ℕ → Entry = rowAt b at in
         let lacks : ℕ → Bool = λ i. not (holds (f i .mask) j) in
-        ap (λ (x : ℕ). eqb x n) (first-agree (unfitAt s k j f) (λ i. unfitAt s k k f i || lacks i) n (λ i l. or-lacks (entryFits s (f i)) (leb (stampBefore f i) (f i .stamp)) (holds (f i .mask) k) (holds (f i .mask) j)))
+        ap (λ (x : ℕ). eqb x n) (first-agree (unfitAt s k j f) (λ i. unfitAt s k k f i || lacks i) n (λ i l. or-lacks (entryFits s (f i)) (leb (lastBefore f i .stamp) (f i .stamp)) (holds (f i .mask) k) (holds (f i .mask) j)))
         ∙ first-or (unfitAt s k k f) lacks n
         ∙ ap (λ (t : Bool). fitting k && t) (every-first (λ (e : Entry). holds (e .mask) j) (entryAt b) 24 at n (firstTo lacks n) refl)
 

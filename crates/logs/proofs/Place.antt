@@ -12,7 +12,7 @@ use Rattle.octets.specs.Bytes.{num}
 use Rattle.octets.proofs.Laws.{bytes-known}
 use Rattle.rules.specs.Choice.{allOf}
 use Rattle.rules.specs.Group.{holds, someOf}
-use Rattle.rules.specs.Entry.{entryFits, stampFits, requestFits, coordinatorFits, stampBefore, mayFollow}
+use Rattle.rules.specs.Entry.{entryFits, stampFits, requestFits, coordinatorFits, lastBefore, mayFollow}
 use Rattle.rules.specs.Log.{seenBefore, stands, goodTo}
 use Rattle.rules.specs.declared.Entry.{Entry}
 use Rattle.rules.proofs.Tests.{split, and-r}
@@ -43,19 +43,19 @@ all-by s k j last e u v w p q r = rw (p, q, r)
 
 module _ (s k j : ℕ) (f : ℕ → Entry) where
   -- what was found of the entry read after the last timestamp, said of entry i
-  pub unfit-row : (i last : ℕ) (e : Entry) (r t : Bool) → e ≡ f i → last ≡ stampBefore f i → r ≡ fits s k j last e → not r ≡ t → unfitAt s k j f i ≡ t
+  pub unfit-row : (i last : ℕ) (e : Entry) (r t : Bool) → e ≡ f i → last ≡ lastBefore f i .stamp → r ≡ fits s k j last e → not r ≡ t → unfitAt s k j f i ≡ t
   unfit-row i last e r t q l u v = cc
 
-pub stamp-start : (f : ℕ → Entry) → 0 ≡ stampBefore f 0
-unfolding stampBefore
+pub stamp-start : (f : ℕ → Entry) → 0 ≡ lastBefore f 0 .stamp
+unfolding lastBefore
 stamp-start f = refl
 
-pub stamp-next : (f : ℕ → Entry) (i : ℕ) (e : Entry) → e ≡ f i → e .stamp ≡ stampBefore f (i + 1)
-unfolding stampBefore
+pub stamp-next : (f : ℕ → Entry) (i : ℕ) (e : Entry) → e ≡ f i → e .stamp ≡ lastBefore f (i + 1) .stamp
+unfolding lastBefore
 stamp-next f i e q = rw (add-one i) (ap (λ (x : Entry). x .stamp) q)
 
-stamp-like : (f g : ℕ → Entry) (i : ℕ) → ((j : ℕ) → j < i → f j ≡ g j) → stampBefore f i ≡ stampBefore g i
-unfolding stampBefore
+stamp-like : (f g : ℕ → Entry) (i : ℕ) → ((j : ℕ) → j < i → f j ≡ g j) → lastBefore f i .stamp ≡ lastBefore g i .stamp
+unfolding lastBefore
 stamp-like f g zero h = refl
 stamp-like f g (suc i) h = ap (λ (x : Entry). x .stamp) (h i (omega arith))
 
@@ -91,7 +91,7 @@ module _ (s k : ℕ) where
 
   pub wrong-is : (f : ℕ → Entry) (i : ℕ) → wrongAt f i ≡ (unfitAt s k k f i || seenBefore f (f i) i)
   unfolding stands mayFollow fits
-  wrong-is f i = wrong-by (entryFits s (f i)) (leb (stampBefore f i) (f i .stamp)) (seenBefore f (f i) i) (holds (f i .mask) k) (ltb (f i .mask) (2 ^ s)) (mask-in (f i))
+  wrong-is f i = wrong-by (entryFits s (f i)) (leb (lastBefore f i .stamp) (f i .stamp)) (seenBefore f (f i) i) (holds (f i .mask) k) (ltb (f i .mask) (2 ^ s)) (mask-in (f i))
 
   -- it asks for the first n entries alone
   pub good-like : (f g : ℕ → Entry) (n : ℕ) → ((i : ℕ) → i < n → f i ≡ g i) → goodTo s k f n ≡ goodTo s k g n
@@ -100,7 +100,7 @@ module _ (s k : ℕ) where
       like : (i : ℕ) → i < n → wrongAt f i ≡ wrongAt g i
       like i l =
           let e : f i ≡ g i = h i l in
-          let p : stampBefore f i ≡ stampBefore g i = stamp-like f g i (λ j m. h j (omega arith)) in
+          let p : lastBefore f i .stamp ≡ lastBefore g i .stamp = stamp-like f g i (λ j m. h j (omega arith)) in
           let q : seenBefore f (g i) i ≡ seenBefore g (g i) i = seen-like f g (g i) i (λ j m. h j (omega arith)) in
           let r : unfitAt s k k f i ≡ unfitAt s k k g i = cc in
           let v : seenBefore f (f i) i ≡ seenBefore g (g i) i = cc in

@@ -7,7 +7,8 @@ use lib.ListN.{length}
 use lib.Dec.{eqb}
 use Rattle.octets.specs.Bytes.{num, items}
 use Rattle.octets.proofs.Codecs.{length-items, getD-items}
-use Rattle.rules.specs.Entry.{noEntry, entryOf, stampBefore, lastStamp}
+use Rattle.rules.specs.Entry.{noEntry, entryOf, lastBefore}
+use Rattle.rules.specs.Log.{lastStamp}
 use Rattle.rules.specs.Log.{goodTo, goodLog}
 use Rattle.rules.specs.Read.{entryAt}
 use Rattle.rules.specs.Image.{tableAt}
@@ -32,13 +33,13 @@ good-items s k b at n =
 -- the last timestamp of a table
 module _ (c : ℕ) (es : List Entry) (t : List ℕ) (n : ℕ) (w : Holds c es t) (q : n ≡ num t 0 4) where
   pub last-none : n ≡ 0 → 0 ≡ lastStamp es
-  unfolding stampBefore
+  unfolding lastBefore
   last-none z =
       let e : 0 ≡ length es = omega (arith, w .count) in
-      ap (stampBefore (entryOf es)) e
+      ap (λ (x : ℕ). lastBefore (entryOf es) x .stamp) e
 
   pub last-is : (n ≡ 0 → ⊥) → (r : ℕ) → r ≡ num t (4 + 24 * (n - 1)) 8 → r ≡ lastStamp es
-  unfolding stampBefore entryAt
+  unfolding lastBefore entryAt
   last-is z r p =
       let e : suc (n - 1) ≡ length es = omega (arith, w .count) in
-      p ∙ ap (λ (x : Entry). x .stamp) (entry-in c es t w (n - 1) (omega arith)) ∙ ap (stampBefore (entryOf es)) e
+      p ∙ ap (λ (x : Entry). x .stamp) (entry-in c es t w (n - 1) (omega arith)) ∙ ap (λ (x : ℕ). lastBefore (entryOf es) x .stamp) e

@@ -6,7 +6,7 @@ use lib.Dec.{leb}
 use lib.ListN.{length}
 use Rattle.octets.specs.Bytes.{num}
 use Rattle.rules.specs.Group.{holds}
-use Rattle.rules.specs.Entry.{entryFits, stampBefore}
+use Rattle.rules.specs.Entry.{entryFits, lastBefore}
 use Rattle.rules.specs.Read.{entryAt}
 use Rattle.rules.specs.declared.Entry.{Entry}
 use Rattle.repeats.specs.declared.Spots.{Spots}
@@ -25,7 +25,7 @@ fits s k j last e = entryFits s e && (leb last (e .stamp) && (holds (e .mask) k 
 
 -- entry i of entries in a row does not fit after the one before it
 abbrev pub unfitAt : ℕ → ℕ → ℕ → (ℕ → Entry) → ℕ → Bool
-unfitAt s k j f i = not (fits s k j (stampBefore f i) (f i))
+unfitAt s k j f i = not (fits s k j (lastBefore f i .stamp) (f i))
 
 -- a table with room for c entries lies inside b at `at`, and has no more of them
 pub record Within (c : ℕ) (b : List ℕ) (at : ℕ) : Type 0 where

@@ -15,7 +15,7 @@ use Rattle.rules.specs.Choice.{isSome}
 use Rattle.rules.specs.Entry.{ordered}
 use Rattle.rules.specs.Read.{entryAt}
 use Rattle.rules.specs.State.{State}
-use Rattle.rules.specs.Image.{tableLength, replyLength, tableAt, replyAt}
+use Rattle.rules.specs.Image.{tableLength, replyLength, tableAt, replyAt, atDraft, atReplies}
 use Rattle.rules.specs.Merge.{takeAll, entriesIn, merged}
 use Rattle.rules.specs.declared.Entry.{Entry}
 use Rattle.rules.specs.declared.Shape.{Shape}
@@ -50,14 +50,14 @@ some-is (some es) h = (es, refl)
 
 -- the replies with that of one group put in
 abbrev pub withReply : State → ℕ → List Entry → List (Option (List Entry))
-withReply st from es = set (st .replies) from (some es)
+withReply st from es = set (st .change .replies) from (some es)
 
-module _ {sh : Shape} {st : State} {b : List ℕ} (s : Stands sh st b) (j : ℕ) (h : j < sh .s) (f : Bool) (a len : ℕ) (g : f ≡ isSome (replyAt (sh .c) b (startOf sh 9 + replyLength (sh .c) * j))) (q : f ≡ true) (ha : PlaceAt sh 9 (replyLength (sh .c)) j a) (hl : len ≡ tableLength (sh .c)) where
+module _ {sh : Shape} {st : State} {b : List ℕ} (s : Stands sh st b) (j : ℕ) (h : j < sh .s) (f : Bool) (a len : ℕ) (g : f ≡ isSome (replyAt (sh .c) b (startOf sh atReplies + replyLength (sh .c) * j))) (q : f ≡ true) (ha : PlaceAt sh 9 (replyLength (sh .c)) j a) (hl : len ≡ tableLength (sh .c)) where
   -- the table of a reply that is kept
-  kept-table : (ds : List Entry) × (replyAt (sh .c) b (startOf sh 9 + replyLength (sh .c) * j) ≡ some ds) × Holds (sh .c) ds (take (a + 1 + len - (a + 1)) (drop (a + 1) b))
+  kept-table : (ds : List Entry) × (replyAt (sh .c) b (startOf sh atReplies + replyLength (sh .c) * j) ≡ some ds) × Holds (sh .c) ds (take (a + 1 + len - (a + 1)) (drop (a + 1) b))
   kept-table =
-      let w = some-is (replyAt (sh .c) b (startOf sh 9 + replyLength (sh .c) * j)) (sym g ∙ q) in
-      let e : a + 1 ≡ startOf sh 9 + replyLength (sh .c) * j + 1 = ap (λ (n : ℕ). n + 1) (ha .at) in
+      let w = some-is (replyAt (sh .c) b (startOf sh atReplies + replyLength (sh .c) * j)) (sym g ∙ q) in
+      let e : a + 1 ≡ startOf sh atReplies + replyLength (sh .c) * j + 1 = ap (λ (n : ℕ). n + 1) (ha .at) in
       let m : a + 1 + len - (a + 1) ≡ tableLength (sh .c) = omega arith in
       (w .0, w .1, reply-lent s j (w .0) (a + 1) (a + 1 + len - (a + 1)) h (sym (reply-at s j h) ∙ w .1) e m)
 
@@ -67,24 +67,24 @@ module _ {sh : Shape} {st : State} {b : List ℕ} (s : Stands sh st b) (j : ℕ)
 module _ {sh : Shape} {st : State} {b : List ℕ} (s : Stands sh st b) (from : ℕ) (es : List Entry) where
   own : (j : ℕ) → j < sh .s → j ≡ from → getD (withReply st from es) j none ≡ some es
   own j h q =
-      let m : length (st .replies) ≡ sh .s = stands-fits s .replyPlaces in
-      let l : from < length (st .replies) = omega arith in
-      rw q (getD-set-same (st .replies) from (some es) none l)
+      let m : length (st .change .replies) ≡ sh .s = stands-fits s .replyPlaces in
+      let l : from < length (st .change .replies) = omega arith in
+      rw q (getD-set-same (st .change .replies) from (some es) none l)
 
-  other : (j : ℕ) → j < sh .s → (j ≡ from → ⊥) → getD (withReply st from es) j none ≡ replyAt (sh .c) b (startOf sh 9 + replyLength (sh .c) * j)
-  other j h n = getD-set-other (st .replies) from j (some es) none n ∙ sym (reply-at s j h)
+  other : (j : ℕ) → j < sh .s → (j ≡ from → ⊥) → getD (withReply st from es) j none ≡ replyAt (sh .c) b (startOf sh atReplies + replyLength (sh .c) * j)
+  other j h n = getD-set-other (st .change .replies) from j (some es) none n ∙ sym (reply-at s j h)
 
   -- the ways of taking it in
   module _ (j c : ℕ) (h : j < sh .s) (ds : List Entry) where
     pub way-own : (r : Told) (u rows : List ℕ) → j ≡ from → Took c (takeAll ds es) r u rows → Took c (takeAll ds (entriesIn (getD (withReply st from es) j none))) r u rows
     way-own r u rows q k = rw (own j h q) k
 
-    pub way-none : (f filled : Bool) (u rows : List ℕ) → (j ≡ from → ⊥) → f ≡ isSome (replyAt (sh .c) b (startOf sh 9 + replyLength (sh .c) * j)) → f ≡ false → Holds c ds u → (filled ≡ true → Rows ds rows)
+    pub way-none : (f filled : Bool) (u rows : List ℕ) → (j ≡ from → ⊥) → f ≡ isSome (replyAt (sh .c) b (startOf sh atReplies + replyLength (sh .c) * j)) → f ≡ false → Holds c ds u → (filled ≡ true → Rows ds rows)
         → Took c (takeAll ds (entriesIn (getD (withReply st from es) j none))) (record { placed = true; filled = filled }) u rows
     unfolding takeAll
-    way-none f filled u rows n g q k m = rw (other j h n, none-is (replyAt (sh .c) b (startOf sh 9 + replyLength (sh .c) * j)) (sym g ∙ q)) (record { taken = told-held c ds u k; found = m })
+    way-none f filled u rows n g q k m = rw (other j h n, none-is (replyAt (sh .c) b (startOf sh atReplies + replyLength (sh .c) * j)) (sym g ∙ q)) (record { taken = told-held c ds u k; found = m })
 
-    pub way-kept : (f : Bool) (r : Told) (a len n : ℕ) (u rows : List ℕ) → (j ≡ from → ⊥) → f ≡ isSome (replyAt (sh .c) b (startOf sh 9 + replyLength (sh .c) * j)) → f ≡ true → PlaceAt sh 9 (replyLength (sh .c)) j a → len ≡ tableLength (sh .c)
+    pub way-kept : (f : Bool) (r : Told) (a len n : ℕ) (u rows : List ℕ) → (j ≡ from → ⊥) → f ≡ isSome (replyAt (sh .c) b (startOf sh atReplies + replyLength (sh .c) * j)) → f ≡ true → PlaceAt sh 9 (replyLength (sh .c)) j a → len ≡ tableLength (sh .c)
         → n ≡ num (take (a + 1 + len - (a + 1)) (drop (a + 1) b)) 0 4
         → Took c (takeAll ds (items (entryAt (take (a + 1 + len - (a + 1)) (drop (a + 1) b))) 24 4 n)) r u rows → Took c (takeAll ds (entriesIn (getD (withReply st from es) j none))) r u rows
     way-kept f r a len n u rows d g q ha hl hn k =
@@ -95,14 +95,14 @@ module _ {sh : Shape} {st : State} {b : List ℕ} (s : Stands sh st b) (from : �
 -- ---- the draft, and the replies of the first j groups
 
 -- the draft's table, copied over bytes of its length
-pub draft-copied : {sh : Shape} {st : State} {b : List ℕ} → Stands sh st b → (at len : ℕ) (t u : List ℕ) → at ≡ startOf sh 8 → len ≡ tableLength (sh .c) → length t ≡ 4 + 24 * sh .c → u ≡ splice t 0 (take (at + len - at) (drop at b)) → Holds (sh .c) (st .draft) u
+pub draft-copied : {sh : Shape} {st : State} {b : List ℕ} → Stands sh st b → (at len : ℕ) (t u : List ℕ) → at ≡ startOf sh atDraft → len ≡ tableLength (sh .c) → length t ≡ 4 + 24 * sh .c → u ≡ splice t 0 (take (at + len - at) (drop at b)) → Holds (sh .c) (st .change .draft) u
 draft-copied {sh} {st} {b} s at len t u ha hl ht q =
     let m : at + len - at ≡ tableLength (sh .c) = omega arith in
-    let k : Holds (sh .c) (st .draft) (take (at + len - at) (drop at b)) = draft-lent (stands-laid s) at (at + len - at) (s .fits) (stands-fits s .draft) ha m in
+    let k : Holds (sh .c) (st .change .draft) (take (at + len - at) (drop at b)) = draft-lent (stands-laid s) at (at + len - at) (s .fits) (stands-fits s .draft) ha m in
     rw (q ∙ splice-whole t (take (at + len - at) (drop at b)) (k .size ∙ sym ht)) k
 
 pub replies-long : {sh : Shape} {st : State} {b : List ℕ} → Stands sh st b → (from : ℕ) (es : List Entry) → length (withReply st from es) ≡ sh .s
-replies-long {st = st} s from es = length-set (st .replies) from (some es) ∙ stands-fits s .replyPlaces
+replies-long {st = st} s from es = length-set (st .change .replies) from (some es) ∙ stands-fits s .replyPlaces
 
 module _ (draft : List Entry) (rs : List (Option (List Entry))) where
   abbrev pub mergedTo : ℕ → List Entry

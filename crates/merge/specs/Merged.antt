@@ -12,8 +12,8 @@ use Rattle.rules.specs.declared.Shape.{Shape}
 
 -- the replies in the bytes b of a state; that of group `from` is the n entries that stand in m from `at` on
 abbrev pub repliesWith : Shape → List ℕ → ℕ → List ℕ → ℕ → ℕ → List (Option (List Entry))
-repliesWith sh b from m at n = set (stateOf sh b .replies) from (some (bytes.items (entryAt m) 24 at n))
+repliesWith sh b from m at n = set (stateOf sh b .change .replies) from (some (bytes.items (entryAt m) 24 at n))
 
 -- the draft there with these merged in
 abbrev pub mergedWith : Shape → List ℕ → ℕ → List ℕ → ℕ → ℕ → List Entry
-mergedWith sh b from m at n = rule.merged (stateOf sh b .draft) (repliesWith sh b from m at n)
+mergedWith sh b from m at n = rule.merged (stateOf sh b .change .draft) (repliesWith sh b from m at n)

@@ -174,8 +174,8 @@ fn take_reply(
 fn take_draft(shape: Shape, state: &[u8], scratch: &mut [u8], rows: &mut [u16]) -> bool
     requires { ⌜ Stands shape (stateOf shape (now state)) (now state) × (length (now scratch) ≡ 4 + 24 * shape .c) ⌝ }
     ensures { λ r. ⌜
-        Holds (shape .c) (stateOf shape (now (state .entry)) .draft) (now (scratch .exit))
-        × (r ≡ true → Rows (stateOf shape (now (state .entry)) .draft) (now (rows .exit))) ⌝ }
+        Holds (shape .c) (stateOf shape (now (state .entry)) .change .draft) (now (scratch .exit))
+        × (r ≡ true → Rows (stateOf shape (now (state .entry)) .change .draft) (now (rows .exit))) ⌝ }
 {
     let layout = places::places_of(shape);
     let start = layout.draft;

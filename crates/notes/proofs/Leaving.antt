@@ -9,7 +9,7 @@ use lib.Dec.{eqb}
 use borrow.Author.Tests.{eqb-true}
 use Rattle.rules.specs.Choice.{pick, any, every, keep}
 use Rattle.rules.specs.State.{Note, noteOf, notesDistinct}
-use Rattle.rules.specs.Step.{notesWithout}
+use Rattle.rules.specs.Early.{notesWithout}
 use Rattle.rules.specs.declared.Entry.{Entry}
 use Rattle.rules.proofs.Tests.{and-l, and-r, and-both, each, each-of, all-1, at-all}
 use Rattle.notes.specs.Notes.{noNote, row}

@@ -11,7 +11,7 @@ use lib.ListN.{length, drop, set, drop-of-length-le}
 use lib.Seq.{drop-cons, set-append-seam, getD-append-seam}
 use Rattle.rules.specs.Choice.{pick}
 use Rattle.rules.specs.State.{Note, noteOf, stampsOf}
-use Rattle.rules.specs.Step.{newNote, heardNote, keepNote}
+use Rattle.rules.specs.Early.{newNote, heardNote, keepNote}
 use Rattle.rules.specs.declared.Entry.{Entry}
 use Rattle.rules.specs.declared.Shape.{Shape}
 use Rattle.rules.proofs.Tests.{pick-true, pick-false}

@@ -11,7 +11,7 @@ use Rattle.octets.proofs.Laws.{length-le, le-zero, splice-at, splice-next}
 use Rattle.octets.proofs.Sections.{splice-whole}
 use Rattle.octets.proofs.Codecs.{long-all, flat-append}
 use Rattle.rules.specs.State.{Note}
-use Rattle.rules.specs.Step.{heardNote, keepNote}
+use Rattle.rules.specs.Early.{heardNote, keepNote}
 use Rattle.rules.specs.Image.{noteLength, zeroBytes, pointBytes, noteBytes, notesSection}
 use Rattle.rules.specs.declared.Entry.{Entry}
 use Rattle.rules.proofs.Tests.{all-at}

@@ -12,7 +12,7 @@ ghost use Rattle.rules.specs.Choice.{pick, isSome, passes, every, same};
 ghost use Rattle.rules.specs.Entry.{stampFits};
 ghost use Rattle.rules.specs.State.{valueOf, notedTo, greatestTo, noteFits};
 ghost use Rattle.rules.specs.State as state;
-ghost use Rattle.rules.specs.Step.{heardNote, keepNote};
+ghost use Rattle.rules.specs.Early.{heardNote, keepNote};
 ghost use Rattle.rules.specs.Image.{noteLength, pointBytes, pointAt, noteBytes, noteAt, notesSection};
 ghost use Rattle.notes.specs.Notes.{sized, notesAt, noteIn, unheardNote, row, said, NotesHold, Notes};
 

@@ -20,16 +20,16 @@ use Rattle.places.proofs.Sections.{stands-fits, stands-laid, get-in, pu
 -- the head's fields in their order
 abbrev headFields : State → List (List ℕ)
 headFields st =
-    le 1 (st .group)
-    ∷ le 1 (st .replica)
-    ∷ le 1 (st .status)
+    le 1 (st .site .group)
+    ∷ le 1 (st .site .replica)
+    ∷ le 1 (st .view .status)
     ∷ zeroBytes 5
-    ∷ le 4 (st .view)
-    ∷ le 4 (st .normal)
+    ∷ le 4 (st .view .gView)
+    ∷ le 4 (st .view .normal)
     ∷ le 8 (st .clock)
-    ∷ le 8 (st .sync)
-    ∷ le 8 (st .commit)
-    ∷ le 8 (st .boundary)
+    ∷ le 8 (st .logged .sync)
+    ∷ le 8 (st .logged .commit)
+    ∷ le 8 (st .change .boundary)
     ∷ []
 
 -- ---- field i, k bytes at `at`
@@ -47,58 +47,58 @@ module _ {sh : Shape} {st : State} {b : List ℕ} (l : Laid sh st b) where
 
   -- ---- each field written
   pub put-group : {b′ : List ℕ} (v : ℕ) → b′ ≡ splice b 0 (le 1 v) → Laid sh (withGroup st v) b′
-  put-group v = put-head (withGroup st v) 0 0 1 v (lit< tt) refl (lit≤ tt) (length-le 1 (st .group)) refl refl
+  put-group v = put-head (withGroup st v) 0 0 1 v (lit< tt) refl (lit≤ tt) (length-le 1 (st .site .group)) refl refl
 
   pub put-replica : {b′ : List ℕ} (v : ℕ) → b′ ≡ splice b 1 (le 1 v) → Laid sh (withReplica st v) b′
-  put-replica v = put-head (withReplica st v) 1 1 1 v (lit< tt) (simp length-le) (lit≤ tt) (length-le 1 (st .replica)) refl refl
+  put-replica v = put-head (withReplica st v) 1 1 1 v (lit< tt) (simp length-le) (lit≤ tt) (length-le 1 (st .site .replica)) refl refl
 
   pub put-status : {b′ : List ℕ} (v : ℕ) → b′ ≡ splice b 2 (le 1 v) → Laid sh (withStatus st v) b′
-  put-status v = put-head (withStatus st v) 2 2 1 v (lit< tt) (simp length-le) (lit≤ tt) (length-le 1 (st .status)) refl refl
+  put-status v = put-head (withStatus st v) 2 2 1 v (lit< tt) (simp length-le) (lit≤ tt) (length-le 1 (st .view .status)) refl refl
 
   pub put-view : {b′ : List ℕ} (v : ℕ) → b′ ≡ splice b 8 (le 4 v) → Laid sh (withView st v) b′
-  put-view v = put-head (withView st v) 4 8 4 v (lit< tt) (simp length-le) (lit≤ tt) (length-le 4 (st .view)) refl refl
+  put-view v = put-head (withView st v) 4 8 4 v (lit< tt) (simp length-le) (lit≤ tt) (length-le 4 (st .view .gView)) refl refl
 
   pub put-normal : {b′ : List ℕ} (v : ℕ) → b′ ≡ splice b 12 (le 4 v) → Laid sh (withNormal st v) b′
-  put-normal v = put-head (withNormal st v) 5 12 4 v (lit< tt) (simp length-le) (lit≤ tt) (length-le 4 (st .normal)) refl refl
+  put-normal v = put-head (withNormal st v) 5 12 4 v (lit< tt) (simp length-le) (lit≤ tt) (length-le 4 (st .view .normal)) refl refl
 
   pub put-clock : {b′ : List ℕ} (v : ℕ) → b′ ≡ splice b 16 (le 8 v) → Laid sh (withClock st v) b′
   put-clock v = put-head (withClock st v) 6 16 8 v (lit< tt) (simp length-le) (lit≤ tt) (length-le 8 (st .clock)) refl refl
 
   pub put-sync : {b′ : List ℕ} (v : ℕ) → b′ ≡ splice b 24 (le 8 v) → Laid sh (withSync st v) b′
-  put-sync v = put-head (withSync st v) 7 24 8 v (lit< tt) (simp length-le) (lit≤ tt) (length-le 8 (st .sync)) refl refl
+  put-sync v = put-head (withSync st v) 7 24 8 v (lit< tt) (simp length-le) (lit≤ tt) (length-le 8 (st .logged .sync)) refl refl
 
   pub put-commit : {b′ : List ℕ} (v : ℕ) → b′ ≡ splice b 32 (le 8 v) → Laid sh (withCommit st v) b′
-  put-commit v = put-head (withCommit st v) 8 32 8 v (lit< tt) (simp length-le) (lit≤ tt) (length-le 8 (st .commit)) refl refl
+  put-commit v = put-head (withCommit st v) 8 32 8 v (lit< tt) (simp length-le) (lit≤ tt) (length-le 8 (st .logged .commit)) refl refl
 
   pub put-boundary : {b′ : List ℕ} (v : ℕ) → b′ ≡ splice b 40 (le 8 v) → Laid sh (withBoundary st v) b′
-  put-boundary v = put-head (withBoundary st v) 9 40 8 v (lit< tt) (simp length-le) (lit≤ tt) (length-le 8 (st .boundary)) refl refl
+  put-boundary v = put-head (withBoundary st v) 9 40 8 v (lit< tt) (simp length-le) (lit≤ tt) (length-le 8 (st .change .boundary)) refl refl
 
 -- ---- each field of a good state read
 
 module _ {sh : Shape} {st : State} {b : List ℕ} (s : Stands sh st b) where
-  pub group-of : num b 0 1 ≡ st .group
-  group-of = get-head (stands-laid s) 0 0 1 (st .group) (lit< tt) refl (lit≤ tt) refl (stands-fits s .group)
+  pub group-of : num b 0 1 ≡ st .site .group
+  group-of = get-head (stands-laid s) 0 0 1 (st .site .group) (lit< tt) refl (lit≤ tt) refl (stands-fits s .group)
 
-  pub replica-of : num b 1 1 ≡ st .replica
-  replica-of = get-head (stands-laid s) 1 1 1 (st .replica) (lit< tt) (simp length-le) (lit≤ tt) refl (stands-fits s .replica)
+  pub replica-of : num b 1 1 ≡ st .site .replica
+  replica-of = get-head (stands-laid s) 1 1 1 (st .site .replica) (lit< tt) (simp length-le) (lit≤ tt) refl (stands-fits s .replica)
 
-  pub status-of : num b 2 1 ≡ st .status
-  status-of = get-head (stands-laid s) 2 2 1 (st .status) (lit< tt) (simp length-le) (lit≤ tt) refl (stands-fits s .status)
+  pub status-of : num b 2 1 ≡ st .view .status
+  status-of = get-head (stands-laid s) 2 2 1 (st .view .status) (lit< tt) (simp length-le) (lit≤ tt) refl (stands-fits s .status)
 
-  pub view-of : num b 8 4 ≡ st .view
-  view-of = get-head (stands-laid s) 4 8 4 (st .view) (lit< tt) (simp length-le) (lit≤ tt) refl (stands-fits s .view)
+  pub view-of : num b 8 4 ≡ st .view .gView
+  view-of = get-head (stands-laid s) 4 8 4 (st .view .gView) (lit< tt) (simp length-le) (lit≤ tt) refl (stands-fits s .view)
 
-  pub normal-of : num b 12 4 ≡ st .normal
-  normal-of = get-head (stands-laid s) 5 12 4 (st .normal) (lit< tt) (simp length-le) (lit≤ tt) refl (stands-fits s .normal)
+  pub normal-of : num b 12 4 ≡ st .view .normal
+  normal-of = get-head (stands-laid s) 5 12 4 (st .view .normal) (lit< tt) (simp length-le) (lit≤ tt) refl (stands-fits s .normal)
 
   pub clock-of : num b 16 8 ≡ st .clock
   clock-of = get-head (stands-laid s) 6 16 8 (st .clock) (lit< tt) (simp length-le) (lit≤ tt) refl (stands-fits s .clock)
 
-  pub sync-of : num b 24 8 ≡ st .sync
-  sync-of = get-head (stands-laid s) 7 24 8 (st .sync) (lit< tt) (simp length-le) (lit≤ tt) refl (stands-fits s .sync)
+  pub sync-of : num b 24 8 ≡ st .logged .sync
+  sync-of = get-head (stands-laid s) 7 24 8 (st .logged .sync) (lit< tt) (simp length-le) (lit≤ tt) refl (stands-fits s .sync)
 
-  pub commit-of : num b 32 8 ≡ st .commit
-  commit-of = get-head (stands-laid s) 8 32 8 (st .commit) (lit< tt) (simp length-le) (lit≤ tt) refl (stands-fits s .commit)
+  pub commit-of : num b 32 8 ≡ st .logged .commit
+  commit-of = get-head (stands-laid s) 8 32 8 (st .logged .commit) (lit< tt) (simp length-le) (lit≤ tt) refl (stands-fits s .commit)
 
-  pub boundary-of : num b 40 8 ≡ st .boundary
-  boundary-of = get-head (stands-laid s) 9 40 8 (st .boundary) (lit< tt) (simp length-le) (lit≤ tt) refl (stands-fits s .boundary)
+  pub boundary-of : num b 40 8 ≡ st .change .boundary
+  boundary-of = get-head (stands-laid s) 9 40 8 (st .change .boundary) (lit< tt) (simp length-le) (lit≤ tt) refl (stands-fits s .boundary)

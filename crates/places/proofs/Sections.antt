@@ -15,13 +15,13 @@ use Rattle.octets.proofs.Laws.{length-splice, splice-home}
 use Rattle.octets.proofs.Sections.{get-in-section, set-in-section, part-whole, splice-whole}
 use Rattle.rules.specs.Group.{permitted, sizesFit, shapeFits}
 use Rattle.rules.specs.State.{State}
-use Rattle.rules.specs.Image.{tableLength, noteLength, voteLength, replyLength, lengths, stateLength, sections, image, stateOf, goodBytes}
+use Rattle.rules.specs.Image.{tableLength, noteLength, voteLength, replyLength, lengths, stateLength, sections, image, stateOf, goodBytes, atDraft, atEarly, atHeard, atLate, atLog, atNotes, atReplies, atVotes}
 use Rattle.rules.specs.declared.Shape.{Shape}
 use Rattle.rules.proofs.Tests.{and-l}
 use Rattle.rules.proofs.Entries.{drop-section}
 use Rattle.rules.proofs.Image.{StateFits, long-sections, length-total}
 use Rattle.rules.proofs.Good.{room, shape-sizes, good-state, good-bytes}
-use Rattle.places.specs.Layout.{startOf, placesOf, Marks, Fits, Laid, Stands}
+use Rattle.places.specs.Layout.{startOf, placesOf, Marks, Fits, Laid, Stands, atEnd}
 use Rattle.places.specs.declared.Places.{Places}
 
 -- ---- a shape in range
@@ -62,15 +62,15 @@ products sh f =
 pub in-a-row : (sh : Shape) (heard log early late notes votes draft replies end table : ℕ) → table ≡ tableLength (sh .c) → heard ≡ 48 + 4 * sh .s → log ≡ heard + 9 * sh .n → early ≡ log + table → late ≡ early + table → notes ≡ late + table → votes ≡ notes + (4 + noteLength (sh .s) * sh .c) → draft ≡ votes + voteLength (sh .c) * sh .n → replies ≡ draft + table → end ≡ replies + replyLength (sh .c) * sh .s
     → _≡_ {A = Places} (record { views = 48; heard = heard; log = log; early = early; late = late; notes = notes; votes = votes; draft = draft; replies = replies; end = end; table = table; note = noteLength (sh .s); vote = voteLength (sh .c); reply = replyLength (sh .c) }) (placesOf sh)
 in-a-row sh heard log early late notes votes draft replies end table t e2 e3 e4 e5 e6 e7 e8 e9 e10 =
-    let s2 : heard ≡ startOf sh 2 = omega arith in
-    let s3 : log ≡ startOf sh 3 = omega arith in
-    let s4 : early ≡ startOf sh 4 = omega arith in
-    let s5 : late ≡ startOf sh 5 = omega arith in
-    let s6 : notes ≡ startOf sh 6 = omega arith in
-    let s7 : votes ≡ startOf sh 7 = omega arith in
-    let s8 : draft ≡ startOf sh 8 = omega arith in
-    let s9 : replies ≡ startOf sh 9 = omega arith in
-    let s10 : end ≡ startOf sh 10 = omega arith in
+    let s2 : heard ≡ startOf sh atHeard = omega arith in
+    let s3 : log ≡ startOf sh atLog = omega arith in
+    let s4 : early ≡ startOf sh atEarly = omega arith in
+    let s5 : late ≡ startOf sh atLate = omega arith in
+    let s6 : notes ≡ startOf sh atNotes = omega arith in
+    let s7 : votes ≡ startOf sh atVotes = omega arith in
+    let s8 : draft ≡ startOf sh atDraft = omega arith in
+    let s9 : replies ≡ startOf sh atReplies = omega arith in
+    let s10 : end ≡ startOf sh atEnd = omega arith in
     rw (s2, s3, s4, s5, s6, s7, s8, s9, s10, t)
 
 pub state-small : (sh : Shape) → Fits sh → stateLength sh ≤ 2187586

@@ -9,7 +9,7 @@ use lib.ListN.{replicate}
 use lib.Dec.{eqb}
 use Rattle.octets.specs.Bytes.{num, splice}
 use Rattle.rules.specs.Choice.{pick, count, isSome}
-use Rattle.rules.specs.Image.{stateLength, voteLength, replyLength, pointAt, voteAt, replyAt}
+use Rattle.rules.specs.Image.{stateLength, voteLength, replyLength, pointAt, voteAt, replyAt, atReplies, atVotes}
 use Rattle.rules.specs.declared.Shape.{Shape}
 use Rattle.places.specs.Layout.{startOf, placesOf, PlaceAt}
 use Rattle.places.specs.declared.Places.{Places}
@@ -68,8 +68,8 @@ count-like p q zero h = refl
 count-like p q (suc n) h = rw (h n (omega arith), count-like p q n (λ i l. h i (omega arith)))
 
 module _ (sh : Shape) (b : List ℕ) (p : Places) (k : ℕ) (e : p ≡ placesOf sh) where
-  pub votes-counted : k ≡ count (λ i. not (eqb (num b (p .votes + p .vote * i) 1) 0)) (sh .n) → k ≡ count (λ i. isSome (voteAt (sh .c) b (startOf sh 7 + voteLength (sh .c) * i))) (sh .n)
+  pub votes-counted : k ≡ count (λ i. not (eqb (num b (p .votes + p .vote * i) 1) 0)) (sh .n) → k ≡ count (λ i. isSome (voteAt (sh .c) b (startOf sh atVotes + voteLength (sh .c) * i))) (sh .n)
   votes-counted w = w ∙ count-like _ _ (sh .n) (λ i h. vote-flag b (p .votes + p .vote * i) _ _ refl (ap (λ (q : Places). q .votes + q .vote * i) e) (sh .c))
 
-  pub replies-counted : k ≡ count (λ i. not (eqb (num b (p .replies + p .reply * i) 1) 0)) (sh .s) → k ≡ count (λ i. isSome (replyAt (sh .c) b (startOf sh 9 + replyLength (sh .c) * i))) (sh .s)
+  pub replies-counted : k ≡ count (λ i. not (eqb (num b (p .replies + p .reply * i) 1) 0)) (sh .s) → k ≡ count (λ i. isSome (replyAt (sh .c) b (startOf sh atReplies + replyLength (sh .c) * i))) (sh .s)
   replies-counted w = w ∙ count-like _ _ (sh .s) (λ i h. reply-flag b (p .replies + p .reply * i) _ _ refl (ap (λ (q : Places). q .replies + q .reply * i) e) (sh .c))

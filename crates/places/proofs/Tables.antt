@@ -6,7 +6,7 @@ use lib.ListN.{length, getD, set}
 use lib.Dec.{lit<}
 use Rattle.octets.specs.Bytes.{part, splice}
 use Rattle.rules.specs.State.{Note, State}
-use Rattle.rules.specs.Image.{tableLength, noteLength, lengths, headSection, tableBytes, notesSection, sections}
+use Rattle.rules.specs.Image.{tableLength, noteLength, lengths, headSection, tableBytes, notesSection, sections, atDraft, atEarly, atLate, atLog, atNotes}
 use Rattle.rules.specs.declared.Entry.{Entry}
 use Rattle.rules.specs.declared.Shape.{Shape}
 use Rattle.rules.proofs.Tables.{table-long}
@@ -16,41 +16,41 @@ use Rattle.places.proofs.Sections.{get-all, put-all}
 
 module _ {sh : Shape} {st : State} {b : List ℕ} (l : Laid sh st b) where
   -- ---- read
-  pub log-part : part b (startOf sh 3) (tableLength (sh .c)) ≡ tableBytes (sh .c) (st .log)
-  log-part = get-all l 3 (startOf sh 3) (tableLength (sh .c)) (lit< tt) refl refl
+  pub log-part : part b (startOf sh atLog) (tableLength (sh .c)) ≡ tableBytes (sh .c) (st .logged .log)
+  log-part = get-all l 3 (startOf sh atLog) (tableLength (sh .c)) (lit< tt) refl refl
 
-  pub early-part : part b (startOf sh 4) (tableLength (sh .c)) ≡ tableBytes (sh .c) (st .early)
-  early-part = get-all l 4 (startOf sh 4) (tableLength (sh .c)) (lit< tt) refl refl
+  pub early-part : part b (startOf sh atEarly) (tableLength (sh .c)) ≡ tableBytes (sh .c) (st .waiting .early)
+  early-part = get-all l 4 (startOf sh atEarly) (tableLength (sh .c)) (lit< tt) refl refl
 
-  pub late-part : part b (startOf sh 5) (tableLength (sh .c)) ≡ tableBytes (sh .c) (st .late)
-  late-part = get-all l 5 (startOf sh 5) (tableLength (sh .c)) (lit< tt) refl refl
+  pub late-part : part b (startOf sh atLate) (tableLength (sh .c)) ≡ tableBytes (sh .c) (st .waiting .late)
+  late-part = get-all l 5 (startOf sh atLate) (tableLength (sh .c)) (lit< tt) refl refl
 
-  pub notes-part : part b (startOf sh 6) (4 + noteLength (sh .s) * sh .c) ≡ notesSection sh (st .notes)
-  notes-part = get-all l 6 (startOf sh 6) (4 + noteLength (sh .s) * sh .c) (lit< tt) refl refl
+  pub notes-part : part b (startOf sh atNotes) (4 + noteLength (sh .s) * sh .c) ≡ notesSection sh (st .waiting .notes)
+  notes-part = get-all l 6 (startOf sh atNotes) (4 + noteLength (sh .s) * sh .c) (lit< tt) refl refl
 
-  pub draft-part : part b (startOf sh 8) (tableLength (sh .c)) ≡ tableBytes (sh .c) (st .draft)
-  draft-part = get-all l 8 (startOf sh 8) (tableLength (sh .c)) (lit< tt) refl refl
+  pub draft-part : part b (startOf sh atDraft) (tableLength (sh .c)) ≡ tableBytes (sh .c) (st .change .draft)
+  draft-part = get-all l 8 (startOf sh atDraft) (tableLength (sh .c)) (lit< tt) refl refl
 
   -- ---- written
   put-table : {b′ : List ℕ} (next : State) (i : ℕ) (es : List Entry) → i < 10 → tableLength (sh .c) ≡ getD (lengths sh) i 0 → set (sections sh st) i (tableBytes (sh .c) es) ≡ sections sh next → length es ≤ sh .c → b′ ≡ splice b (startOf sh i) (tableBytes (sh .c) es) → Laid sh next b′
   put-table next i es h e q r w = put-all l next i (startOf sh i) (tableBytes (sh .c) es) h refl (rw (table-long (sh .c) es r) e) q w
 
-  pub put-log : {b′ : List ℕ} (es : List Entry) → length es ≤ sh .c → b′ ≡ splice b (startOf sh 3) (tableBytes (sh .c) es) → Laid sh (withLog st es) b′
+  pub put-log : {b′ : List ℕ} (es : List Entry) → length es ≤ sh .c → b′ ≡ splice b (startOf sh atLog) (tableBytes (sh .c) es) → Laid sh (withLog st es) b′
   unfolding headSection
   put-log es = put-table (withLog st es) 3 es (lit< tt) refl refl
 
-  pub put-early : {b′ : List ℕ} (es : List Entry) → length es ≤ sh .c → b′ ≡ splice b (startOf sh 4) (tableBytes (sh .c) es) → Laid sh (withEarly st es) b′
+  pub put-early : {b′ : List ℕ} (es : List Entry) → length es ≤ sh .c → b′ ≡ splice b (startOf sh atEarly) (tableBytes (sh .c) es) → Laid sh (withEarly st es) b′
   unfolding headSection
   put-early es = put-table (withEarly st es) 4 es (lit< tt) refl refl
 
-  pub put-late : {b′ : List ℕ} (es : List Entry) → length es ≤ sh .c → b′ ≡ splice b (startOf sh 5) (tableBytes (sh .c) es) → Laid sh (withLate st es) b′
+  pub put-late : {b′ : List ℕ} (es : List Entry) → length es ≤ sh .c → b′ ≡ splice b (startOf sh atLate) (tableBytes (sh .c) es) → Laid sh (withLate st es) b′
   unfolding headSection
   put-late es = put-table (withLate st es) 5 es (lit< tt) refl refl
 
-  pub put-draft : {b′ : List ℕ} (es : List Entry) → length es ≤ sh .c → b′ ≡ splice b (startOf sh 8) (tableBytes (sh .c) es) → Laid sh (withDraft st es) b′
+  pub put-draft : {b′ : List ℕ} (es : List Entry) → length es ≤ sh .c → b′ ≡ splice b (startOf sh atDraft) (tableBytes (sh .c) es) → Laid sh (withDraft st es) b′
   unfolding headSection
   put-draft es = put-table (withDraft st es) 8 es (lit< tt) refl refl
 
-  pub put-notes : {b′ : List ℕ} (xs : List Note) → length (notesSection sh xs) ≡ 4 + noteLength (sh .s) * sh .c → b′ ≡ splice b (startOf sh 6) (notesSection sh xs) → Laid sh (withNotes st xs) b′
+  pub put-notes : {b′ : List ℕ} (xs : List Note) → length (notesSection sh xs) ≡ 4 + noteLength (sh .s) * sh .c → b′ ≡ splice b (startOf sh atNotes) (notesSection sh xs) → Laid sh (withNotes st xs) b′
   unfolding headSection
-  put-notes xs r = put-all l (withNotes st xs) 6 (startOf sh 6) (notesSection sh xs) (lit< tt) refl r refl
+  put-notes xs r = put-all l (withNotes st xs) 6 (startOf sh atNotes) (notesSection sh xs) (lit< tt) refl r refl

@@ -9,11 +9,15 @@ use Rattle.octets.specs.Sections.{total}
 use Rattle.rules.specs.Choice.{pick}
 use Rattle.rules.specs.Group.{shapeFits}
 use Rattle.rules.specs.State.{State, good}
-use Rattle.rules.specs.Image.{tableLength, noteLength, voteLength, replyLength, lengths, stateLength, sections, image}
+use Rattle.rules.specs.Image.{tableLength, noteLength, voteLength, replyLength, lengths, stateLength, sections, image, atDraft, atEarly, atGVec, atHeard, atLate, atLog, atNotes, atReplies, atVotes}
 use Rattle.rules.specs.declared.Shape.{Shape}
 use Rattle.places.specs.declared.Places.{Places}
 
--- where section i begins: 0 head, 1 gVec, 2 heard, 3 log, 4 early, 5 late, 6 notes, 7 votes, 8 draft, 9 replies; 10 is the end
+-- behind the last section
+abbrev pub atEnd : ℕ
+atEnd = 10
+
+-- where a section begins
 abbrev pub startOf : Shape → ℕ → ℕ
 startOf sh i = total (take i (lengths sh))
 
@@ -21,16 +25,16 @@ startOf sh i = total (take i (lengths sh))
 abbrev pub placesOf : Shape → Places
 placesOf sh =
     record {
-      views = startOf sh 1;
-      heard = startOf sh 2;
-      log = startOf sh 3;
-      early = startOf sh 4;
-      late = startOf sh 5;
-      notes = startOf sh 6;
-      votes = startOf sh 7;
-      draft = startOf sh 8;
-      replies = startOf sh 9;
-      end = startOf sh 10;
+      views = startOf sh atGVec;
+      heard = startOf sh atHeard;
+      log = startOf sh atLog;
+      early = startOf sh atEarly;
+      late = startOf sh atLate;
+      notes = startOf sh atNotes;
+      votes = startOf sh atVotes;
+      draft = startOf sh atDraft;
+      replies = startOf sh atReplies;
+      end = startOf sh atEnd;
       table = tableLength (sh .c);
       note = noteLength (sh .s);
       vote = voteLength (sh .c);
@@ -40,21 +44,21 @@ placesOf sh =
 -- the places are those of the shape. What follows from the first is here so that it is found
 pub record Marks (sh : Shape) (p : Places) : Type 0 where
   pub all : p ≡ placesOf sh
-  pub views : p .views ≡ startOf sh 1
-  pub heard : p .heard ≡ startOf sh 2
-  pub log : p .log ≡ startOf sh 3
-  pub early : p .early ≡ startOf sh 4
-  pub late : p .late ≡ startOf sh 5
-  pub notes : p .notes ≡ startOf sh 6
-  pub votes : p .votes ≡ startOf sh 7
-  pub draft : p .draft ≡ startOf sh 8
-  pub replies : p .replies ≡ startOf sh 9
-  pub end : p .end ≡ startOf sh 10
+  pub views : p .views ≡ startOf sh atGVec
+  pub heard : p .heard ≡ startOf sh atHeard
+  pub log : p .log ≡ startOf sh atLog
+  pub early : p .early ≡ startOf sh atEarly
+  pub late : p .late ≡ startOf sh atLate
+  pub notes : p .notes ≡ startOf sh atNotes
+  pub votes : p .votes ≡ startOf sh atVotes
+  pub draft : p .draft ≡ startOf sh atDraft
+  pub replies : p .replies ≡ startOf sh atReplies
+  pub end : p .end ≡ startOf sh atEnd
   pub table : p .table ≡ tableLength (sh .c)
   pub note : p .note ≡ noteLength (sh .s)
   pub vote : p .vote ≡ voteLength (sh .c)
   pub reply : p .reply ≡ replyLength (sh .c)
-  pub small : startOf sh 10 ≤ 2187586
+  pub small : startOf sh atEnd ≤ 2187586
 
 -- a shape in range, as plain facts
 pub record Fits (sh : Shape) : Type 0 where
@@ -82,7 +86,7 @@ pub record Sized (sh : Shape) (b : List ℕ) : Type 0 where
 
 -- the vote that the own last normal gView, sync point and log make
 unfoldable pub ownBytes : Shape → List ℕ → List ℕ
-ownBytes sh b = le 1 1 ++ (le 4 (num b 12 4) ++ (le 8 (num b 24 8) ++ part b (startOf sh 3) (tableLength (sh .c))))
+ownBytes sh b = le 1 1 ++ (le 4 (num b 12 4) ++ (le 8 (num b 24 8) ++ part b (startOf sh atLog) (tableLength (sh .c))))
 
 -- the bytes are those of the state, section by section, whether or not it is good: so of any state on the way from one good state to another
 pub record Laid (sh : Shape) (st : State) (b : List ℕ) : Type 0 where

@@ -9,7 +9,7 @@ ghost use lib.ListN.{length};
 ghost use Rattle.octets.specs.Bytes.{le, num, part, splice, items};
 ghost use Rattle.rules.specs.Choice.{count, isSome};
 ghost use Rattle.rules.specs.Read.{entryAt};
-ghost use Rattle.rules.specs.Image.{tableLength, voteLength, replyLength, pointBytes, tableBytes, pointAt, voteAt, replyAt};
+ghost use Rattle.rules.specs.Image.{tableLength, voteLength, replyLength, pointBytes, tableBytes, pointAt, voteAt, replyAt, atGVec, atHeard, atReplies, atVotes};
 ghost use Rattle.places.specs.Layout.{startOf, Marks, Fits, PlaceAt, Sized};
 
 // Where each section begins after the head, where the last ends, and how long a table, a note, a vote and a reply are.
@@ -273,7 +273,7 @@ pub fn put_table(shape: Shape, state: &mut [u8], to: usize, src: &[u8], at: usiz
 // The view of group j.
 pub fn view_at(shape: Shape, state: &[u8], j: u64) -> u32
     requires { ⌜ Sized shape (now state) × (j < shape .s) ⌝ }
-    ensures { λ r. ⌜ r ≡ num (now (state .entry)) (startOf shape 1 + 4 * j) 4 ⌝ }
+    ensures { λ r. ⌜ r ≡ num (now (state .entry)) (startOf shape atGVec + 4 * j) 4 ⌝ }
 {
     octets::get32(state, view_place(shape, j))
 }
@@ -281,7 +281,7 @@ pub fn view_at(shape: Shape, state: &[u8], j: u64) -> u32
 // Takes over the views that stand in `src` from `at` on.
 pub fn put_views(shape: Shape, state: &mut [u8], src: &[u8], at: usize)
     requires { ⌜ Sized shape (now state) × (at + 4 * shape .s ≤ length (now src)) ⌝ }
-    ensures { λ _. ⌜ now (state .exit) ≡ splice (now (state .entry)) (startOf shape 1) (part (now (src .entry)) at (4 * shape .s)) ⌝ }
+    ensures { λ _. ⌜ now (state .exit) ≡ splice (now (state .entry)) (startOf shape atGVec) (part (now (src .entry)) at (4 * shape .s)) ⌝ }
 {
     let start = places_of(shape).views;
     let end = at + 4 * shape.s as usize;
@@ -293,7 +293,7 @@ pub fn put_views(shape: Shape, state: &mut [u8], src: &[u8], at: usize)
 // Whether a point of replica r was heard.
 pub fn heard_flag(shape: Shape, state: &[u8], r: u64) -> bool
     requires { ⌜ Sized shape (now state) × (r < shape .n) ⌝ }
-    ensures { λ f. ⌜ f ≡ isSome (pointAt (now (state .entry)) (startOf shape 2 + 9 * r)) ⌝ }
+    ensures { λ f. ⌜ f ≡ isSome (pointAt (now (state .entry)) (startOf shape atHeard + 9 * r)) ⌝ }
 {
     flag(state, heard_place(shape, r))
 }
@@ -301,7 +301,7 @@ pub fn heard_flag(shape: Shape, state: &[u8], r: u64) -> bool
 // The point heard of replica r, where one was.
 pub fn heard_point(shape: Shape, state: &[u8], r: u64) -> u64
     requires { ⌜ Sized shape (now state) × (r < shape .n) ⌝ }
-    ensures { λ p. ⌜ p ≡ num (now (state .entry)) (startOf shape 2 + 9 * r + 1) 8 ⌝ }
+    ensures { λ p. ⌜ p ≡ num (now (state .entry)) (startOf shape atHeard + 9 * r + 1) 8 ⌝ }
 {
     octets::get64(state, heard_place(shape, r) + 1)
 }
@@ -309,7 +309,7 @@ pub fn heard_point(shape: Shape, state: &[u8], r: u64) -> u64
 // Writes a point heard of replica r.
 pub fn put_heard(shape: Shape, state: &mut [u8], r: u64, p: u64)
     requires { ⌜ Sized shape (now state) × (r < shape .n) ⌝ }
-    ensures { λ _. ⌜ now (state .exit) ≡ splice (now (state .entry)) (startOf shape 2 + 9 * r) (pointBytes (some p)) ⌝ }
+    ensures { λ _. ⌜ now (state .exit) ≡ splice (now (state .entry)) (startOf shape atHeard + 9 * r) (pointBytes (some p)) ⌝ }
 {
     let at = heard_place(shape, r);
     octets::put8(state, at, 1);
@@ -321,7 +321,7 @@ pub fn put_heard(shape: Shape, state: &mut [u8], r: u64, p: u64)
 // Whether a vote of replica r is kept.
 pub fn vote_flag(shape: Shape, state: &[u8], r: u64) -> bool
     requires { ⌜ Sized shape (now state) × (r < shape .n) ⌝ }
-    ensures { λ f. ⌜ f ≡ isSome (voteAt (shape .c) (now (state .entry)) (startOf shape 7 + voteLength (shape .c) * r)) ⌝ }
+    ensures { λ f. ⌜ f ≡ isSome (voteAt (shape .c) (now (state .entry)) (startOf shape atVotes + voteLength (shape .c) * r)) ⌝ }
 {
     flag(state, vote_place(shape, r))
 }
@@ -329,7 +329,7 @@ pub fn vote_flag(shape: Shape, state: &[u8], r: u64) -> bool
 // The last normal gView in the vote of replica r, where one is kept.
 pub fn vote_normal(shape: Shape, state: &[u8], r: u64) -> u32
     requires { ⌜ Sized shape (now state) × (r < shape .n) ⌝ }
-    ensures { λ v. ⌜ v ≡ num (now (state .entry)) (startOf shape 7 + voteLength (shape .c) * r + 1) 4 ⌝ }
+    ensures { λ v. ⌜ v ≡ num (now (state .entry)) (startOf shape atVotes + voteLength (shape .c) * r + 1) 4 ⌝ }
 {
     octets::get32(state, vote_place(shape, r) + 1)
 }
@@ -337,7 +337,7 @@ pub fn vote_normal(shape: Shape, state: &[u8], r: u64) -> u32
 // The sync point in the vote of replica r, where one is kept.
 pub fn vote_sync(shape: Shape, state: &[u8], r: u64) -> u64
     requires { ⌜ Sized shape (now state) × (r < shape .n) ⌝ }
-    ensures { λ v. ⌜ v ≡ num (now (state .entry)) (startOf shape 7 + voteLength (shape .c) * r + 5) 8 ⌝ }
+    ensures { λ v. ⌜ v ≡ num (now (state .entry)) (startOf shape atVotes + voteLength (shape .c) * r + 5) 8 ⌝ }
 {
     octets::get64(state, vote_place(shape, r) + 5)
 }
@@ -345,7 +345,7 @@ pub fn vote_sync(shape: Shape, state: &[u8], r: u64) -> u64
 // How many votes are kept.
 pub fn held_votes(shape: Shape, state: &[u8]) -> u64
     requires { ⌜ Sized shape (now state) ⌝ }
-    ensures { λ k. ⌜ k ≡ count (λ r. isSome (voteAt (shape .c) (now (state .entry)) (startOf shape 7 + voteLength (shape .c) * r))) (shape .n) ⌝ }
+    ensures { λ k. ⌜ k ≡ count (λ r. isSome (voteAt (shape .c) (now (state .entry)) (startOf shape atVotes + voteLength (shape .c) * r))) (shape .n) ⌝ }
 {
     let places = places_of(shape);
     flags(state, places.votes, places.vote, shape.n)
@@ -356,7 +356,7 @@ pub fn held_votes(shape: Shape, state: &[u8]) -> u64
 // Whether a reply of group j is kept.
 pub fn reply_flag(shape: Shape, state: &[u8], j: u64) -> bool
     requires { ⌜ Sized shape (now state) × (j < shape .s) ⌝ }
-    ensures { λ f. ⌜ f ≡ isSome (replyAt (shape .c) (now (state .entry)) (startOf shape 9 + replyLength (shape .c) * j)) ⌝ }
+    ensures { λ f. ⌜ f ≡ isSome (replyAt (shape .c) (now (state .entry)) (startOf shape atReplies + replyLength (shape .c) * j)) ⌝ }
 {
     flag(state, reply_place(shape, j))
 }
@@ -364,7 +364,7 @@ pub fn reply_flag(shape: Shape, state: &[u8], j: u64) -> bool
 // How many replies are kept.
 pub fn held_replies(shape: Shape, state: &[u8]) -> u64
     requires { ⌜ Sized shape (now state) ⌝ }
-    ensures { λ k. ⌜ k ≡ count (λ j. isSome (replyAt (shape .c) (now (state .entry)) (startOf shape 9 + replyLength (shape .c) * j))) (shape .s) ⌝ }
+    ensures { λ k. ⌜ k ≡ count (λ j. isSome (replyAt (shape .c) (now (state .entry)) (startOf shape atReplies + replyLength (shape .c) * j))) (shape .s) ⌝ }
 {
     let places = places_of(shape);
     flags(state, places.replies, places.reply, shape.s)

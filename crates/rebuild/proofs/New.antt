@@ -13,9 +13,10 @@ use borrow.Author.Tests.{le-ltb, lt-ltb, ltb-true, le-leb, lt-leb, eq-eqb, eqb-t
 use Rattle.octets.specs.Bytes.{num}
 use Rattle.rules.specs.Choice.{any}
 use Rattle.rules.specs.Group.{recovery}
-use Rattle.rules.specs.Entry.{sameTxn, among, later}
+use Rattle.rules.specs.Entry.{sameTxn, among, laterThan}
 use Rattle.rules.specs.Read.{entryAt}
 use Rattle.rules.specs.State.{Vote}
+use Rattle.rules.specs.Log.{lastOf}
 use Rattle.rules.specs.Rebuild.{withNormal, best, prefix, boundaryIn, holders, isAdded}
 use Rattle.rules.specs.declared.Entry.{Entry}
 use Rattle.rules.specs.declared.Shape.{Shape}
@@ -96,12 +97,12 @@ module _ (n : ℕ) (vs : List (Option Vote)) (b : Basis) (k : Based n vs b) (r :
   first-fails x y z h = rw h
 
   pub new-late : e .stamp ≤ b .boundary → false ≡ isNew n (b .top) vs r e
-  unfolding isNew later
-  new-late h = first-fails (later (boundaryIn ws) e) _ _ (rw (← k .boundary) (le-ltb (b .boundary) (e .stamp) h))
+  unfolding isNew laterThan
+  new-late h = first-fails (laterThan (lastOf (prefix ws)) e) _ _ (rw (← k .boundary) (le-ltb (b .boundary) (e .stamp) h))
 
   -- what is to be added is later than the boundary
   pub new-later : (t : Bool) → t ≡ isNew n (b .top) vs r e → not t ≡ false → b .boundary < e .stamp
-  unfolding isNew later
+  unfolding isNew laterThan
   new-later t q h =
       rw (k .boundary) (ltb-true (boundaryIn ws) (e .stamp) (and-left (ltb (boundaryIn ws) (e .stamp)) _ (and-left (isAdded n ws e) _ (sym q ∙ not-false t h))))
 
@@ -130,15 +131,15 @@ module _ (n : ℕ) (vs : List (Option Vote)) (b : Basis) (k : Based n vs b) (r :
 
     pub new-few : all < rec → false ≡ isNew n (b .top) vs r e
     unfolding isNew
-    new-few h = copies-fail (later (boundaryIn ws) e) (not (among (prefix ws) e)) (leb (recovery n) (holders ws e)) _ (lt-leb (recovery n) (holders ws e) (omega (arith, all-holders)))
+    new-few h = copies-fail (laterThan (lastOf (prefix ws)) e) (not (among (prefix ws) e)) (leb (recovery n) (holders ws e)) _ (lt-leb (recovery n) (holders ws e) (omega (arith, all-holders)))
 
     all-hold : (x m c v : Bool) → x ≡ true → c ≡ true → v ≡ true → m ≡ ((x && (m && c)) && v)
     all-hold x true c v f g i = rw (f, g, i)
     all-hold x false c v f g i = rw f
 
     pub new-held : (p : Bool) → b .boundary < e .stamp → rec ≤ all → p ≡ among (prefix ws) e → not p ≡ isNew n (b .top) vs r e
-    unfolding isNew later
+    unfolding isNew laterThan
     new-held p h i f =
         rw f
-        (all-hold (later (boundaryIn ws) e) (not (among (prefix ws) e)) (leb (recovery n) (holders ws e)) (eqb (holders (lower (b .top) vs r) e) 0)
+        (all-hold (laterThan (lastOf (prefix ws)) e) (not (among (prefix ws) e)) (leb (recovery n) (holders ws e)) (eqb (holders (lower (b .top) vs r) e) 0)
         (rw (← k .boundary) (lt-ltb (b .boundary) (e .stamp) h)) (le-leb (recovery n) (holders ws e) (omega (arith, all-holders))) (eq-eqb (holders (lower (b .top) vs r) e) 0 (none-lower t q z)))

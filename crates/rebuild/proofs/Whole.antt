@@ -12,7 +12,8 @@ use borrow.Author.Tests.{ltb-true, not-true, not-false}
 use Rattle.octets.specs.Bytes.{items}
 use Rattle.octets.proofs.Codecs.{All}
 use Rattle.rules.specs.Choice.{pick, keep}
-use Rattle.rules.specs.Entry.{noEntry, entryOf, before, place, placeAll, ordered, later, stampBefore, lastStamp}
+use Rattle.rules.specs.Entry.{noEntry, entryOf, before, place, placeAll, ordered, laterThan, lastBefore}
+use Rattle.rules.specs.Log.{lastOf, lastStamp}
 use Rattle.rules.specs.Log.{goodLog}
 use Rattle.rules.specs.Read.{entryAt}
 use Rattle.rules.specs.State.{Vote}
@@ -59,7 +60,7 @@ module _ (n : ℕ) (vs : List (Option Vote)) (top : ℕ) (b : Best) (l : length 
   takes-some c log u f w h = subst (λ (x : List Entry). Holds c x u) (listed-take c _ log f (b .sync) w ∙ sym prefix-of) h
 
   pub based-none : n ≤ b .replica → Based n vs (record { top = top; replica = b .replica; length = 0; boundary = 0 })
-  unfolding voteOf stampBefore
+  unfolding voteOf lastBefore
   based-none h =
       record {
         top = t;
@@ -71,10 +72,10 @@ module _ (n : ℕ) (vs : List (Option Vote)) (top : ℕ) (b : Best) (l : length 
       }
 
   last-of : (es : List Entry) (m : ℕ) → m ≤ length es → 0 < m → entryOf es (m - 1) .stamp ≡ lastStamp (take m es)
-  unfolding stampBefore
+  unfolding lastBefore
   last-of es m h p =
       let e : length (take m es) ≡ suc (m - 1) = length-take-le m es h ∙ omega arith in
-      sym (ap (λ (i : ℕ). stampBefore (entryOf (take m es)) i) e ∙ ap (λ (x : Entry). x .stamp) (getD-take m es (m - 1) noEntry (omega arith)))
+      sym (ap (λ (i : ℕ). lastBefore (entryOf (take m es)) i .stamp) e ∙ ap (λ (x : Entry). x .stamp) (getD-take m es (m - 1) noEntry (omega arith)))
 
   pub based-some : (x : Entry) (m : ℕ) → b .replica < n → m ≡ b .sync → b .sync ≤ length (voteOf (getD vs (b .replica) none) .log) → x ≡ entryOf (voteOf (getD vs (b .replica) none) .log) (m - 1) → Based n vs (record { top = top; replica = b .replica; length = m; boundary = x .stamp })
   based-some x m h e w q =
@@ -189,9 +190,9 @@ module _ (s g c n : ℕ) (vs : List (Option Vote)) (b : Basis) (l : length vs �
   front-climbs = rw (k .boundary) (low-climbs (lastStamp front) front front-low)
 
   all-behind : placeAll front all ≡ front ++ ordered all
-  unfolding later
+  unfolding laterThan
   all-behind =
-      let d = all-map (λ e h. ltb-true (lastStamp front) (e .stamp) (and-left (later (lastStamp front) e) _ h)) all (kept-passes (isAdded n (withNormal (b .top) vs)) (copies [] (withNormal (b .top) vs))) in
+      let d = all-map (λ e h. ltb-true (lastStamp front) (e .stamp) (and-left (laterThan (lastOf front) e) _ h)) all (kept-passes (isAdded n (withNormal (b .top) vs)) (copies [] (withNormal (b .top) vs))) in
       ap (λ (x : List Entry). placeAll x all) (sym (append-nil front)) ∙ placed-behind (lastStamp front) front [] all front-low d
 
   pub whole-end : (r : ℕ) (t : List ℕ) → n ≤ r → Holds c (placeAll front (addedBelow n (b .top) vs r)) t → Gives c n vs t (Log (b .boundary))

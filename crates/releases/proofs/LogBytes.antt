@@ -14,7 +14,7 @@ use Rattle.rules.specs.Entry.{noEntry, entryOf}
 use Rattle.rules.specs.Wire.{entryBytes}
 use Rattle.rules.specs.Read.{entryAt}
 use Rattle.rules.specs.State.{State}
-use Rattle.rules.specs.Image.{tableLength, lengths, stateLength, tableBytes, sections, stateOf}
+use Rattle.rules.specs.Image.{tableLength, lengths, stateLength, tableBytes, sections, stateOf, atEarly, atLog}
 use Rattle.rules.specs.Digest.{basis, digestFrom, digest}
 use Rattle.rules.specs.declared.Entry.{Entry}
 use Rattle.rules.specs.declared.Shape.{Shape}
@@ -75,39 +75,39 @@ module _ {sh : Shape} {st : State} {b : List ℕ} (l : Laid sh st b) where
       let w : 24 * i + 24 ≤ 24 * length es = within 24 i (length es) h in
       rw z (get-in l k (4 + 24 * i) at 24 hk e (omega arith) ∙ ap (λ (x : List ℕ). part x (4 + 24 * i) 24) hs ∙ entry-in (sh .c) es i h)
 
-  pub log-entry : length (st .log) ≤ sh .c → (at end i : ℕ) → at ≡ startOf sh 3 + (4 + 24 * i) → end ≡ at + 24 → i < length (st .log) → take (end - at) (drop at b) ≡ entryBytes (entryOf (st .log) i)
-  log-entry r at end i = in-section 3 at end i (st .log) (lit< tt) refl refl r
+  pub log-entry : length (st .logged .log) ≤ sh .c → (at end i : ℕ) → at ≡ startOf sh atLog + (4 + 24 * i) → end ≡ at + 24 → i < length (st .logged .log) → take (end - at) (drop at b) ≡ entryBytes (entryOf (st .logged .log) i)
+  log-entry r at end i = in-section 3 at end i (st .logged .log) (lit< tt) refl refl r
 
-  pub early-entry : length (st .early) ≤ sh .c → (at end i : ℕ) → at ≡ startOf sh 4 + (4 + 24 * i) → end ≡ at + 24 → i < length (st .early) → take (end - at) (drop at b) ≡ entryBytes (entryOf (st .early) i)
-  early-entry r at end i = in-section 4 at end i (st .early) (lit< tt) refl refl r
+  pub early-entry : length (st .waiting .early) ≤ sh .c → (at end i : ℕ) → at ≡ startOf sh atEarly + (4 + 24 * i) → end ≡ at + 24 → i < length (st .waiting .early) → take (end - at) (drop at b) ≡ entryBytes (entryOf (st .waiting .early) i)
+  early-entry r at end i = in-section 4 at end i (st .waiting .early) (lit< tt) refl refl r
 
   -- the log from place n on
-  pub log-rest : length (st .log) ≤ sh .c → (n k at m : ℕ) → n + k ≡ length (st .log) → at ≡ startOf sh 3 + (4 + 24 * n) → m ≡ 24 * k → take m (drop at b) ≡ flat entryBytes (drop n (st .log))
+  pub log-rest : length (st .logged .log) ≤ sh .c → (n k at m : ℕ) → n + k ≡ length (st .logged .log) → at ≡ startOf sh atLog + (4 + 24 * n) → m ≡ 24 * k → take m (drop at b) ≡ flat entryBytes (drop n (st .logged .log))
   unfolding part
-  log-rest r n k at m h e q = rw q (get-in l 3 (4 + 24 * n) at (24 * k) (lit< tt) e (omega arith) ∙ rest-in (sh .c) (st .log) n k h)
+  log-rest r n k at m h e q = rw q (get-in l 3 (4 + 24 * n) at (24 * k) (lit< tt) e (omega arith) ∙ rest-in (sh .c) (st .logged .log) n k h)
 
 -- where an entry of log or early stands
-pub log-within : (sh : Shape) (p i : ℕ) → p ≡ startOf sh 3 → i < sh .c → stateLength sh ≤ 2187586 → (p + (4 + 24 * i) ≡ startOf sh 3 + (4 + 24 * i)) × (p + (4 + 24 * i) + 24 ≤ stateLength sh) × (p + (4 + 24 * i) ≤ 2187586)
+pub log-within : (sh : Shape) (p i : ℕ) → p ≡ startOf sh atLog → i < sh .c → stateLength sh ≤ 2187586 → (p + (4 + 24 * i) ≡ startOf sh atLog + (4 + 24 * i)) × (p + (4 + 24 * i) + 24 ≤ stateLength sh) × (p + (4 + 24 * i) ≤ 2187586)
 log-within sh p i e l s = let w : 24 * i + 24 ≤ 24 * sh .c = within 24 i (sh .c) l in (omega arith, omega arith, omega arith)
 
-pub early-within : (sh : Shape) (p i : ℕ) → p ≡ startOf sh 4 → i < sh .c → stateLength sh ≤ 2187586 → (p + (4 + 24 * i) ≡ startOf sh 4 + (4 + 24 * i)) × (p + (4 + 24 * i) + 24 ≤ stateLength sh) × (p + (4 + 24 * i) ≤ 2187586)
+pub early-within : (sh : Shape) (p i : ℕ) → p ≡ startOf sh atEarly → i < sh .c → stateLength sh ≤ 2187586 → (p + (4 + 24 * i) ≡ startOf sh atEarly + (4 + 24 * i)) × (p + (4 + 24 * i) + 24 ≤ stateLength sh) × (p + (4 + 24 * i) ≤ 2187586)
 early-within sh p i e l s = let w : 24 * i + 24 ≤ 24 * sh .c = within 24 i (sh .c) l in (omega arith, omega arith, omega arith)
 
 -- ---- the digest
 
 module _ {sh : Shape} {b : List ℕ} (m : Midway sh b) where
-  pub digest-is : (at end r : ℕ) → at ≡ startOf sh 3 + 4 → end ≡ at + 24 * length (stateOf sh b .log) → r ≡ digestFrom basis (take (end - at) (drop at b)) → r ≡ digest (stateOf sh b .log)
+  pub digest-is : (at end r : ℕ) → at ≡ startOf sh atLog + 4 → end ≡ at + 24 * length (stateOf sh b .logged .log) → r ≡ digestFrom basis (take (end - at) (drop at b)) → r ≡ digest (stateOf sh b .logged .log)
   unfolding digest
-  digest-is at end r e z q = q ∙ ap (digestFrom basis) (log-rest (m .laid) (m .state .log .room) 0 (length (stateOf sh b .log)) at (end - at) (omega arith) (omega arith) (omega arith))
+  digest-is at end r e z q = q ∙ ap (digestFrom basis) (log-rest (m .laid) (m .state .log .room) 0 (length (stateOf sh b .logged .log)) at (end - at) (omega arith) (omega arith) (omega arith))
 
   -- run on over the entry that was appended
-  pub digest-runs : {b′ : List ℕ} (d : Entry) (at end i sum r : ℕ) → Reaches sh (withLog (stateOf sh b) (stateOf sh b .log ++ (d ∷ []))) b′ → i ≡ length (stateOf sh b .log) → sum ≡ digest (stateOf sh b .log)
-      → at ≡ startOf sh 3 + (4 + 24 * i) → end ≡ at + 24 → r ≡ digestFrom sum (take (end - at) (drop at b′)) → r ≡ digest (stateOf sh b .log ++ (d ∷ []))
+  pub digest-runs : {b′ : List ℕ} (d : Entry) (at end i sum r : ℕ) → Reaches sh (withLog (stateOf sh b) (stateOf sh b .logged .log ++ (d ∷ []))) b′ → i ≡ length (stateOf sh b .logged .log) → sum ≡ digest (stateOf sh b .logged .log)
+      → at ≡ startOf sh atLog + (4 + 24 * i) → end ≡ at + 24 → r ≡ digestFrom sum (take (end - at) (drop at b′)) → r ≡ digest (stateOf sh b .logged .log ++ (d ∷ []))
   digest-runs {b′} d at end i sum r w hi hs e z q =
-      let log = stateOf sh b .log in
-      let y : stateOf sh b′ .log ≡ log ++ (d ∷ []) = ap (λ (x : State). x .log) (w .is) in
-      let long : length (stateOf sh b′ .log) ≡ length log + 1 = ap length y ∙ simp length-append in
-      let last : entryOf (stateOf sh b′ .log) i ≡ d = ap (λ (es : List Entry). entryOf es i) y ∙ last-of log d i hi in
+      let log = stateOf sh b .logged .log in
+      let y : stateOf sh b′ .logged .log ≡ log ++ (d ∷ []) = ap (λ (x : State). x .logged .log) (w .is) in
+      let long : length (stateOf sh b′ .logged .log) ≡ length log + 1 = ap length y ∙ simp length-append in
+      let last : entryOf (stateOf sh b′ .logged .log) i ≡ d = ap (λ (es : List Entry). entryOf es i) y ∙ last-of log d i hi in
       q ∙ ap (digestFrom sum) (log-entry (w .midway .laid) (w .midway .state .log .room) at end i e z (omega arith) ∙ ap entryBytes last) ∙ ap (λ (h : ℕ). digestFrom h (entryBytes d)) hs ∙ sym (digest-next log d)
     where
       last-of : (log : List Entry) (d : Entry) (i : ℕ) → i ≡ length log → entryOf (log ++ (d ∷ [])) i ≡ d
@@ -115,14 +115,14 @@ module _ {sh : Shape} {b : List ℕ} (m : Midway sh b) where
 
   -- ---- the log from place n on, copied to the start of other bytes
 
-  module _ (n k at : ℕ) (h : n + k ≡ length (stateOf sh b .log)) (e : at ≡ startOf sh 3 + (4 + 24 * n)) where
+  module _ (n k at : ℕ) (h : n + k ≡ length (stateOf sh b .logged .log)) (e : at ≡ startOf sh atLog + (4 + 24 * n)) where
     pub copy-within : at + 24 * k ≤ stateLength sh
     copy-within = omega (arith, m .state .log .room)
 
-    pub copied : (end : ℕ) (t u : List ℕ) → end ≡ at + 24 * k → 24 * k ≤ length t → u ≡ splice t 0 (take (end - at) (drop at b)) → items (entryAt u) 24 0 k ≡ drop n (stateOf sh b .log)
+    pub copied : (end : ℕ) (t u : List ℕ) → end ≡ at + 24 * k → 24 * k ≤ length t → u ≡ splice t 0 (take (end - at) (drop at b)) → items (entryAt u) 24 0 k ≡ drop n (stateOf sh b .logged .log)
     unfolding splice
     copied end t u z l q =
-        let es : List Entry = drop n (stateOf sh b .log) in
+        let es : List Entry = drop n (stateOf sh b .logged .log) in
         let w : take (end - at) (drop at b) ≡ flat entryBytes es = log-rest (m .laid) (m .state .log .room) n k at (end - at) h e (omega arith) in
-        let y : length es ≡ k = length-drop n (stateOf sh b .log) ∙ omega arith in
-        back-all entry u 0 k es _ (all-drop EntryFits n (stateOf sh b .log) (m .state .log .each)) (sym y) (q ∙ ap (splice t 0) w)
+        let y : length es ≡ k = length-drop n (stateOf sh b .logged .log) ∙ omega arith in
+        back-all entry u 0 k es _ (all-drop EntryFits n (stateOf sh b .logged .log) (m .state .log .each)) (sym y) (q ∙ ap (splice t 0) w)

@@ -8,7 +8,7 @@ use Rattle.rules.specs.Entry.{without}
 use Rattle.rules.specs.Log.{distinct}
 use Rattle.rules.specs.State.{State}
 use Rattle.rules.specs.Image.{stateLength, stateOf}
-use Rattle.rules.specs.Step.{notesWithout}
+use Rattle.rules.specs.Early.{notesWithout}
 use Rattle.rules.specs.declared.Shape.{Shape}
 use Rattle.rules.proofs.Image.{StateFits}
 use Rattle.leaving.specs.declared.Listed.{Listed}
@@ -21,9 +21,9 @@ pub record Midway (sh : Shape) (b : List ℕ) : Type 0 where
   pub laid : Laid sh (stateOf sh b) b
   pub size : length b ≡ stateLength sh
   pub state : StateFits sh (stateOf sh b)
-  pub group : stateOf sh b .group < sh .s
-  pub replica : stateOf sh b .replica < sh .n
-  pub early : distinct (stateOf sh b .early) ≡ true
+  pub group : stateOf sh b .site .group < sh .s
+  pub replica : stateOf sh b .site .replica < sh .n
+  pub early : distinct (stateOf sh b .waiting .early) ≡ true
 
 -- the bytes are those of this state on the way
 pub record Reaches (sh : Shape) (st : State) (b : List ℕ) : Type 0 where
@@ -37,4 +37,4 @@ firstOf k filled = record { at = 0; count = k; filled = filled }
 -- from the state in b, once the entries of its log from place n on left early, and their notes went
 abbrev pub Cleared : Shape → List ℕ → ℕ → List ℕ → Type 0
 Cleared sh b n b′ =
-    Reaches sh (withNotes (withEarly (stateOf sh b) (without (drop n (stateOf sh b .log)) (stateOf sh b .early))) (notesWithout (drop n (stateOf sh b .log)) (stateOf sh b .notes))) b′
+    Reaches sh (withNotes (withEarly (stateOf sh b) (without (drop n (stateOf sh b .logged .log)) (stateOf sh b .waiting .early))) (notesWithout (drop n (stateOf sh b .logged .log)) (stateOf sh b .waiting .notes))) b′

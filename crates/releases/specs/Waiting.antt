@@ -8,7 +8,7 @@ use Rattle.rules.specs.Choice.{leading}
 use Rattle.rules.specs.Log.{distinct}
 use Rattle.rules.specs.State.{agreed}
 use Rattle.rules.specs.Image.{tableAt}
-use Rattle.rules.specs.Step.{dueBy}
+use Rattle.rules.specs.Early.{dueOf}
 use Rattle.entries.specs.Table.{Table}
 use Rattle.notes.specs.Notes.{sized, notesAt, Notes}
 
@@ -17,8 +17,8 @@ pub record Waiting (c s : ℕ) (es ns : List ℕ) (time n : ℕ) : Type 0 where
   pub table : Table c es
   pub once : distinct (tableAt c es 0) ≡ true
   pub notes : Notes c s ns
-  pub due : n ≡ length (dueBy time (tableAt c es 0))
+  pub due : n ≡ length (dueOf time (tableAt c es 0))
 
 -- how many of those due come before the first that is not agreed
 abbrev pub runIn : ℕ → ℕ → List ℕ → List ℕ → ℕ → ℕ
-runIn c s es ns time = length (leading (agreed (sized c s) (notesAt c s ns)) (dueBy time (tableAt c es 0)))
+runIn c s es ns time = length (leading (agreed (sized c s) (notesAt c s ns)) (dueOf time (tableAt c es 0)))

@@ -10,9 +10,9 @@ ghost use lib.ListN.{length, take, drop};
 ghost use Rattle.octets.specs.Bytes.{items};
 ghost use Rattle.rules.specs.Choice.{leading};
 ghost use Rattle.rules.specs.State.{agreed};
-ghost use Rattle.rules.specs.Image.{stateLength, stateOf};
+ghost use Rattle.rules.specs.Image.{stateLength, stateOf, atEarly, atLog};
 ghost use Rattle.rules.specs.Digest.{digest};
-ghost use Rattle.rules.specs.Step.{dueBy, notesWithout};
+ghost use Rattle.rules.specs.Early.{dueOf, notesWithout};
 ghost use Rattle.rules.specs.Entry.{entryOf, without};
 ghost use Rattle.rules.specs.Read.{entryAt};
 ghost use Rattle.due.specs.Due.{Reached};
@@ -28,7 +28,7 @@ ghost use Rattle.releases.specs.Midway.{Midway, Reaches, firstOf, Cleare
 // How many entries are due by a time.
 pub fn due_count(shape: Shape, state: &[u8], time: u64) -> usize
     requires { ⌜ Midway shape (now state) ⌝ }
-    ensures { λ r. ⌜ r ≡ length (dueBy time (stateOf shape (now (state .entry)) .early)) ⌝ }
+    ensures { λ r. ⌜ r ≡ length (dueOf time (stateOf shape (now (state .entry)) .waiting .early)) ⌝ }
 {
     let layout = places::places_of(shape);
     let start = layout.early;
@@ -129,8 +129,8 @@ fn run_sized(early: &[u8], notes: &[u8], c: usize, s: usize, time: u64, due: usi
 
 // How many of those due by a time a leader may release: those before the first that is not agreed.
 pub fn run_length(shape: Shape, state: &[u8], time: u64, due: usize) -> usize
-    requires { ⌜ Midway shape (now state) × (due ≡ length (dueBy time (stateOf shape (now state) .early))) ⌝ }
-    ensures { λ r. ⌜ r ≡ length (leading (agreed shape (stateOf shape (now (state .entry)) .notes)) (dueBy time (stateOf shape (now (state .entry)) .early))) ⌝ }
+    requires { ⌜ Midway shape (now state) × (due ≡ length (dueOf time (stateOf shape (now state) .waiting .early))) ⌝ }
+    ensures { λ r. ⌜ r ≡ length (leading (agreed shape (stateOf shape (now (state .entry)) .waiting .notes)) (dueOf time (stateOf shape (now (state .entry)) .waiting .early))) ⌝ }
 {
     let layout = places::places_of(shape);
     let early = layout.early;
@@ -151,8 +151,8 @@ pub fn run_length(shape: Shape, state: &[u8], time: u64, due: usize) -> usize
 
 // Appends e to the log.
 fn log_takes(shape: Shape, state: &mut [u8], e: Entry)
-    requires { ⌜ Midway shape (now state) × (length (stateOf shape (now state) .log) < shape .c) ⌝ }
-    ensures { λ _. ⌜ Reaches shape (withLog (stateOf shape (now (state .entry))) (stateOf shape (now (state .entry)) .log ++ (e ∷ []))) (now (state .exit)) ⌝ }
+    requires { ⌜ Midway shape (now state) × (length (stateOf shape (now state) .logged .log) < shape .c) ⌝ }
+    ensures { λ _. ⌜ Reaches shape (withLog (stateOf shape (now (state .entry))) (stateOf shape (now (state .entry)) .logged .log ++ (e ∷ []))) (now (state .exit)) ⌝ }
 {
     let layout = places::places_of(shape);
     let start = layout.log;
@@ -162,8 +162,8 @@ fn log_takes(shape: Shape, state: &mut [u8], e: Entry)
 
 // The place in early of entry i of those due by a time, given the one before it.
 fn due_place(shape: Shape, state: &[u8], time: u64, i: usize, last: Entry) -> usize
-    requires { ⌜ Midway shape (now state) × Reached time (stateOf shape (now state) .early) i last × (i < length (dueBy time (stateOf shape (now state) .early))) ⌝ }
-    ensures { λ r. ⌜ (r < length (stateOf shape (now (state .entry)) .early)) × (entryOf (stateOf shape (now (state .entry)) .early) r ≡ entryOf (dueBy time (stateOf shape (now (state .entry)) .early)) i) ⌝ }
+    requires { ⌜ Midway shape (now state) × Reached time (stateOf shape (now state) .waiting .early) i last × (i < length (dueOf time (stateOf shape (now state) .waiting .early))) ⌝ }
+    ensures { λ r. ⌜ (r < length (stateOf shape (now (state .entry)) .waiting .early)) × (entryOf (stateOf shape (now (state .entry)) .waiting .early) r ≡ entryOf (dueOf time (stateOf shape (now (state .entry)) .waiting .early)) i) ⌝ }
 {
     let layout = places::places_of(shape);
     let start = layout.early;
@@ -173,8 +173,8 @@ fn due_place(shape: Shape, state: &[u8], time: u64, i: usize, last: Entry) -> us
 
 // The place in early of the first entry due by a time.
 pub fn first_due(shape: Shape, state: &[u8], time: u64) -> usize
-    requires { ⌜ Midway shape (now state) × (0 < length (dueBy time (stateOf shape (now state) .early))) ⌝ }
-    ensures { λ r. ⌜ (r < length (stateOf shape (now (state .entry)) .early)) × (entryOf (stateOf shape (now (state .entry)) .early) r ≡ entryOf (dueBy time (stateOf shape (now (state .entry)) .early)) 0) ⌝ }
+    requires { ⌜ Midway shape (now state) × (0 < length (dueOf time (stateOf shape (now state) .waiting .early))) ⌝ }
+    ensures { λ r. ⌜ (r < length (stateOf shape (now (state .entry)) .waiting .early)) × (entryOf (stateOf shape (now (state .entry)) .waiting .early) r ≡ entryOf (dueOf time (stateOf shape (now (state .entry)) .waiting .early)) 0) ⌝ }
 {
     let none = Entry {
         stamp: 0,
@@ -188,8 +188,8 @@ pub fn first_due(shape: Shape, state: &[u8], time: u64) -> usize
 
 // Early entry i.
 fn early_entry(shape: Shape, state: &[u8], i: usize) -> Entry
-    requires { ⌜ Midway shape (now state) × (i < length (stateOf shape (now state) .early)) ⌝ }
-    ensures { λ r. ⌜ r ≡ entryOf (stateOf shape (now (state .entry)) .early) i ⌝ }
+    requires { ⌜ Midway shape (now state) × (i < length (stateOf shape (now state) .waiting .early)) ⌝ }
+    ensures { λ r. ⌜ r ≡ entryOf (stateOf shape (now (state .entry)) .waiting .early) i ⌝ }
 {
     let layout = places::places_of(shape);
     let start = layout.early;
@@ -199,8 +199,8 @@ fn early_entry(shape: Shape, state: &[u8], i: usize) -> Entry
 
 // Entry i of the log.
 fn log_entry(shape: Shape, state: &[u8], i: usize) -> Entry
-    requires { ⌜ Midway shape (now state) × (i < length (stateOf shape (now state) .log)) ⌝ }
-    ensures { λ r. ⌜ r ≡ entryOf (stateOf shape (now (state .entry)) .log) i ⌝ }
+    requires { ⌜ Midway shape (now state) × (i < length (stateOf shape (now state) .logged .log)) ⌝ }
+    ensures { λ r. ⌜ r ≡ entryOf (stateOf shape (now (state .entry)) .logged .log) i ⌝ }
 {
     let layout = places::places_of(shape);
     let start = layout.log;
@@ -210,8 +210,8 @@ fn log_entry(shape: Shape, state: &[u8], i: usize) -> Entry
 
 // The last of the i entries that went to the log from place n on; any entry where none did.
 fn last_released(shape: Shape, state: &[u8], n: usize, i: usize) -> Entry
-    requires { ⌜ Midway shape (now state) × (n + i ≡ length (stateOf shape (now state) .log)) ⌝ }
-    ensures { λ r. ⌜ (0 < i → r ≡ entryOf (stateOf shape (now (state .entry)) .log) (n + i - 1)) ⌝ }
+    requires { ⌜ Midway shape (now state) × (n + i ≡ length (stateOf shape (now state) .logged .log)) ⌝ }
+    ensures { λ r. ⌜ (0 < i → r ≡ entryOf (stateOf shape (now (state .entry)) .logged .log) (n + i - 1)) ⌝ }
 {
     if i == 0 {
         return Entry {
@@ -228,11 +228,11 @@ fn last_released(shape: Shape, state: &[u8], n: usize, i: usize) -> Entry
 // Entry i of those due by a time goes to place n + i, the end of the log, after those before it, and the log's digest runs on over it. Early and the notes stay.
 pub fn release_one(shape: Shape, state: &mut [u8], time: u64, n: usize, i: usize, sum: u64) -> u64
     requires { ⌜
-        Midway shape (now state) × (n + i ≡ length (stateOf shape (now state) .log)) × (n + i < shape .c) × (i < length (dueBy time (stateOf shape (now state) .early)))
-        × (drop n (stateOf shape (now state) .log) ≡ take i (dueBy time (stateOf shape (now state) .early))) × (sum ≡ digest (stateOf shape (now state) .log)) ⌝ }
+        Midway shape (now state) × (n + i ≡ length (stateOf shape (now state) .logged .log)) × (n + i < shape .c) × (i < length (dueOf time (stateOf shape (now state) .waiting .early)))
+        × (drop n (stateOf shape (now state) .logged .log) ≡ take i (dueOf time (stateOf shape (now state) .waiting .early))) × (sum ≡ digest (stateOf shape (now state) .logged .log)) ⌝ }
     ensures { λ r. ⌜
-        Reaches shape (withLog (stateOf shape (now (state .entry))) (stateOf shape (now (state .entry)) .log ++ (entryOf (dueBy time (stateOf shape (now (state .entry)) .early)) i ∷ []))) (now (state .exit))
-        × (r ≡ digest (stateOf shape (now (state .entry)) .log ++ (entryOf (dueBy time (stateOf shape (now (state .entry)) .early)) i ∷ []))) ⌝ }
+        Reaches shape (withLog (stateOf shape (now (state .entry))) (stateOf shape (now (state .entry)) .logged .log ++ (entryOf (dueOf time (stateOf shape (now (state .entry)) .waiting .early)) i ∷ []))) (now (state .exit))
+        × (r ≡ digest (stateOf shape (now (state .entry)) .logged .log ++ (entryOf (dueOf time (stateOf shape (now (state .entry)) .waiting .early)) i ∷ []))) ⌝ }
 {
     let last = last_released(shape, state, n, i);
     let e = early_entry(shape, state, due_place(shape, state, time, i, last));
@@ -247,7 +247,7 @@ pub fn release_one(shape: Shape, state: &mut [u8], time: u64, n: usize, i: usize
 // Entries of listed transactions leave early.
 fn early_leaves(shape: Shape, state: &mut [u8], b: &[u8], listed: Listed, table: &[u16])
     requires { ⌜ Midway shape (now state) × Lookup (now b) listed (now table) ⌝ }
-    ensures { λ _. ⌜ Reaches shape (withEarly (stateOf shape (now (state .entry))) (without (listedIn (now (b .entry)) listed) (stateOf shape (now (state .entry)) .early))) (now (state .exit)) ⌝ }
+    ensures { λ _. ⌜ Reaches shape (withEarly (stateOf shape (now (state .entry))) (without (listedIn (now (b .entry)) listed) (stateOf shape (now (state .entry)) .waiting .early))) (now (state .exit)) ⌝ }
 {
     let layout = places::places_of(shape);
     let start = layout.early;
@@ -265,7 +265,7 @@ fn early_leaves(shape: Shape, state: &mut [u8], b: &[u8], listed: Listed, table:
 // The notes of listed transactions leave.
 fn notes_leave(shape: Shape, state: &mut [u8], b: &[u8], listed: Listed, table: &[u16])
     requires { ⌜ Midway shape (now state) × Lookup (now b) listed (now table) ⌝ }
-    ensures { λ _. ⌜ Reaches shape (withNotes (stateOf shape (now (state .entry))) (notesWithout (listedIn (now (b .entry)) listed) (stateOf shape (now (state .entry)) .notes))) (now (state .exit)) ⌝ }
+    ensures { λ _. ⌜ Reaches shape (withNotes (stateOf shape (now (state .entry))) (notesWithout (listedIn (now (b .entry)) listed) (stateOf shape (now (state .entry)) .waiting .notes))) (now (state .exit)) ⌝ }
 {
     let layout = places::places_of(shape);
     let start = layout.notes;
@@ -282,8 +282,8 @@ fn notes_leave(shape: Shape, state: &mut [u8], b: &[u8], listed: Listed, table: 
 
 // Copies the last k entries of the log, those from place n on, to the start of `gone`.
 fn copy_released(shape: Shape, state: &[u8], n: usize, k: usize, gone: &mut [u8])
-    requires { ⌜ Midway shape (now state) × (n + k ≡ length (stateOf shape (now state) .log)) × (24 * k ≤ length (now gone)) ⌝ }
-    ensures { λ _. ⌜ items (entryAt (now (gone .exit))) 24 0 k ≡ drop n (stateOf shape (now (state .entry)) .log) ⌝ }
+    requires { ⌜ Midway shape (now state) × (n + k ≡ length (stateOf shape (now state) .logged .log)) × (24 * k ≤ length (now gone)) ⌝ }
+    ensures { λ _. ⌜ items (entryAt (now (gone .exit))) 24 0 k ≡ drop n (stateOf shape (now (state .entry)) .logged .log) ⌝ }
 {
     let start = places::places_of(shape).log + (4 + 24 * n);
     let end = start + 24 * k;
@@ -308,7 +308,7 @@ fn fill_released(gone: &[u8], k: usize, table: &mut [u16]) -> bool
 
 // The last k entries of the log leave early, and their notes go. They are copied first: the log and the tables that change are parts of one slice.
 fn leave_by(shape: Shape, state: &mut [u8], n: usize, k: usize, gone: &mut [u8], table: &mut [u16])
-    requires { ⌜ Midway shape (now state) × (n + k ≡ length (stateOf shape (now state) .log)) × (24 * k ≤ length (now gone)) ⌝ }
+    requires { ⌜ Midway shape (now state) × (n + k ≡ length (stateOf shape (now state) .logged .log)) × (24 * k ≤ length (now gone)) ⌝ }
     ensures { λ _. ⌜ Cleared shape (now (state .entry)) n (now (state .exit)) ⌝ }
 {
     copy_released(shape, state, n, k, gone);
@@ -324,7 +324,7 @@ fn leave_by(shape: Shape, state: &mut [u8], n: usize, k: usize, gone: &mut [u8],
 
 // The same for at most 256 entries.
 fn leave_few(shape: Shape, state: &mut [u8], n: usize, k: usize)
-    requires { ⌜ Midway shape (now state) × (n + k ≡ length (stateOf shape (now state) .log)) × (k ≤ 256) ⌝ }
+    requires { ⌜ Midway shape (now state) × (n + k ≡ length (stateOf shape (now state) .logged .log)) × (k ≤ 256) ⌝ }
     ensures { λ _. ⌜ Cleared shape (now (state .entry)) n (now (state .exit)) ⌝ }
 {
     let mut gone = [0u8; 6144];
@@ -334,7 +334,7 @@ fn leave_few(shape: Shape, state: &mut [u8], n: usize, k: usize)
 
 // The same for as many as the largest log holds.
 fn leave_many(shape: Shape, state: &mut [u8], n: usize, k: usize)
-    requires { ⌜ Midway shape (now state) × (n + k ≡ length (stateOf shape (now state) .log)) × (k ≤ 4096) ⌝ }
+    requires { ⌜ Midway shape (now state) × (n + k ≡ length (stateOf shape (now state) .logged .log)) × (k ≤ 4096) ⌝ }
     ensures { λ _. ⌜ Cleared shape (now (state .entry)) n (now (state .exit)) ⌝ }
 {
     let mut gone = [0u8; 98304];
@@ -344,7 +344,7 @@ fn leave_many(shape: Shape, state: &mut [u8], n: usize, k: usize)
 
 // The last k entries of the log, those from place n on, leave early, and their notes go: one pass over each.
 pub fn leave_released(shape: Shape, state: &mut [u8], n: usize, k: usize)
-    requires { ⌜ Midway shape (now state) × (n + k ≡ length (stateOf shape (now state) .log)) ⌝ }
+    requires { ⌜ Midway shape (now state) × (n + k ≡ length (stateOf shape (now state) .logged .log)) ⌝ }
     ensures { λ _. ⌜ Cleared shape (now (state .entry)) n (now (state .exit)) ⌝ }
 {
     if k <= 256 {
@@ -359,7 +359,7 @@ pub fn leave_released(shape: Shape, state: &mut [u8], n: usize, k: usize)
 // How many entries the log has.
 pub fn log_length(shape: Shape, state: &[u8]) -> usize
     requires { ⌜ Midway shape (now state) ⌝ }
-    ensures { λ r. ⌜ (r ≡ length (stateOf shape (now (state .entry)) .log)) × (r ≤ shape .c) × (r ≤ 4096) ⌝ }
+    ensures { λ r. ⌜ (r ≡ length (stateOf shape (now (state .entry)) .logged .log)) × (r ≤ shape .c) × (r ≤ 4096) ⌝ }
 {
     let layout = places::places_of(shape);
     let start = layout.log;
@@ -370,7 +370,7 @@ pub fn log_length(shape: Shape, state: &[u8]) -> usize
 // Where entry i of the log stands.
 pub fn log_place(shape: Shape, i: usize) -> usize
     requires { ⌜ Fits shape × (i < shape .c) ⌝ }
-    ensures { λ r. ⌜ (r ≡ startOf shape 3 + (4 + 24 * i)) × (r + 24 ≤ stateLength shape) × (r ≤ 2187586) ⌝ }
+    ensures { λ r. ⌜ (r ≡ startOf shape atLog + (4 + 24 * i)) × (r + 24 ≤ stateLength shape) × (r ≤ 2187586) ⌝ }
 {
     places::places_of(shape).log + (4 + 24 * i)
 }
@@ -378,7 +378,7 @@ pub fn log_place(shape: Shape, i: usize) -> usize
 // Where entry i of early stands.
 pub fn early_place(shape: Shape, i: usize) -> usize
     requires { ⌜ Fits shape × (i < shape .c) ⌝ }
-    ensures { λ r. ⌜ (r ≡ startOf shape 4 + (4 + 24 * i)) × (r + 24 ≤ stateLength shape) × (r ≤ 2187586) ⌝ }
+    ensures { λ r. ⌜ (r ≡ startOf shape atEarly + (4 + 24 * i)) × (r + 24 ≤ stateLength shape) × (r ≤ 2187586) ⌝ }
 {
     places::places_of(shape).early + (4 + 24 * i)
 }
@@ -386,7 +386,7 @@ pub fn early_place(shape: Shape, i: usize) -> usize
 // The digest of the log.
 pub fn log_digest(shape: Shape, state: &[u8]) -> u64
     requires { ⌜ Midway shape (now state) ⌝ }
-    ensures { λ r. ⌜ r ≡ digest (stateOf shape (now (state .entry)) .log) ⌝ }
+    ensures { λ r. ⌜ r ≡ digest (stateOf shape (now (state .entry)) .logged .log) ⌝ }
 {
     let n = log_length(shape, state);
     let start = places::places_of(shape).log + 4;

@@ -3,11 +3,13 @@ use Prim.Native.Nat.{ℕ, _+_, _*_, _%_, _^_, _<_}
 use mathlib.Core.Path.{_≡_, refl, sym, ap, _∙_}
 use mathlib.Core.Bool.{Bool, true, false, _&&_, not, true≢false}
 use mathlib.Core.List.{List, [], _∷_}
-use lib.ListN.{getD}
-use lib.Dec.{ltb}
-use borrow.Author.Tests.{ltb-true}
+use native.Mathlib.Omega.{arith}
+use lib.ListN.{length}
+use lib.Dec.{eqb, ltb}
+use borrow.Author.Tests.{ltb-true, eq-eqb, ne-eqb, not-true, not-false}
 use Rattle.rules.specs.Choice.{pick, allOf}
 use Rattle.rules.specs.Group.{sizesFit}
+use Rattle.rules.specs.Kind.{numbersIn}
 use Rattle.rules.specs.Wire.{caseWith}
 use Rattle.rules.specs.Image.{goodBytes}
 use Rattle.rules.specs.Write.{Written, written, writes}
@@ -17,19 +19,12 @@ use Rattle.rules.specs.declared.Message.{Message}
 use Rattle.rules.specs.declared.Answer.{Answer}
 use Rattle.rules.specs.declared.Answer.the-variants.{Done, Refused}
 use Rattle.rules.proofs.Tests.{split}
-use Rattle.replica.specs.Face.{coded, codeOf, Gives, Puts, Given, narrow, headerOf, writesFrom}
+use Rattle.fresh.proofs.Promises.{left-state, left-out}
+use Rattle.replica.specs.Face.{coded, codeOf, Gives, Puts, Given, narrow, headerOf, fits, writesFrom}
 
 code-left : (a : Answer) (b out : List ℕ) → codeOf a ≡ coded (left a b out .number) (left a b out .sent)
 code-left (Done sent) b out = refl
 code-left (Refused number) b out = refl
-
-left-state : (a : Answer) (b out : List ℕ) → left a b out .state ≡ b
-left-state (Done sent) b out = refl
-left-state (Refused number) b out = refl
-
-left-out : (a : Answer) (b out : List ℕ) → left a b out .out ≡ out
-left-out (Done sent) b out = refl
-left-out (Refused number) b out = refl
 
 pub gives : (a : Answer) (b out : List ℕ) (l : Left) (r : ℕ) → left a b out ≡ l → r ≡ codeOf a → Gives l r b out
 gives a b out l r e c =
@@ -47,39 +42,32 @@ written-out : (a : Answer) (out : List ℕ) → written a out .out ≡ out
 written-out (Done sent) out = refl
 written-out (Refused number) out = refl
 
-module _ (n s : ℕ) (g : Given) (first second third : ℕ) (views entries out : List ℕ) (x : Bool) (e : x ≡ narrow g) where
+module _ (n s : ℕ) (g : Given) (numbers views entries out : List ℕ) (x : Bool) (e : x ≡ narrow g) where
   abbrev leaves : Written
-  leaves = writesFrom n s g (first ∷ second ∷ third ∷ []) views entries out
+  leaves = writesFrom n s g numbers views entries out
+
+  unfit-puts : (r : ℕ) → fits g numbers ≡ false → r ≡ pick (sizesFit n s) 2 1 → Puts leaves r out
+  unfolding writesFrom pick
+  unfit-puts r f q = record { number = rw f (omega arith); out = rw f refl }
 
   -- a field that is too wide
-  pub wide-sized : (y : Bool) → not x ≡ true → y ≡ sizesFit n s → y ≡ true → Puts leaves 2 out
-  unfolding writesFrom pick
-  wide-sized y f d h = go x e f
-    where
-      go : (z : Bool) → z ≡ narrow g → not z ≡ true → Puts leaves 2 out
-      go true p q = absurd (true≢false (sym q))
-      go false p q = record { number = rw (sym p, sym d ∙ h) refl; out = rw (sym p) refl }
+  pub too-wide : (r : ℕ) → not x ≡ true → r ≡ pick (sizesFit n s) 2 1 → Puts leaves r out
+  unfolding fits
+  too-wide r f q = unfit-puts r (rw (sym e ∙ not-true x f)) q
 
-  pub wide-wrong : (y : Bool) → not x ≡ true → y ≡ sizesFit n s → y ≡ false → Puts leaves 1 out
-  unfolding writesFrom pick
-  wide-wrong y f d h = go x e f
-    where
-      go : (z : Bool) → z ≡ narrow g → not z ≡ true → Puts leaves 1 out
-      go true p q = absurd (true≢false (sym q))
-      go false p q = record { number = rw (sym p, sym d ∙ h) refl; out = rw (sym p) refl }
+  -- numbers that are not the kind's
+  pub miscounted : (r count : ℕ) → not x ≡ false → count ≡ numbersIn (g .kind) → (length numbers ≡ count → ⊥) → r ≡ pick (sizesFit n s) 2 1 → Puts leaves r out
+  unfolding fits
+  miscounted r count f c d q = unfit-puts r (rw (sym e ∙ not-false x f, ne-eqb (length numbers) (numbersIn (g .kind)) (λ h. d (h ∙ sym c)))) q
 
-  pub puts : (m : Message) (a : Answer) (next : List ℕ) (r : ℕ) → not x ≡ false → m ≡ caseWith (headerOf g) (λ i. getD (first ∷ second ∷ third ∷ []) i 0) → written a next ≡ writes n s m views entries out → r ≡ codeOf a → Puts leaves r next
-  unfolding writesFrom pick
-  puts m a next r f d w c = go x e f
-    where
-      go : (z : Bool) → z ≡ narrow g → not z ≡ false → Puts leaves r next
-      go false p q = absurd (true≢false q)
-      go true p q =
-          let l : written a next ≡ leaves = w ∙ rw (sym p, d) refl in
-          record {
-            number = c ∙ code-written a next ∙ ap (λ (y : Written). coded (y .number) (y .sent)) l;
-            out = sym (written-out a next) ∙ ap (λ (y : Written). y .out) l;
-          }
+  pub puts : (m : Message) (a : Answer) (next : List ℕ) (r count : ℕ) → not x ≡ false → count ≡ numbersIn (g .kind) → length numbers ≡ count → m ≡ caseWith (headerOf g) numbers → written a next ≡ writes n s m views entries out → r ≡ codeOf a → Puts leaves r next
+  unfolding writesFrom fits pick
+  puts m a next r count f k h d w c =
+      let l : written a next ≡ leaves = w ∙ rw (sym e ∙ not-false x f, eq-eqb (length numbers) (numbersIn (g .kind)) (h ∙ k), d) refl in
+      record {
+        number = c ∙ code-written a next ∙ ap (λ (y : Written). coded (y .number) (y .sent)) l;
+        out = sym (written-out a next) ∙ ap (λ (y : Written). y .out) l;
+      }
 
 -- whether bytes are a good state, as a number
 abbrev pub goodness : Shape → List ℕ → ℕ

@@ -6,13 +6,14 @@ use Rattle.rules.specs.Write.{Written}
 use Rattle.rules.specs.Bytes.{Left, left, stepBytes}
 use Rattle.rules.specs.declared.Shape.{Shape}
 use Rattle.rules.specs.declared.Answer.{Answer}
+use Rattle.fresh.proofs.Promises.{left-one}
 use Rattle.replica.specs.Face.{Gives, Puts}
 
--- any two outcomes that satisfy the statement of a step coincide
-pub step-one : (sh : Shape) (b msg out : List ℕ) (x y : Answer) (c d o u : List ℕ) → left x c o ≡ stepBytes sh b msg out → left y d u ≡ stepBytes sh b msg out → left x c o ≡ left y d u
-step-one sh b msg out x y c d o u e f = e ∙ sym f
+-- any two outcomes that satisfy the statement of a step coincide: the answer, the state's bytes and the outgoing buffer
+pub step-one : (sh : Shape) (b msg out : List ℕ) (x y : Answer) (c d o u : List ℕ) → left x c o ≡ stepBytes sh b msg out → left y d u ≡ stepBytes sh b msg out → (x ≡ y) × (c ≡ d) × (o ≡ u)
+step-one sh b msg out x y c d o u e f = left-one x y c d o u (e ∙ sym f)
 
--- so do any two results where the statement is an equation of the result alone: sizes, lengths, digests, the answers of the reader and of the check of a state
+-- so do any two results where the statement is an equation of the result alone: sizes, lengths, digests, the answers of the reader and of the check of a state, what a state says
 pub result-one : {A : Type 0} (said x y : A) → x ≡ said → y ≡ said → x ≡ y
 result-one said x y e f = e ∙ sym f
 

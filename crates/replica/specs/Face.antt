@@ -1,18 +1,23 @@
 -- What a host is given: one number for an answer, and the memory as the statements say.
 use Prim.Native.Nat.{ℕ, _+_, _*_, _%_, _^_}
 use mathlib.Core.Path.{_≡_}
-use mathlib.Core.Bool.{Bool}
+use mathlib.Core.Bool.{Bool, true, _&&_}
 use mathlib.Core.List.{List, [], _∷_}
-use lib.ListN.{getD}
-use lib.Dec.{ltb}
+use lib.ListN.{length}
+use lib.Dec.{eqb, ltb}
 use Rattle.rules.specs.Choice.{pick, allOf}
 use Rattle.rules.specs.Group.{sizesFit}
+use Rattle.rules.specs.Kind.{numbersIn}
 use Rattle.rules.specs.Wire.{caseWith}
 use Rattle.rules.specs.Write.{Written, writes}
 use Rattle.rules.specs.Bytes.{Left}
 use Rattle.rules.specs.declared.Header.{Header}
 use Rattle.rules.specs.declared.Answer.{Answer}
 use Rattle.rules.specs.declared.Answer.the-variants.{Done, Refused}
+
+-- the version of the interface, 1.0.0: major * 10000 + minor * 100 + patch
+abbrev pub version : ℕ
+version = 10000
 
 -- the number of the table, and 256 times the outgoing length in the bits above it
 abbrev pub coded : ℕ → ℕ → ℕ
@@ -43,6 +48,10 @@ pub record Given : Type 0 where
   pub fromReplica : ℕ
   pub view : ℕ
 
+abbrev pub given : ℕ → ℕ → ℕ → ℕ → ℕ → ℕ → Given
+given kind toGroup toMask fromGroup fromReplica view =
+    record { kind = kind; toGroup = toGroup; toMask = toMask; fromGroup = fromGroup; fromReplica = fromReplica; view = view }
+
 -- each field fits its bytes
 unfoldable pub narrow : Given → Bool
 narrow g =
@@ -59,7 +68,12 @@ abbrev pub headerOf : Given → Header
 headerOf g =
     record { kind = g .kind; «to_group» = g .toGroup; «to_mask» = g .toMask; «from_group» = g .fromGroup; «from_replica» = g .fromReplica; view = g .view }
 
--- what the writer leaves: a field that is too wide is malformed
+-- each field fits its bytes, and there are as many numbers as the kind has
+unfoldable pub fits : Given → List ℕ → Bool
+fits g numbers = narrow g && eqb (length numbers) (numbersIn (g .kind))
+
+-- what the writer leaves: what does not fit is malformed
 unfoldable pub writesFrom : ℕ → ℕ → Given → List ℕ → List ℕ → List ℕ → List ℕ → Written
 writesFrom n s g numbers views entries out =
-    pick (narrow g) (writes n s (caseWith (headerOf g) (λ i. getD numbers i 0)) views entries out) (record { number = pick (sizesFit n s) 2 1; sent = 0; out = out })
+    pick (fits g numbers) (writes n s (caseWith (headerOf g) numbers) views entries out)
+    (record { refused = true; number = pick (sizesFit n s) 2 1; sent = 0; out = out })

@@ -1,25 +1,28 @@
 // The public face: a site's start and step on lent bytes, and the functions that hosts link.
-use fields::Parts;
 use rules::Answer;
 use rules::Header;
 use rules::Message;
 use rules::Shape;
+use rules::refusal;
 ghost use mathlib.Core.Path.{_≡_};
-ghost use mathlib.Core.List.{[], _∷_};
+ghost use mathlib.Core.List.{[]};
 ghost use Rattle.rules.specs.Choice.{pick};
+ghost use Rattle.rules.specs.Group.{sizesFit};
 ghost use Rattle.rules.specs.Digest.{digestFrom};
-ghost use Rattle.rules.specs.Read.{decoded, answerOf};
+ghost use Rattle.rules.specs.Read.{decoded};
+ghost use Rattle.rules.specs.Wire.{answerOf};
 ghost use Rattle.rules.specs.Image.{goodBytes};
 ghost use Rattle.rules.specs.Bytes.{left, stepBytes, startBytes};
 ghost use Rattle.places.specs.Layout.{lengthFor};
-ghost use Rattle.replica.specs.Face.{codeOf, Gives, Puts, narrow, writesFrom};
+ghost use Rattle.readers.specs.Said.{nextLength, fieldIn, groupViewIn, entryIn};
+ghost use Rattle.replica.specs.Face.{version, codeOf, Gives, Puts, given, narrow, writesFrom};
 
 // One step: the next state's bytes and the outgoing messages, or the lowest number of the table that applies and all as it came.
 pub fn step(shape: Shape, state: &mut [u8], message: &[u8], out: &mut [u8]) -> Answer
     ensures { λ r. ⌜ left r (now (state .exit)) (now (out .exit)) ≡ stepBytes shape (now (state .entry)) (now (message .entry)) (now (out .entry)) ⌝ }
 {
     if !good::good(shape, state) {
-        return Answer::Refused(1);
+        return Answer::Refused(refusal::WRONG_STATE);
     }
     let m = wire::read(shape.n, shape.s, message);
     let number = admit::refusal(shape, state, m, message);
@@ -39,6 +42,22 @@ fn code(answer: Answer) -> u64
         Answer::Done(sent) => (sent as u64) << 8,
         Answer::Refused(number) => number as u64,
     }
+}
+
+// The version of the interface: major * 10000 + minor * 100 + patch.
+#[no_mangle]
+pub extern "C" fn jallumere_version() -> u64
+    ensures { λ r. ⌜ r ≡ version ⌝ }
+{
+    10000
+}
+
+// 0: this is the proved core, and not the implementation that it is compared with.
+#[no_mangle]
+pub extern "C" fn jallumere_is_model() -> u64
+    ensures { λ r. ⌜ r ≡ 0 ⌝ }
+{
+    0
 }
 
 // The state's length, 0 for wrong sizes.
@@ -115,6 +134,45 @@ pub extern "C" fn jallumere_read(n: u64, s: u64, message: &[u8]) -> u64
     }
 }
 
+// The length of the message that the bytes begin with, 0 where they begin with none.
+#[no_mangle]
+pub extern "C" fn jallumere_message_length(n: u64, s: u64, bytes: &[u8]) -> u64
+    ensures { λ r. ⌜ r ≡ nextLength n s (now (bytes .entry)) ⌝ }
+{
+    readers::message_length(n, s, bytes)
+}
+
+// A field of the state by its number, or nothing.
+#[no_mangle]
+pub extern "C" fn jallumere_field(n: u64, s: u64, c: u64, field: u64, state: &[u8]) -> u64
+    ensures { λ r. ⌜ r ≡ fieldIn (record { n = n; s = s; c = c }) (now (state .entry)) field ⌝ }
+{
+    readers::field(Shape { n, s, c }, field, state)
+}
+
+// The view of a group in the state's gVec, or nothing.
+#[no_mangle]
+pub extern "C" fn jallumere_group_view(n: u64, s: u64, c: u64, group: u64, state: &[u8]) -> u64
+    ensures { λ r. ⌜ r ≡ groupViewIn (record { n = n; s = s; c = c }) (now (state .entry)) group ⌝ }
+{
+    readers::group_view(Shape { n, s, c }, group, state)
+}
+
+// A field of the log's entry at a position, from 1 on, or nothing.
+#[no_mangle]
+pub extern "C" fn jallumere_entry(
+    n: u64,
+    s: u64,
+    c: u64,
+    position: u64,
+    field: u64,
+    state: &[u8],
+) -> u64
+    ensures { λ r. ⌜ r ≡ entryIn (record { n = n; s = s; c = c }) (now (state .entry)) position field ⌝ }
+{
+    readers::entry(Shape { n, s, c }, position, field, state)
+}
+
 // FNV-1a run on from `start`.
 #[no_mangle]
 pub extern "C" fn jallumere_digest(start: u64, bytes: &[u8]) -> u64
@@ -132,13 +190,23 @@ fn is_narrow(
     from_replica: u64,
     view: u64,
 ) -> bool
-    ensures { λ r. ⌜ r ≡ narrow (record { kind = kind; toGroup = «to_group»; toMask = «to_mask»; fromGroup = «from_group»; fromReplica = «from_replica»; view = view }) ⌝ }
+    ensures { λ r. ⌜ r ≡ narrow (given kind «to_group» «to_mask» «from_group» «from_replica» view) ⌝ }
 {
     let groups = (from_group < 256) & ((from_replica < 256) & (view < 4294967296));
     (kind < 256) & ((to_group < 256) & ((to_mask < 256) & groups))
 }
 
-// Writes the message of these fields: 0, 1, 2 or 9, and 256 times its length. Numbers that the kind does not have are not looked at.
+// The answer where the fields are not those of a message: wrong sizes come before it.
+fn unfit(n: u64, s: u64) -> u64
+    ensures { λ r. ⌜ r ≡ pick (sizesFit n s) 2 1 ⌝ }
+{
+    if group::sizes_fit(n, s) {
+        return 2;
+    }
+    1
+}
+
+// Writes the message of these fields: 0, 1, 2 or 9, and 256 times its length. The numbers are all that the kind has.
 #[no_mangle]
 pub extern "C" fn jallumere_write(
     n: u64,
@@ -149,20 +217,16 @@ pub extern "C" fn jallumere_write(
     from_group: u64,
     from_replica: u64,
     view: u64,
-    first: u64,
-    second: u64,
-    third: u64,
+    numbers: &[u64],
     views: &[u8],
     entries: &[u8],
     out: &mut [u8],
 ) -> u64
-    ensures { λ r. ⌜ Puts (writesFrom n s (record { kind = kind; toGroup = «to_group»; toMask = «to_mask»; fromGroup = «from_group»; fromReplica = «from_replica»; view = view }) (first ∷ second ∷ third ∷ []) (now (views .entry)) (now (entries .entry)) (now (out .entry))) r (now (out .exit)) ⌝ }
+    ensures { λ r. ⌜ (let g = given kind «to_group» «to_mask» «from_group» «from_replica» view in
+        Puts (writesFrom n s g (now (numbers .entry)) (now (views .entry)) (now (entries .entry)) (now (out .entry))) r (now (out .exit))) ⌝ }
 {
     if !is_narrow(kind, to_group, to_mask, from_group, from_replica, view) {
-        if group::sizes_fit(n, s) {
-            return 2;
-        }
-        return 1;
+        return unfit(n, s);
     }
     let header = Header {
         kind: kind as u8,
@@ -172,16 +236,9 @@ pub extern "C" fn jallumere_write(
         from_replica: from_replica as u8,
         view: view as u32,
     };
-    let parts = Parts {
-        header,
-        zeros: 0,
-        views: 0,
-        numbers: 0,
-        first,
-        second,
-        third,
-        entries: 0,
-    };
-    let m = wire::decode::case_with(parts);
+    if numbers.len() as u64 != kinds::numbers_in(header.kind) {
+        return unfit(n, s);
+    }
+    let m = wire::decode::case_with(header, numbers);
     code(wire::write(n, s, m, views, entries, out))
 }

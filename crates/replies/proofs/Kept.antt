@@ -8,7 +8,7 @@ use native.Mathlib.Omega.{arith}
 use lib.ListN.{length, getD, set}
 use Rattle.rules.specs.Choice.{pick, count, isSome}
 use Rattle.rules.specs.State.{State, held}
-use Rattle.rules.specs.Image.{replyLength, replyAt}
+use Rattle.rules.specs.Image.{replyLength, replyAt, atReplies}
 use Rattle.rules.specs.declared.Shape.{Shape}
 use Rattle.rules.proofs.Choice.{by-test, count-front}
 use Rattle.rules.proofs.KeptLaws.{count-same}
@@ -43,7 +43,7 @@ module _ {A : Type 0} where
 
 -- the replies of a good state
 module _ {sh : Shape} {st : State} {b : List ℕ} (s : Stands sh st b) where
-  pub held-counted : (k : ℕ) → k ≡ count (λ j. isSome (replyAt (sh .c) b (startOf sh 9 + replyLength (sh .c) * j))) (sh .s) → k ≡ held (st .replies)
+  pub held-counted : (k : ℕ) → k ≡ count (λ j. isSome (replyAt (sh .c) b (startOf sh atReplies + replyLength (sh .c) * j))) (sh .s) → k ≡ held (st .change .replies)
   held-counted k e =
-      e ∙ count-same (λ j. isSome (getD (st .replies) j none)) (λ j. isSome (replyAt (sh .c) b (startOf sh 9 + replyLength (sh .c) * j))) (sh .s) (λ j l. ap isSome (reply-at s j l))
-      ∙ ap (count (λ j. isSome (getD (st .replies) j none))) (sym (stands-fits s .replyPlaces))
+      e ∙ count-same (λ j. isSome (getD (st .change .replies) j none)) (λ j. isSome (replyAt (sh .c) b (startOf sh atReplies + replyLength (sh .c) * j))) (sh .s) (λ j l. ap isSome (reply-at s j l))
+      ∙ ap (count (λ j. isSome (getD (st .change .replies) j none))) (sym (stands-fits s .replyPlaces))

@@ -10,12 +10,13 @@ use lib.Dec.{eqb, ltb, leb}
 use borrow.Author.Tests.{eqb-true, lt-ltb, le-ltb, le-leb, lt-leb, not-true, not-false}
 use Rattle.octets.specs.Bytes.{num, splice, items}
 use Rattle.octets.proofs.Codecs.{length-items}
-use Rattle.rules.specs.Choice.{pick, count, isSome, same}
-use Rattle.rules.specs.Wire.{Wire, bare, known, fromOutside, tagOf, headerIn}
+use Rattle.rules.specs.Choice.{pick, count, isSome, same, any}
+use Rattle.rules.specs.Wire.{Wire, tagOf, headerIn}
+use Rattle.rules.specs.Kind.{bare, known, fromOutside, rowOf}
 use Rattle.rules.specs.Wire as wires
 use Rattle.rules.specs.Read.{wireIn, entriesAt, lengthFor, entryAt}
 use Rattle.rules.specs.State.{State, held}
-use Rattle.rules.specs.Image.{replyLength, replyBytes, replyAt, tableAt, image, stateOf}
+use Rattle.rules.specs.Image.{replyLength, replyBytes, replyAt, tableAt, image, stateOf, atReplies}
 use Rattle.rules.specs.Merge.{merged}
 use Rattle.rules.specs.Step.{Outcome, refused, done, within, viewRight, statusRight, changing, starts, onVerifyReply}
 use Rattle.rules.specs.Bytes.{Left, leaves, closes}
@@ -59,7 +60,7 @@ module _ (sh : Shape) (b out gVec : List ℕ) (es : List Entry) (r : Bool) (x : 
     pub merged-table : Table (sh .c) x
     merged-table = is-table (sh .c) es x stands-there
 
-    pub merged-starts : (view : ℕ) → view ≡ stateOf sh b .view → (l : Left) → l ≡ closes sh b out (ledBy sh (stateOf sh b) view gVec (tableAt (sh .c) x 0)) → l ≡ closes sh b out (startsWith sh b gVec es)
+    pub merged-starts : (view : ℕ) → view ≡ stateOf sh b .view .gView → (l : Left) → l ≡ closes sh b out (ledBy sh (stateOf sh b) view gVec (tableAt (sh .c) x 0)) → l ≡ closes sh b out (startsWith sh b gVec es)
     merged-starts view v l w =
         w ∙ rw (v, decoded (sh .c) es x stands-there) (ap (closes sh b out) (sym (pick-true (leb (length es) (sh .c)) _ _ (le-leb (length es) (sh .c) (stands-there .room)))))
 
@@ -71,23 +72,23 @@ none-is (some x) e = absurd (true≢false e)
 
 module _ (sh : Shape) (st : State) (w : Wire) (from : ℕ) (es : List Entry) (f : w .fromGroup ≡ from) (e : w .entries ≡ es) where
   abbrev replies : List (Option (List Entry))
-  replies = set (st .replies) from (some es)
+  replies = set (st .change .replies) from (some es)
 
-  second : isSome (getD (st .replies) from none) ≡ true → onVerifyReply sh st w ≡ refused 7
+  second : isSome (getD (st .change .replies) from none) ≡ true → onVerifyReply sh st w ≡ refused 7
   unfolding onVerifyReply pick
   second h = rw (f, h)
 
-  module _ (h : isSome (getD (st .replies) from none) ≡ false) where
+  module _ (h : isSome (getD (st .change .replies) from none) ≡ false) where
     many : sh .c < length es → onVerifyReply sh st w ≡ refused 8
     unfolding onVerifyReply pick
     many g = rw (f, e, h, lt-leb (length es) (sh .c) g)
 
     module _ (g : length es ≤ sh .c) where
-      waits : held replies < sh .s - 1 → onVerifyReply sh st w ≡ done (changing st 3 (st .votes) (st .draft) (st .boundary) replies) []
+      waits : held replies < sh .s - 1 → onVerifyReply sh st w ≡ done (changing st 3 (st .change .votes) (st .change .draft) (st .change .boundary) replies) []
       unfolding onVerifyReply pick
       waits k = rw (f, e, h, le-leb (length es) (sh .c) g, lt-ltb (held replies) (sh .s - 1) k)
 
-      last : sh .s - 1 ≤ held replies → onVerifyReply sh st w ≡ starts sh st (merged (st .draft) replies)
+      last : sh .s - 1 ≤ held replies → onVerifyReply sh st w ≡ starts sh st (merged (st .change .draft) replies)
       unfolding onVerifyReply pick
       last k = rw (f, e, h, le-leb (length es) (sh .c) g, le-ltb (held replies) (sh .s - 1) k)
 
@@ -104,9 +105,11 @@ module _ (sh : Shape) (b msg out : List ℕ) (m : Message) (h : Header) (r : Rea
   from = h .«from_group»
 
   kind-known : known (tagOf m) ≡ true
+  unfolding any
   kind-known = ap (λ (x : Message). known (tagOf x)) e
 
   kind-views : bare (tagOf m) ≡ false
+  unfolding rowOf
   kind-views = ap (λ (x : Message). bare (tagOf x)) e
 
   kind-is : tagOf m ≡ 19
@@ -120,25 +123,26 @@ module _ (sh : Shape) (b msg out : List ℕ) (m : Message) (h : Header) (r : Rea
 
   -- the sender is of a group
   pub from-below : from < sh .s
+  unfolding rowOf
   from-below = rw e at (told-sender (sh .n) (sh .s) m msg told-so (ap (λ (x : Message). fromOutside (tagOf x)) e) .0)
 
   pub reply-views : 16 + 4 * sh .s ≤ length msg
   reply-views = views-stand sh b msg m r kind-known kind-views
 
   -- the site waits for replies, and the view is its own
-  status-is : st .status ≡ 3
-  unfolding statusRight pick
-  status-is = eqb-true (st .status) 3 (rw kind-is at (r .status))
+  status-is : st .view .status ≡ 3
+  unfolding statusRight pick rowOf stateOf
+  status-is = eqb-true (st .view .status) 3 (rw kind-is at (r .status))
 
-  views-equal : viewsOf sh msg ≡ st .gVec
-  unfolding viewRight pick
-  views-equal = sym (views-said sh b msg m r kind-known kind-views) ∙ same-true (w .gVec) (st .gVec) (and-right (eqb (w .view) (st .view)) _ (rw kind-is at (r .view)))
+  views-equal : viewsOf sh msg ≡ st .view .gVec
+  unfolding viewRight pick rowOf wireIn
+  views-equal = sym (views-said sh b msg m r kind-known kind-views) ∙ same-true (w .gVec) (st .view .gVec) (and-right (eqb (w .view) (st .view .gView)) _ (rw kind-is at (r .view)))
 
   by-rule : (o : Outcome) → onVerifyReply sh st w ≡ o → handled 19 onVerifyReply sh m b msg out ≡ closes sh b out o
   by-rule o q = handled-own 19 onVerifyReply sh m b msg out kind-is ∙ ap (closes sh b out) q
 
-  module _ (f : Bool) (q : f ≡ isSome (replyAt (sh .c) b (startOf sh 9 + replyLength (sh .c) * from))) where
-    flag-is : (v : Bool) → f ≡ v → isSome (getD (st .replies) from none) ≡ v
+  module _ (f : Bool) (q : f ≡ isSome (replyAt (sh .c) b (startOf sh atReplies + replyLength (sh .c) * from))) where
+    flag-is : (v : Bool) → f ≡ v → isSome (getD (st .change .replies) from none) ≡ v
     flag-is v z = ap isSome (sym (reply-at (r .stands) from from-below)) ∙ sym q ∙ z
 
     pub replied : f ≡ true → leaves 7 b out ≡ handled 19 onVerifyReply sh m b msg out
@@ -170,32 +174,32 @@ module _ (sh : Shape) (b msg out : List ℕ) (m : Message) (h : Header) (r : Rea
       pub reply-stands : at + 4 + 24 * number ≤ length msg
       reply-stands = omega (arith, whole)
 
-      module _ (f : Bool) (q : f ≡ isSome (replyAt (sh .c) b (startOf sh 9 + replyLength (sh .c) * from))) (z : f ≡ false) where
-        new : isSome (getD (st .replies) from none) ≡ false
+      module _ (f : Bool) (q : f ≡ isSome (replyAt (sh .c) b (startOf sh atReplies + replyLength (sh .c) * from))) (z : f ≡ false) where
+        new : isSome (getD (st .change .replies) from none) ≡ false
         new = flag-is f q false z
 
         pub reply-past : sh .c < number → leaves 8 b out ≡ handled 19 onVerifyReply sh m b msg out
         reply-past k = sym (by-rule (refused 8) (many sh st w from es from-is entries-are new (rw entries-long k)) ∙ closes-refused sh b out 8)
 
-        module _ (g : number ≤ sh .c) (k : ℕ) (c : k ≡ count (λ j. isSome (replyAt (sh .c) b (startOf sh 9 + replyLength (sh .c) * j))) (sh .s)) where
+        module _ (g : number ≤ sh .c) (k : ℕ) (c : k ≡ count (λ j. isSome (replyAt (sh .c) b (startOf sh atReplies + replyLength (sh .c) * j))) (sh .s)) where
           abbrev with : List (Option (List Entry))
-          with = set (st .replies) from (some es)
+          with = set (st .change .replies) from (some es)
 
           fits : length es ≤ sh .c
           fits = rw entries-long g
 
           held-with : held with ≡ k + 1
-          held-with = held-more (st .replies) from es (omega (arith, from-below, stands-fits (r .stands) .replyPlaces)) (none-is (getD (st .replies) from none) new) ∙ ap (λ (x : ℕ). x + 1) (sym (held-counted (r .stands) k c))
+          held-with = held-more (st .change .replies) from es (omega (arith, from-below, stands-fits (r .stands) .replyPlaces)) (none-is (getD (st .change .replies) from none) new) ∙ ap (λ (x : ℕ). x + 1) (sym (held-counted (r .stands) k c))
 
-          pub reply-kept : (b′ : List ℕ) → k + 1 < sh .s - 1 → b′ ≡ splice b (startOf sh 9 + replyLength (sh .c) * from) (replyBytes (sh .c) (some es)) → quiet b′ out ≡ handled 19 onVerifyReply sh m b msg out
+          pub reply-kept : (b′ : List ℕ) → k + 1 < sh .s - 1 → b′ ≡ splice b (startOf sh atReplies + replyLength (sh .c) * from) (replyBytes (sh .c) (some es)) → quiet b′ out ≡ handled 19 onVerifyReply sh m b msg out
           reply-kept b′ l x =
               let y = put-reply (stands-laid (r .stands)) from es (even-replies (r .stands)) fits from-below x in
-              let d : withReplies st with ≡ changing st 3 (st .votes) (st .draft) (st .boundary) with = ap (λ (v : ℕ). changing st v (st .votes) (st .draft) (st .boundary) with) status-is in
-              let t = changing st 3 (st .votes) (st .draft) (st .boundary) with in
+              let d : withReplies st with ≡ changing st 3 (st .change .votes) (st .change .draft) (st .change .boundary) with = ap (λ (v : ℕ). changing st v (st .change .votes) (st .change .draft) (st .change .boundary) with) status-is in
+              let t = changing st 3 (st .change .votes) (st .change .draft) (st .change .boundary) with in
               sym (by-rule (done t []) (waits sh st w from es from-is entries-are new fits (omega (arith, held-with))) ∙ closes-quiet sh b out t ∙ ap (λ (v : List ℕ). quiet v out) (sym (y .bytes ∙ ap (image sh) d)))
 
           pub reply-last : (v : Left) → sh .s - 1 ≤ k + 1 → v ≡ closes sh b out (startsWith sh b (viewsOf sh msg) (mergedWith sh b from msg (at + 4) number)) → v ≡ handled 19 onVerifyReply sh m b msg out
           unfolding starts
           reply-last v l x =
-              x ∙ ap (λ (y : List ℕ). closes sh b out (startsWith sh b y (merged (st .draft) with))) views-equal
-              ∙ sym (by-rule (starts sh st (merged (st .draft) with)) (last sh st w from es from-is entries-are new fits (omega (arith, held-with))))
+              x ∙ ap (λ (y : List ℕ). closes sh b out (startsWith sh b y (merged (st .change .draft) with))) views-equal
+              ∙ sym (by-rule (starts sh st (merged (st .change .draft) with)) (last sh st w from es from-is entries-are new fits (omega (arith, held-with))))

@@ -10,4 +10,4 @@ use Rattle.changes.specs.Changes.{ledBy}
 
 -- by its leader, in the state's view, with this gVec; 8 where the draft is too long
 abbrev pub startsWith : Shape → List ℕ → List ℕ → List Entry → Outcome
-startsWith sh b gVec draft = within (sh .c) (length draft) (ledBy sh (stateOf sh b) (stateOf sh b .view) gVec draft)
+startsWith sh b gVec draft = within (sh .c) (length draft) (ledBy sh (stateOf sh b) (stateOf sh b .view .gView) gVec draft)

@@ -3,6 +3,8 @@
 use rules::Answer;
 use rules::Message;
 use rules::Shape;
+use rules::kind;
+use rules::refusal;
 ghost use mathlib.Core.Path.{_≡_};
 ghost use Prim.Native.Nat.{_+_, _*_, _≤_};
 ghost use lib.ListN.{length};
@@ -31,7 +33,7 @@ fn start_merged(
     ensures { λ r. ⌜ left r (now (state .exit)) (now (out .exit)) ≡ closes shape (now (state .entry)) (now (out .entry)) (startsWith shape (now (state .entry)) (viewsOf shape (now (message .entry))) (mergedWith shape (now (state .entry)) from (now (message .entry)) at number)) ⌝ }
 {
     if !merge::merge(shape, state, from, message, at, number, table) {
-        return Answer::Refused(8);
+        return Answer::Refused(refusal::FULL);
     }
     let view = places::get_view(state);
     changes::start_leading(shape, state, view, message, table, out)
@@ -122,16 +124,16 @@ pub fn on_verify_reply(
     ensures { λ r. ⌜ left r (now (state .exit)) (now (out .exit)) ≡ handled 19 onVerifyReply shape m (now (state .entry)) (now (message .entry)) (now (out .entry)) ⌝ }
 {
     let Message::VerifyReply(h) = m else {
-        return Answer::Refused(2);
+        return Answer::Refused(refusal::MALFORMED);
     };
     let from = h.from_group as u64;
     if places::reply_flag(shape, state, from) {
-        return Answer::Refused(7);
+        return Answer::Refused(refusal::NOTHING_TO_DO);
     }
-    let at = kinds::entries_at(shape.s, 19);
+    let at = kinds::entries_at(shape.s, kind::VERIFY_REPLY);
     let number = octets::get32(message, at) as usize;
     if (shape.c as usize) < number {
-        return Answer::Refused(8);
+        return Answer::Refused(refusal::FULL);
     }
     if places::held_replies(shape, state) + 1 < shape.s - 1 {
         keeping::keep_reply(shape, state, from, message, at + 4, number);

@@ -10,7 +10,7 @@ use Rattle.octets.proofs.Codecs.{All}
 use Rattle.rules.specs.Entry.{noEntry, entryOf, stamped, sameTxn, among}
 use Rattle.rules.specs.Log.{distinct}
 use Rattle.rules.specs.State.{Note, agreed, greatest}
-use Rattle.rules.specs.Step.{lifted}
+use Rattle.rules.specs.Early.{lifted}
 use Rattle.rules.specs.declared.Entry.{Entry}
 use Rattle.rules.specs.declared.Shape.{Shape}
 use Rattle.rules.proofs.Choice.{Pairs, all-map, all-at, any-none, pick-true, pick-false}

@@ -7,11 +7,11 @@ ghost use mathlib.Core.Bool.{true};
 ghost use Prim.Native.Nat.{_<_};
 ghost use lib.ListN.{length, set};
 ghost use Rattle.rules.specs.Entry as order;
-ghost use Rattle.rules.specs.Log.{distinct};
+ghost use Rattle.rules.specs.Log as log;
 ghost use Rattle.rules.specs.Choice.{isSome};
 ghost use Rattle.rules.specs.State as rule;
 ghost use Rattle.rules.specs.Image.{stateOf};
-ghost use Rattle.rules.specs.Step.{lifted};
+ghost use Rattle.rules.specs.Early.{lifted};
 ghost use Rattle.places.specs.With.{withEarly};
 ghost use Rattle.stamps.specs.Midway.{Midway};
 
@@ -33,7 +33,7 @@ pub fn stamped(stamp: u64, e: Entry) -> Entry
 // The timestamp of the log's last entry, 0 where it is empty.
 fn last_stamp(shape: Shape, state: &[u8]) -> u64
     requires { ⌜ Midway shape (stateOf shape (now state)) (now state) ⌝ }
-    ensures { λ r. ⌜ r ≡ order.lastStamp (stateOf shape (now (state .entry)) .log) ⌝ }
+    ensures { λ r. ⌜ r ≡ log.lastStamp (stateOf shape (now (state .entry)) .logged .log) ⌝ }
 {
     let layout = places::places_of(shape);
     let start = layout.log;
@@ -44,21 +44,21 @@ fn last_stamp(shape: Shape, state: &[u8]) -> u64
 // Whether e may follow the log's last.
 pub fn may_follow(shape: Shape, state: &[u8], e: Entry) -> bool
     requires { ⌜ Midway shape (stateOf shape (now state)) (now state) ⌝ }
-    ensures { λ r. ⌜ r ≡ order.followsLast (stateOf shape (now (state .entry)) .log) e ⌝ }
+    ensures { λ r. ⌜ r ≡ log.followsLast (stateOf shape (now (state .entry)) .logged .log) e ⌝ }
 {
     last_stamp(shape, state) <= e.stamp
 }
 
-// The timestamp that a leader gives: the greater of due and the log's last.
-pub fn leader_stamp(shape: Shape, state: &[u8], due: u64) -> u64
+// The entry that a leader puts in early: e at its due time or, where that is below the log's last, at that timestamp.
+pub fn raised(shape: Shape, state: &[u8], e: Entry) -> Entry
     requires { ⌜ Midway shape (stateOf shape (now state)) (now state) ⌝ }
-    ensures { λ r. ⌜ r ≡ order.leaderStamp (stateOf shape (now (state .entry)) .log) due ⌝ }
+    ensures { λ r. ⌜ r ≡ log.raised (stateOf shape (now (state .entry)) .logged .log) e ⌝ }
 {
     let last = last_stamp(shape, state);
-    if due < last {
-        return last;
+    if e.stamp < last {
+        return stamped(last, e);
     }
-    due
+    e
 }
 
 // ---- the notes
@@ -66,7 +66,7 @@ pub fn leader_stamp(shape: Shape, state: &[u8], due: u64) -> u64
 // Whether group j's timestamp of e's transaction is held.
 pub fn is_noted(shape: Shape, state: &[u8], e: Entry, j: u64) -> bool
     requires { ⌜ Midway shape (stateOf shape (now state)) (now state) × (j < shape .s) ⌝ }
-    ensures { λ r. ⌜ r ≡ isSome (rule.noted (stateOf shape (now (state .entry)) .notes) e j) ⌝ }
+    ensures { λ r. ⌜ r ≡ isSome (rule.noted (stateOf shape (now (state .entry)) .waiting .notes) e j) ⌝ }
 {
     let layout = places::places_of(shape);
     let start = layout.notes;
@@ -82,7 +82,7 @@ pub fn is_noted(shape: Shape, state: &[u8], e: Entry, j: u64) -> bool
 // Whether notes from every group of the entry's mask are held.
 fn agreed(shape: Shape, state: &[u8], e: Entry) -> bool
     requires { ⌜ Midway shape (stateOf shape (now state)) (now state) ⌝ }
-    ensures { λ r. ⌜ r ≡ rule.agreed shape (stateOf shape (now (state .entry)) .notes) e ⌝ }
+    ensures { λ r. ⌜ r ≡ rule.agreed shape (stateOf shape (now (state .entry)) .waiting .notes) e ⌝ }
 {
     let layout = places::places_of(shape);
     let start = layout.notes;
@@ -93,7 +93,7 @@ fn agreed(shape: Shape, state: &[u8], e: Entry) -> bool
 // The greatest of the notes from groups of the entry's mask.
 fn greatest(shape: Shape, state: &[u8], e: Entry) -> u64
     requires { ⌜ Midway shape (stateOf shape (now state)) (now state) ⌝ }
-    ensures { λ r. ⌜ r ≡ rule.greatest shape (stateOf shape (now (state .entry)) .notes) e ⌝ }
+    ensures { λ r. ⌜ r ≡ rule.greatest shape (stateOf shape (now (state .entry)) .waiting .notes) e ⌝ }
 {
     let layout = places::places_of(shape);
     let start = layout.notes;
@@ -105,8 +105,8 @@ fn greatest(shape: Shape, state: &[u8], e: Entry) -> u64
 
 // Puts d in the place of early entry i.
 fn put_early(shape: Shape, state: &mut [u8], i: usize, d: Entry)
-    requires { ⌜ Midway shape (stateOf shape (now state)) (now state) × (i < length (stateOf shape (now state) .early)) ⌝ }
-    ensures { λ _. ⌜ Midway shape (withEarly (stateOf shape (now (state .entry))) (set (stateOf shape (now (state .entry)) .early) i d)) (now (state .exit)) ⌝ }
+    requires { ⌜ Midway shape (stateOf shape (now state)) (now state) × (i < length (stateOf shape (now state) .waiting .early)) ⌝ }
+    ensures { λ _. ⌜ Midway shape (withEarly (stateOf shape (now (state .entry))) (set (stateOf shape (now (state .entry)) .waiting .early) i d)) (now (state .exit)) ⌝ }
 {
     let layout = places::places_of(shape);
     let start = layout.early;
@@ -116,8 +116,8 @@ fn put_early(shape: Shape, state: &mut [u8], i: usize, d: Entry)
 
 // The early entry of e's transaction, once notes from every group of its mask are held, gets their greatest as its timestamp.
 pub fn lift(shape: Shape, state: &mut [u8], e: Entry)
-    requires { ⌜ Midway shape (stateOf shape (now state)) (now state) × (distinct (stateOf shape (now state) .early) ≡ true) ⌝ }
-    ensures { λ _. ⌜ Midway shape (withEarly (stateOf shape (now (state .entry))) (lifted shape (stateOf shape (now (state .entry)) .notes) e (stateOf shape (now (state .entry)) .early))) (now (state .exit)) ⌝ }
+    requires { ⌜ Midway shape (stateOf shape (now state)) (now state) × (log.distinct (stateOf shape (now state) .waiting .early) ≡ true) ⌝ }
+    ensures { λ _. ⌜ Midway shape (withEarly (stateOf shape (now (state .entry))) (lifted shape (stateOf shape (now (state .entry)) .waiting .notes) e (stateOf shape (now (state .entry)) .waiting .early))) (now (state .exit)) ⌝ }
 {
     let start = places::places_of(shape).early;
     let count = octets::get32(state, start) as usize;

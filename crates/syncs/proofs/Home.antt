@@ -9,10 +9,10 @@ use lib.Seq.{take-at, drop-at}
 use Rattle.octets.specs.Bytes.{le, part, splice}
 use Rattle.octets.proofs.Laws.{part-add, splice-home, splice-splice-next}
 use Rattle.rules.specs.Choice.{keep}
-use Rattle.rules.specs.Entry.{lastStamp}
+use Rattle.rules.specs.Log.{lastStamp}
 use Rattle.rules.specs.State.{State}
-use Rattle.rules.specs.Step.{staysEarly, notesWithout}
-use Rattle.rules.specs.Image.{tableLength, noteLength, tableBytes, image}
+use Rattle.rules.specs.Early.{staysEarly, notesWithout}
+use Rattle.rules.specs.Image.{tableLength, noteLength, tableBytes, image, atEarly, atLate, atLog, atNotes}
 use Rattle.rules.specs.declared.Entry.{Entry}
 use Rattle.rules.specs.declared.Shape.{Shape}
 use Rattle.rules.proofs.Tables.{TableFits, table-long}
@@ -31,46 +31,46 @@ use Rattle.syncs.specs.Takes.{lateBy, syncedBy}
 use Rattle.syncs.proofs.Buffers as buffers
 use Rattle.syncs.proofs.Rule.{stays-is, late-is, late-long}
 
-module _ {sh : Shape} {st : State} {b : List ℕ} (l : Laid sh st b) (at n : ℕ) (e : at ≡ startOf sh 4) (m : n ≡ tableLength (sh .c) + tableLength (sh .c)) where
+module _ {sh : Shape} {st : State} {b : List ℕ} (l : Laid sh st b) (at n : ℕ) (e : at ≡ startOf sh atEarly) (m : n ≡ tableLength (sh .c) + tableLength (sh .c)) where
   -- late begins where early ends
-  next : startOf sh 5 ≡ startOf sh 4 + tableLength (sh .c)
+  next : startOf sh atLate ≡ startOf sh atEarly + tableLength (sh .c)
   next = omega arith
 
-  both-bytes : take n (drop at b) ≡ tableBytes (sh .c) (st .early) ++ tableBytes (sh .c) (st .late)
+  both-bytes : take n (drop at b) ≡ tableBytes (sh .c) (st .waiting .early) ++ tableBytes (sh .c) (st .waiting .late)
   unfolding part
-  both-bytes = rw (e, m) (part-add b (startOf sh 4) (tableLength (sh .c)) (tableLength (sh .c)) ∙ ap₂ _++_ (tables.early-part l) (ap (λ (a : ℕ). part b a (tableLength (sh .c))) (sym next) ∙ tables.late-part l))
+  both-bytes = rw (e, m) (part-add b (startOf sh atEarly) (tableLength (sh .c)) (tableLength (sh .c)) ∙ ap₂ _++_ (tables.early-part l) (ap (λ (a : ℕ). part b a (tableLength (sh .c))) (sym next) ∙ tables.late-part l))
 
-  pub both-lent : Fits sh → TableFits (sh .c) (st .early) → TableFits (sh .c) (st .late) → BothHold (sh .c) (st .early) (st .late) (take n (drop at b))
+  pub both-lent : Fits sh → TableFits (sh .c) (st .waiting .early) → TableFits (sh .c) (st .waiting .late) → BothHold (sh .c) (st .waiting .early) (st .waiting .late) (take n (drop at b))
   both-lent s fe fl =
-      let x : List ℕ = tableBytes (sh .c) (st .early) in
-      let y : List ℕ = tableBytes (sh .c) (st .late) in
-      let lx : length x ≡ 4 + 24 * sh .c = table-long (sh .c) (st .early) (fe .room) in
-      let ly : length y ≡ 4 + 24 * sh .c = table-long (sh .c) (st .late) (fl .room) in
+      let x : List ℕ = tableBytes (sh .c) (st .waiting .early) in
+      let y : List ℕ = tableBytes (sh .c) (st .waiting .late) in
+      let lx : length x ≡ 4 + 24 * sh .c = table-long (sh .c) (st .waiting .early) (fe .room) in
+      let ly : length y ≡ 4 + 24 * sh .c = table-long (sh .c) (st .waiting .late) (fl .room) in
       rw both-bytes (record {
-        early = hold (sh .c) (st .early) _ (take-at x y (4 + 24 * sh .c) lx) (fe .room) (s .small) (fe .each);
-        late = hold (sh .c) (st .late) _ (drop-at x y (4 + 24 * sh .c) lx) (fl .room) (s .small) (fl .each);
+        early = hold (sh .c) (st .waiting .early) _ (take-at x y (4 + 24 * sh .c) lx) (fe .room) (s .small) (fe .each);
+        late = hold (sh .c) (st .waiting .late) _ (drop-at x y (4 + 24 * sh .c) lx) (fl .room) (s .small) (fl .each);
         size = length-append x y ∙ ap₂ _+_ lx ly;
       })
 
-  pub both-home : (es ls : List Entry) (x : List ℕ) → BothHold (sh .c) es ls x → startOf sh 6 ≤ length b → Laid sh (withLate (withEarly st es) ls) (take at b ++ (x ++ drop n (drop at b)))
+  pub both-home : (es ls : List Entry) (x : List ℕ) → BothHold (sh .c) es ls x → startOf sh atNotes ≤ length b → Laid sh (withLate (withEarly st es) ls) (take at b ++ (x ++ drop n (drop at b)))
   both-home es ls x h w =
       let u : List ℕ = tableBytes (sh .c) es in
       let v : List ℕ = tableBytes (sh .c) ls in
       let lu : length u ≡ tableLength (sh .c) = table-long (sh .c) es (h .early .room) in
       let z : x ≡ u ++ v = sym (take-append-drop (4 + 24 * sh .c) x) ∙ ap₂ _++_ (h .early .bytes) (h .late .bytes) in
-      let a : startOf sh 5 ≡ startOf sh 4 + length u = next ∙ ap (λ (k : ℕ). startOf sh 4 + k) (sym lu) in
-      let g : take at b ++ (x ++ drop n (drop at b)) ≡ splice (splice b (startOf sh 4) u) (startOf sh 5) v
+      let a : startOf sh atLate ≡ startOf sh atEarly + length u = next ∙ ap (λ (k : ℕ). startOf sh atEarly + k) (sym lu) in
+      let g : take at b ++ (x ++ drop n (drop at b)) ≡ splice (splice b (startOf sh atEarly) u) (startOf sh atLate) v
       = splice-home b at n x (h .size ∙ sym m)
-      ∙ rw (e, z, a) (sym (splice-splice-next b (startOf sh 4) u v (omega (arith, lu)))) in
+      ∙ rw (e, z, a) (sym (splice-splice-next b (startOf sh atEarly) u v (omega (arith, lu)))) in
       tables.put-late (tables.put-early l es (h .early .room) refl) ls (h .late .room) g
 
 -- ---- the buffers, the notes, the log and the sync point
 
-module _ {sh : Shape} {st : State} {b : List ℕ} (s : Stands sh st b) (log : List Entry) (last : ℕ) (hl : last ≡ lastStamp log) (at n : ℕ) (e : at ≡ startOf sh 4) (m : n ≡ tableLength (sh .c) + tableLength (sh .c)) where
+module _ {sh : Shape} {st : State} {b : List ℕ} (s : Stands sh st b) (log : List Entry) (last : ℕ) (hl : last ≡ lastStamp log) (at n : ℕ) (e : at ≡ startOf sh atEarly) (m : n ≡ tableLength (sh .c) + tableLength (sh .c)) where
   abbrev lent : List ℕ
   lent = take n (drop at b)
 
-  both : BothHold (sh .c) (st .early) (st .late) lent
+  both : BothHold (sh .c) (st .waiting .early) (st .waiting .late) lent
   both = both-lent (stands-laid s) at n e m (s .fits) (stands-fits s .early) (stands-fits s .late)
 
   pub is-both : Both (sh .c) lent
@@ -89,23 +89,23 @@ module _ {sh : Shape} {st : State} {b : List ℕ} (s : Stands sh st b) (log : Li
     abbrev b₁ : List ℕ
     b₁ = take at b ++ (x ++ drop n (drop at b))
 
-    laid₁ : Laid sh (withLate (withEarly st (staysEarly log (st .early))) (lateBy st log)) b₁
+    laid₁ : Laid sh (withLate (withEarly st (staysEarly log (st .waiting .early))) (lateBy st log)) b₁
     laid₁ =
-        both-home (stands-laid s) at n e m (staysEarly log (st .early)) (lateBy st log) x
-        (rw (buffers.early-is both, buffers.late-is both, hl, stays-is log (st .early), late-is st log) at k)
+        both-home (stands-laid s) at n e m (staysEarly log (st .waiting .early)) (lateBy st log) x
+        (rw (buffers.early-is both, buffers.late-is both, hl, stays-is log (st .waiting .early), late-is st log) at k)
         (omega (arith, s .size))
 
-    module _ (at₂ n₂ : ℕ) (e₂ : at₂ ≡ startOf sh 6) (m₂ : n₂ ≡ 4 + noteLength (sh .s) * sh .c) where
-      noted : NotesHold (sh .c) (sh .s) (st .notes) (take n₂ (drop at₂ b₁))
+    module _ (at₂ n₂ : ℕ) (e₂ : at₂ ≡ startOf sh atNotes) (m₂ : n₂ ≡ 4 + noteLength (sh .s) * sh .c) where
+      noted : NotesHold (sh .c) (sh .s) (st .waiting .notes) (take n₂ (drop at₂ b₁))
       noted = notes-lent laid₁ at₂ n₂ (s .fits) (stands-fits s .notes) e₂ m₂
 
       pub notes-asked : Notes (sh .c) (sh .s) (take n₂ (drop at₂ b₁))
       notes-asked = is-notes (sh .c) (sh .s) _ _ noted
 
-      pub taken-over : (y : List ℕ) (to v : ℕ) (b₃ b₄ : List ℕ) → NotesHold (sh .c) (sh .s) (notesWithout log (notesAt (sh .c) (sh .s) (take n₂ (drop at₂ b₁)))) y → length log ≤ sh .c → to ≡ startOf sh 3
+      pub taken-over : (y : List ℕ) (to v : ℕ) (b₃ b₄ : List ℕ) → NotesHold (sh .c) (sh .s) (notesWithout log (notesAt (sh .c) (sh .s) (take n₂ (drop at₂ b₁)))) y → length log ≤ sh .c → to ≡ startOf sh atLog
           → b₃ ≡ splice (take at₂ b₁ ++ (y ++ drop n₂ (drop at₂ b₁))) to (tableBytes (sh .c) log) → b₄ ≡ splice b₃ 24 (le 8 v) → v ≡ length log → b₄ ≡ image sh (syncedBy st log)
       unfolding syncedBy
       taken-over y to v b₃ b₄ k₂ r t q w z =
-          let l₂ = notes-home laid₁ {x = y} at₂ n₂ (notesWithout log (st .notes)) (rw (decoded (sh .c) (sh .s) _ _ noted) at k₂) e₂ m₂ refl in
+          let l₂ = notes-home laid₁ {x = y} at₂ n₂ (notesWithout log (st .waiting .notes)) (rw (decoded (sh .c) (sh .s) _ _ noted) at k₂) e₂ m₂ refl in
           let l₃ = tables.put-log l₂ log r (q ∙ rw t) in
           put-sync l₃ v w .bytes ∙ rw z

@@ -8,9 +8,10 @@ use lib.ListN.{length, length-append}
 use lib.Dec.{ltb, leb}
 use borrow.Author.Tests.{leb-true, leb-false, lt-ltb, le-ltb}
 use Rattle.rules.specs.Choice.{pick, keep}
-use Rattle.rules.specs.Entry.{among, mayFollow, followsLast, lastStamp}
+use Rattle.rules.specs.Entry.{among, mayFollow}
+use Rattle.rules.specs.Log.{followsLast, lastStamp}
 use Rattle.rules.specs.State.{State}
-use Rattle.rules.specs.Step.{staysEarly, fallsLate}
+use Rattle.rules.specs.Early.{staysEarly, fallsLate}
 use Rattle.rules.specs.declared.Entry.{Entry}
 use Rattle.leaving.specs.Listed.{chosen}
 use Rattle.leaving.proofs.Entries.{without-is}
@@ -57,9 +58,9 @@ module _ (log es : List Entry) where
   falls-is = keep-twice (chosen log true (lastStamp log)) (λ e. not (among log e)) (λ e. not (followsLast log e)) (λ e. rw (or-none (ltb (e .stamp) (lastStamp log)), above (e .stamp) (lastStamp log))) es
 
 module _ (st : State) (log : List Entry) where
-  pub late-is : keep (chosen log false 0) (st .late) ++ keep (chosen log true (lastStamp log)) (st .early) ≡ lateBy st log
+  pub late-is : keep (chosen log false 0) (st .waiting .late) ++ keep (chosen log true (lastStamp log)) (st .waiting .early) ≡ lateBy st log
   unfolding lateBy
-  late-is = rw (without-is log (st .late), falls-is log (st .early))
+  late-is = rw (without-is log (st .waiting .late), falls-is log (st .waiting .early))
 
-  pub late-long : length (keep (chosen log false 0) (st .late)) + length (keep (chosen log true (lastStamp log)) (st .early)) ≡ length (lateBy st log)
-  late-long = sym (length-append (keep (chosen log false 0) (st .late)) (keep (chosen log true (lastStamp log)) (st .early))) ∙ ap length late-is
+  pub late-long : length (keep (chosen log false 0) (st .waiting .late)) + length (keep (chosen log true (lastStamp log)) (st .waiting .early)) ≡ length (lateBy st log)
+  late-long = sym (length-append (keep (chosen log false 0) (st .waiting .late)) (keep (chosen log true (lastStamp log)) (st .waiting .early))) ∙ ap length late-is

@@ -10,6 +10,7 @@ use lib.Seq.{take-at, length-take-le}
 use Rattle.octets.specs.Bytes.{num, splice, flat}
 use Rattle.octets.proofs.Laws.{bytes-known, splice-none, splice-next}
 use Rattle.octets.proofs.Codecs.{length-items, getD-items}
+use Rattle.rules.specs.Kind.{rowOf}
 use Rattle.rules.specs.Choice.{pick, below}
 use Rattle.rules.specs.Entry.{noEntry, entryOf}
 use Rattle.rules.specs.Wire.{Wire, entryBytes, wireBytes}
@@ -37,7 +38,7 @@ use Rattle.leaving.specs.declared.Listed.{Listed}
 
 -- how long it is
 pub one-long : (s : ℕ) → lengthFor s 6 1 ≡ 56 + 4 * s
-unfolding pick
+unfolding pick rowOf
 one-long s = omega arith
 
 -- for C positions at most
@@ -72,7 +73,7 @@ module _ {sh : Shape} {b msg : List ℕ} {log : Listed} (g : Coming sh b msg log
       (record { fits = g .stands .fits; size = g .stands .size }, omega (arith, bytes-long), omega (arith, bytes-long), omega (arith, bytes-long, one-long (sh .s)))
 
   slow-long : length (wireBytes (slowReply st entries i)) ≡ lengthFor (sh .s) 6 1
-  unfolding pick
+  unfolding pick rowOf
   slow-long = sent-length (sh .s) st 6 255 1 _ (entryOf entries i ∷ []) (stands-fits (g .stands) .gVecPlaces) refl refl
 
   module _ (known : (j : ℕ) → getD msg j 0 < 256) where
@@ -99,7 +100,7 @@ module _ {sh : Shape} {b msg : List ℕ} {log : Listed} (g : Coming sh b msg log
 
 -- position j past the sync point
 abbrev pastSync : State → List Entry → ℕ → Wire
-pastSync st log j = slowReply st log (st .sync + j)
+pastSync st log j = slowReply st log (st .logged .sync + j)
 
 -- the first j of them
 unfoldable pub toldBytes : State → List Entry → ℕ → List ℕ
@@ -113,19 +114,19 @@ module _ {sh : Shape} {b msg : List ℕ} {log : Listed} (g : Coming sh b msg log
   unfolding toldBytes below sends flat
   told-start out = sym (splice-none out 0)
 
-  past-long : (n j : ℕ) → stateOf sh b .sync + n ≤ log .count → j < n → length (wireBytes (past j)) ≡ lengthFor (sh .s) 6 1
-  past-long n j h l = slow-long g (stateOf sh b .sync + j) (omega arith)
+  past-long : (n j : ℕ) → stateOf sh b .logged .sync + n ≤ log .count → j < n → length (wireBytes (past j)) ≡ lengthFor (sh .s) 6 1
+  past-long n j h l = slow-long g (stateOf sh b .logged .sync + j) (omega arith)
 
-  told-long : (j : ℕ) → stateOf sh b .sync + j ≤ log .count → length (toldBytes (stateOf sh b) (listedIn msg log) j) ≡ lengthFor (sh .s) 6 1 * j
+  told-long : (j : ℕ) → stateOf sh b .logged .sync + j ≤ log .count → length (toldBytes (stateOf sh b) (listedIn msg log) j) ≡ lengthFor (sh .s) 6 1 * j
   unfolding toldBytes
   told-long j h = sends-below past (lengthFor (sh .s) 6 1) j (λ i l. past-long j i h l)
 
-  pub told-room : (sync j at o : ℕ) → sync ≡ stateOf sh b .sync → j < log .count - sync → lengthFor (sh .s) 6 1 * (log .count - stateOf sh b .sync) ≤ o → at ≡ lengthFor (sh .s) 6 1 * j → at + lengthFor (sh .s) 6 1 ≤ o
+  pub told-room : (sync j at o : ℕ) → sync ≡ stateOf sh b .logged .sync → j < log .count - sync → lengthFor (sh .s) 6 1 * (log .count - stateOf sh b .logged .sync) ≤ o → at ≡ lengthFor (sh .s) 6 1 * j → at + lengthFor (sh .s) 6 1 ≤ o
   told-room sync j at o z l h e =
-      let k : j < log .count - stateOf sh b .sync = rw z at l in
-      omega (arith, within (lengthFor (sh .s) 6 1) j (log .count - stateOf sh b .sync) k)
+      let k : j < log .count - stateOf sh b .logged .sync = rw z at l in
+      omega (arith, within (lengthFor (sh .s) 6 1) j (log .count - stateOf sh b .logged .sync) k)
 
-  pub told-turn : (sync j at r : ℕ) (out u v : List ℕ) → sync ≡ stateOf sh b .sync → sync + j < log .count → at ≡ lengthFor (sh .s) 6 1 * j → at ≤ length out → u ≡ splice out 0 (toldBytes (stateOf sh b) (listedIn msg log) j)
+  pub told-turn : (sync j at r : ℕ) (out u v : List ℕ) → sync ≡ stateOf sh b .logged .sync → sync + j < log .count → at ≡ lengthFor (sh .s) 6 1 * j → at ≤ length out → u ≡ splice out 0 (toldBytes (stateOf sh b) (listedIn msg log) j)
       → (r ≡ at + lengthFor (sh .s) 6 1) × (v ≡ splice u at (wireBytes (slowReply (stateOf sh b) (listedIn msg log) (sync + j)))) → (r ≡ lengthFor (sh .s) 6 1 * (j + 1)) × (v ≡ splice out 0 (toldBytes (stateOf sh b) (listedIn msg log) (j + 1)))
   unfolding toldBytes
   told-turn sync j at r out u v z l e w q k =
@@ -135,22 +136,22 @@ module _ {sh : Shape} {b msg : List ℕ} {log : Listed} (g : Coming sh b msg log
       let t : length (flat wireBytes (sends past (below j))) ≡ at = told-long j (omega arith) ∙ sym e in
       (k .0 ∙ omega arith, splice-next out 0 at (flat wireBytes (sends past (below j))) y u v (omega arith) t q m ∙ ap (splice out 0) (sym (sends-more past j)))
 
-  pub told-all : (sync n j at : ℕ) (out u : List ℕ) → sync ≡ stateOf sh b .sync → n ≡ log .count - sync → j ≤ n → n ≤ j → at ≡ lengthFor (sh .s) 6 1 * j → u ≡ splice out 0 (toldBytes (stateOf sh b) (listedIn msg log) j)
+  pub told-all : (sync n j at : ℕ) (out u : List ℕ) → sync ≡ stateOf sh b .logged .sync → n ≡ log .count - sync → j ≤ n → n ≤ j → at ≡ lengthFor (sh .s) 6 1 * j → u ≡ splice out 0 (toldBytes (stateOf sh b) (listedIn msg log) j)
       → (at ≡ length (flat wireBytes (slowReplies (stateOf sh b) (listedIn msg log)))) × (u ≡ splice out 0 (flat wireBytes (slowReplies (stateOf sh b) (listedIn msg log))))
   unfolding toldBytes slowReplies
   told-all sync n j at out u z m h k e q =
       let c : length (listedIn msg log) ≡ log .count = length-items (entryAt msg) 24 (log .at) (log .count) in
-      let w : length (listedIn msg log) - stateOf sh b .sync ≡ j = omega arith in
+      let w : length (listedIn msg log) - stateOf sh b .logged .sync ≡ j = omega arith in
       rw w (e ∙ sym (told-long j (omega (arith, g .past))), q)
 
   -- together
-  pub all-long : length (flat wireBytes (slowReplies (stateOf sh b) (listedIn msg log))) ≡ lengthFor (sh .s) 6 1 * (log .count - stateOf sh b .sync)
+  pub all-long : length (flat wireBytes (slowReplies (stateOf sh b) (listedIn msg log))) ≡ lengthFor (sh .s) 6 1 * (log .count - stateOf sh b .logged .sync)
   unfolding toldBytes slowReplies
   all-long =
       let c : length (listedIn msg log) ≡ log .count = length-items (entryAt msg) 24 (log .at) (log .count) in
-      rw c (told-long (log .count - stateOf sh b .sync) (omega (arith, g .past)))
+      rw c (told-long (log .count - stateOf sh b .logged .sync) (omega (arith, g .past)))
 
-  pub product : (sync k : ℕ) → sync ≡ num b 24 8 → k ≡ lengthFor (sh .s) 6 1 → (k * (log .count - sync) ≤ 360448) × (k * (log .count - sync) ≡ lengthFor (sh .s) 6 1 * (log .count - stateOf sh b .sync))
+  pub product : (sync k : ℕ) → sync ≡ num b 24 8 → k ≡ lengthFor (sh .s) 6 1 → (k * (log .count - sync) ≤ 360448) × (k * (log .count - sync) ≡ lengthFor (sh .s) 6 1 * (log .count - stateOf sh b .logged .sync))
   product sync k e f =
-      let z : sync ≡ stateOf sh b .sync = e ∙ sync-of (g .stands) in
-      rw (f, z) (all-fit (sh .s) (log .count - stateOf sh b .sync) (g .stands .fits .few) (omega (arith, g .room, g .stands .fits .small)), refl)
+      let z : sync ≡ stateOf sh b .logged .sync = e ∙ sync-of (g .stands) in
+      rw (f, z) (all-fit (sh .s) (log .count - stateOf sh b .logged .sync) (g .stands .fits .few) (omega (arith, g .room, g .stands .fits .small)), refl)

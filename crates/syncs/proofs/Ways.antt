@@ -8,9 +8,11 @@ use lib.ListN.{length}
 use borrow.Author.Tests.{le-leb, lt-leb}
 use Rattle.octets.specs.Bytes.{num, splice, flat}
 use Rattle.octets.proofs.Codecs.{length-items, getD-items}
-use Rattle.rules.specs.Choice.{pick}
-use Rattle.rules.specs.Entry.{noEntry, stampBefore, lastStamp}
-use Rattle.rules.specs.Wire.{Wire, known, tagOf, wireBytes}
+use Rattle.rules.specs.Choice.{pick, any}
+use Rattle.rules.specs.Entry.{noEntry, entryOf, lastBefore}
+use Rattle.rules.specs.Log.{lastStamp}
+use Rattle.rules.specs.Wire.{Wire, tagOf, wireBytes}
+use Rattle.rules.specs.Kind.{known, rowOf}
 use Rattle.rules.specs.Read.{entryAt, entriesAt, lengthFor, wireIn}
 use Rattle.rules.specs.State.{State}
 use Rattle.rules.specs.Image.{image, stateOf}
@@ -36,17 +38,17 @@ use Rattle.syncs.proofs.Slow.{all-long}
 -- ---- the rule
 
 module _ (sh : Shape) (st : State) (w : Wire) (log : List Entry) (e : w .entries ≡ log) where
-  rule-old : length log ≤ st .sync → onReplicaSync sh st w ≡ refused 7
+  rule-old : length log ≤ st .logged .sync → onReplicaSync sh st w ≡ refused 7
   unfolding onReplicaSync pick
-  rule-old h = rw (e, le-leb (length log) (st .sync) h)
+  rule-old h = rw (e, le-leb (length log) (st .logged .sync) h)
 
-  rule-long : st .sync < length log → sh .c < length log → onReplicaSync sh st w ≡ refused 8
-  unfolding onReplicaSync pick
-  rule-long h k = rw (e, lt-leb (length log) (st .sync) h, lt-leb (length log) (sh .c) k)
+  rule-long : st .logged .sync < length log → sh .c < length log → onReplicaSync sh st w ≡ refused 8
+  unfolding onReplicaSync pick rowOf
+  rule-long h k = rw (e, lt-leb (length log) (st .logged .sync) h, lt-leb (length log) (sh .c) k)
 
-  rule-takes : st .sync < length log → length log ≤ sh .c → onReplicaSync sh st w ≡ takes sh st log
+  rule-takes : st .logged .sync < length log → length log ≤ sh .c → onReplicaSync sh st w ≡ takes sh st log
   unfolding onReplicaSync takes lateBy syncedBy slowReplies pick
-  rule-takes h k = rw (e, lt-leb (length log) (st .sync) h, le-leb (length log) (sh .c) k)
+  rule-takes h k = rw (e, lt-leb (length log) (st .logged .sync) h, le-leb (length log) (sh .c) k)
 
 module _ (sh : Shape) (st : State) (log : List Entry) (b out : List ℕ) where
   pub late-full : sh .c < length (lateBy st log) → leaves 8 b out ≡ closes sh b out (takes sh st log)
@@ -58,7 +60,7 @@ module _ (sh : Shape) (st : State) (log : List Entry) (b out : List ℕ) where
   out-full h k = sym (rw (le-leb (length (lateBy st log)) (sh .c) h) (closes-tight sh b out (syncedBy st log) (slowReplies st log) k))
 
   pub all-done : (sent : ℕ) (b₁ out₁ : List ℕ) → length (lateBy st log) ≤ sh .c → length (flat wireBytes (slowReplies st log)) ≤ length out → sent ≡ length (flat wireBytes (slowReplies st log))
-      → b₁ ≡ image sh (syncedBy st log) → out₁ ≡ splice out 0 (flat wireBytes (slowReplies st log)) → record { number = 0; sent = sent; state = b₁; out = out₁ } ≡ closes sh b out (takes sh st log)
+      → b₁ ≡ image sh (syncedBy st log) → out₁ ≡ splice out 0 (flat wireBytes (slowReplies st log)) → record { refused = false; number = 0; sent = sent; state = b₁; out = out₁ } ≡ closes sh b out (takes sh st log)
   unfolding takes pick
   all-done sent b₁ out₁ h k s x y = sym (rw (le-leb (length (lateBy st log)) (sh .c) h) (closes-sent sh b out (syncedBy st log) (slowReplies st log) k ∙ sym (rw (s, x, y))))
 
@@ -76,20 +78,20 @@ module _ {sh : Shape} {b msg : List ℕ} {log : Listed} (g : Coming sh b msg log
 
   -- its last timestamp
   pub last-is : (last : ℕ) → last ≡ num msg (log .at + 24 * (log .count - 1)) 8 → last ≡ lastStamp entries
-  unfolding stampBefore entryAt
+  unfolding lastBefore entryAt
   last-is last q =
       let n : length entries ≡ suc (log .count - 1) = long ∙ omega (arith, g .past) in
-      q ∙ sym (rw n (ap (λ (x : Entry). x .stamp) (getD-items (entryAt msg) 24 (log .at) (log .count) (log .count - 1) noEntry (omega (arith, g .past)))))
+      q ∙ sym (ap (λ (k : ℕ). lastBefore (entryOf entries) k .stamp) n ∙ ap (λ (x : Entry). x .stamp) (getD-items (entryAt msg) 24 (log .at) (log .count) (log .count - 1) noEntry (omega (arith, g .past))))
 
   pub too-late : (out : List ℕ) (late : ℕ) → late ≡ length (lateBy st entries) → sh .c < late → leaves 8 b out ≡ closes sh b out (takes sh st entries)
   too-late out late e h = late-full sh st entries b out (rw e at h)
 
-  pub too-much : (out : List ℕ) (late n : ℕ) → late ≡ length (lateBy st entries) → late ≤ sh .c → n ≡ lengthFor (sh .s) 6 1 * (log .count - st .sync) → length out < n → leaves 9 b out ≡ closes sh b out (takes sh st entries)
+  pub too-much : (out : List ℕ) (late n : ℕ) → late ≡ length (lateBy st entries) → late ≤ sh .c → n ≡ lengthFor (sh .s) 6 1 * (log .count - st .logged .sync) → length out < n → leaves 9 b out ≡ closes sh b out (takes sh st entries)
   too-much out late n e h q k = out-full sh st entries b out (rw e at h) (rw (all-long g, ← q) k)
 
-  pub taken : (out : List ℕ) (late n sent : ℕ) (b₁ out₁ : List ℕ) → late ≡ length (lateBy st entries) → late ≤ sh .c → n ≡ lengthFor (sh .s) 6 1 * (log .count - st .sync) → n ≤ length out
+  pub taken : (out : List ℕ) (late n sent : ℕ) (b₁ out₁ : List ℕ) → late ≡ length (lateBy st entries) → late ≤ sh .c → n ≡ lengthFor (sh .s) 6 1 * (log .count - st .logged .sync) → n ≤ length out
       → (sent ≡ length (flat wireBytes (slowReplies st entries))) × (out₁ ≡ splice out 0 (flat wireBytes (slowReplies st entries))) → b₁ ≡ image sh (syncedBy st entries)
-      → record { number = 0; sent = sent; state = b₁; out = out₁ } ≡ closes sh b out (takes sh st entries)
+      → record { refused = false; number = 0; sent = sent; state = b₁; out = out₁ } ≡ closes sh b out (takes sh st entries)
   taken out late n sent b₁ out₁ e h q k w x = all-done sh st entries b out sent b₁ out₁ (rw e at h) (rw (all-long g, ← q) k) (w .0) x (w .1)
 
   -- the look into it, where the table was filled
@@ -108,6 +110,7 @@ module _ (sh : Shape) (b msg out : List ℕ) (m : Message) (h : Header) (r : Rea
   tag = ap tagOf e
 
   here : Told (sh .n) (sh .s) m msg
+  unfolding any
   here = ready-told sh b msg m r (ap (λ (x : Message). known (tagOf x)) e)
 
   pub place-inside : (at : ℕ) → at ≡ entriesAt (sh .s) 4 → at + 4 ≤ length msg
@@ -135,7 +138,7 @@ module _ (sh : Shape) (b msg out : List ℕ) (m : Message) (h : Header) (r : Rea
     by-rule o z = sym (handled-own 4 onReplicaSync sh m b msg out tag ∙ ap (closes sh b out) z)
 
     module _ (sync : ℕ) (y : sync ≡ num b 24 8) where
-      sync-is : sync ≡ stateOf sh b .sync
+      sync-is : sync ≡ stateOf sh b .logged .sync
       sync-is = y ∙ sync-of (r .stands)
 
       pub not-longer : count ≤ sync → leaves 7 b out ≡ handled 4 onReplicaSync sh m b msg out

@@ -7,7 +7,8 @@ use Rattle.rules.specs.Entry.{without}
 use Rattle.rules.specs.Wire.{Wire}
 use Rattle.rules.specs.State.{State}
 use Rattle.rules.specs.Image.{stateOf}
-use Rattle.rules.specs.Step.{Outcome, done, within, sends, synced, staysEarly, fallsLate, slowReply}
+use Rattle.rules.specs.Step.{Outcome, done, within, sends, synced, slowReply}
+use Rattle.rules.specs.Early.{staysEarly, fallsLate}
 use Rattle.rules.specs.declared.Entry.{Entry}
 use Rattle.rules.specs.declared.Shape.{Shape}
 use Rattle.places.specs.Layout.{Stands}
@@ -15,15 +16,15 @@ use Rattle.leaving.specs.declared.Listed.{Listed}
 
 -- what is left of late, and what falls to it from early
 unfoldable pub lateBy : State → List Entry → List Entry
-lateBy st log = without log (st .late) ++ fallsLate log (st .early)
+lateBy st log = without log (st .waiting .late) ++ fallsLate log (st .waiting .early)
 
 -- the state with the log taken over
 unfoldable pub syncedBy : State → List Entry → State
-syncedBy st log = synced st log (staysEarly log (st .early)) (lateBy st log)
+syncedBy st log = synced st log (staysEarly log (st .waiting .early)) (lateBy st log)
 
 -- kind 6 for each position past the old sync point
 unfoldable pub slowReplies : State → List Entry → List Wire
-slowReplies st log = sends (λ i. slowReply st log (st .sync + i)) (below (length log - st .sync))
+slowReplies st log = sends (λ i. slowReply st log (st .logged .sync + i)) (below (length log - st .logged .sync))
 
 -- a log that is longer than the sync point and fits is taken over
 unfoldable pub takes : Shape → State → List Entry → Outcome
@@ -33,5 +34,5 @@ takes sh st log = within (sh .c) (length (lateBy st log)) (done (syncedBy st log
 pub record Coming (sh : Shape) (b msg : List ℕ) (log : Listed) : Type 0 where
   pub stands : Stands sh (stateOf sh b) b
   pub inside : log .at + 24 * log .count ≤ length msg
-  pub past : stateOf sh b .sync < log .count
+  pub past : stateOf sh b .logged .sync < log .count
   pub room : log .count ≤ sh .c

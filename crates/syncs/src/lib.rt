@@ -4,6 +4,8 @@ use rules::Answer;
 use rules::Entry;
 use rules::Message;
 use rules::Shape;
+use rules::kind;
+use rules::refusal;
 ghost use mathlib.Core.Path.{_≡_};
 ghost use mathlib.Core.Bool.{true, false};
 ghost use mathlib.Core.List.{_∷_, [], _++_};
@@ -11,7 +13,8 @@ ghost use Prim.Native.Nat.{_+_, _-_, _*_, _<_, _≤_};
 ghost use lib.ListN.{length};
 ghost use Rattle.octets.specs.Bytes.{splice, flat};
 ghost use Rattle.rules.specs.Choice.{pick, keep};
-ghost use Rattle.rules.specs.Entry.{entryOf, lastStamp};
+ghost use Rattle.rules.specs.Entry.{entryOf};
+ghost use Rattle.rules.specs.Log.{lastStamp};
 ghost use Rattle.rules.specs.Wire.{wireBytes};
 ghost use Rattle.rules.specs.Read.{lengthFor};
 ghost use Rattle.rules.specs.Step.{slowReply, onReplicaSync};
@@ -145,7 +148,7 @@ fn tell_slow(
 {
     let from = log.at + 24 * i;
     let end = from + 24;
-    let header = handler::headed(state, 6, 255, 1);
+    let header = handler::headed(state, kind::SLOW_REPLY, rules::OUTSIDE, 1);
     let reply = Message::SlowReply(header, (i + 1) as u64);
     handler::tell(shape, state, out, at, reply, &message[from..end])
 }
@@ -153,15 +156,15 @@ fn tell_slow(
 // How long the outgoing messages are: one for each position past the sync point.
 fn slow_length(shape: Shape, state: &[u8], message: &[u8], log: Listed) -> usize
     requires { ⌜ Coming shape (now state) (now message) log ⌝ }
-    ensures { λ r. ⌜ r ≡ lengthFor (shape .s) 6 1 * (log .count - stateOf shape (now (state .entry)) .sync) ⌝ }
+    ensures { λ r. ⌜ r ≡ lengthFor (shape .s) 6 1 * (log .count - stateOf shape (now (state .entry)) .logged .sync) ⌝ }
 {
     let sync = places::get_sync(state) as usize;
-    kinds::length_for(shape.s, 6, 1) * (log.count - sync)
+    kinds::length_for(shape.s, kind::SLOW_REPLY, 1) * (log.count - sync)
 }
 
 // Writes kind 6 for each position past the sync point, and says where the last ends.
 fn tell_synced(shape: Shape, state: &[u8], out: &mut [u8], message: &[u8], log: Listed) -> usize
-    requires { ⌜ Coming shape (now state) (now message) log × (lengthFor (shape .s) 6 1 * (log .count - stateOf shape (now state) .sync) ≤ length (now out)) ⌝ }
+    requires { ⌜ Coming shape (now state) (now message) log × (lengthFor (shape .s) 6 1 * (log .count - stateOf shape (now state) .logged .sync) ≤ length (now out)) ⌝ }
     ensures { λ r. ⌜ (r ≡ length (flat wireBytes (slowReplies (stateOf shape (now (state .entry))) (listedIn (now (message .entry)) log)))) × (now (out .exit) ≡ splice (now (out .entry)) 0 (flat wireBytes (slowReplies (stateOf shape (now (state .entry))) (listedIn (now (message .entry)) log)))) ⌝ }
 {
     let sync = places::get_sync(state) as usize;
@@ -192,10 +195,10 @@ fn sync_by(
     let last = octets::get64(message, log.at + 24 * (log.count - 1));
     let late = late_length(shape, state, message, log, table, last);
     if shape.c < late as u64 {
-        return Answer::Refused(8);
+        return Answer::Refused(refusal::FULL);
     }
     if out.len() < slow_length(shape, state, message, log) {
-        return Answer::Refused(9);
+        return Answer::Refused(refusal::NO_ROOM);
     }
     let sent = tell_synced(shape, state, out, message, log);
     sync_state(shape, state, message, log, table, last);
@@ -276,15 +279,15 @@ pub fn on_replica_sync(
     ensures { λ r. ⌜ left r (now (state .exit)) (now (out .exit)) ≡ handled 4 onReplicaSync shape m (now (state .entry)) (now (message .entry)) (now (out .entry)) ⌝ }
 {
     let Message::ReplicaSync(_) = m else {
-        return Answer::Refused(2);
+        return Answer::Refused(refusal::MALFORMED);
     };
-    let place = kinds::entries_at(shape.s, 4);
+    let place = kinds::entries_at(shape.s, kind::REPLICA_SYNC);
     let count = octets::get32(message, place) as usize;
     if count as u64 <= places::get_sync(state) {
-        return Answer::Refused(7);
+        return Answer::Refused(refusal::NOTHING_TO_DO);
     }
     if shape.c < count as u64 {
-        return Answer::Refused(8);
+        return Answer::Refused(refusal::FULL);
     }
     let log = Listed {
         at: place + 4,

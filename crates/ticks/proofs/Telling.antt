@@ -13,11 +13,13 @@ use Rattle.octets.proofs.Codecs.{All}
 use Rattle.rules.specs.Choice.{pick}
 use Rattle.rules.specs.Group.{only, others}
 use Rattle.rules.specs.Entry.{noEntry, entryOf}
-use Rattle.rules.specs.Wire.{bare, numbersIn, entryBytes, wireBytes, headerIn, numbersOf}
+use Rattle.rules.specs.Kind.{bare, numbersIn, rowOf}
+use Rattle.rules.specs.Wire.{entryBytes, wireBytes, headerIn, numbersOf}
 use Rattle.rules.specs.Read.{lengthFor}
-use Rattle.rules.specs.Image.{stateOf}
+use Rattle.rules.specs.Image.{stateOf, atEarly, atGVec, atLog}
 use Rattle.rules.specs.Digest.{digest}
-use Rattle.rules.specs.Step.{send, sendOut, sendLeader, sendFollowers, dueBy, unplacedReply}
+use Rattle.rules.specs.Step.{send, sendOut, sendLeader, sendFollowers, unplacedReply}
+use Rattle.rules.specs.Early.{dueOf}
 use Rattle.rules.specs.declared.Entry.{Entry}
 use Rattle.rules.specs.declared.Header.{Header}
 use Rattle.rules.specs.declared.Shape.{Shape}
@@ -35,18 +37,18 @@ use Rattle.releases.proofs.LogBytes.{log-rest, log-entry, early-entry}
 
 -- how long a message is
 pub placed-long : (s : ℕ) → lengthFor s 5 1 ≡ 72 + 4 * s
-unfolding pick
+unfolding pick rowOf
 placed-long s = omega arith
 
 pub replies-small : (s k : ℕ) → s ≤ 8 → k ≤ 4096 → lengthFor s 5 1 * k ≤ 425984
 replies-small s k a b = mul-le-mul (let z : lengthFor s 5 1 ≤ 104 = omega (arith, placed-long s) in z) b
 
 pub log-long : (s n : ℕ) → lengthFor s 4 n ≡ 24 + 4 * s + 24 * n
-unfolding pick
+unfolding pick rowOf
 log-long s n = omega arith
 
 pub status-long : (s : ℕ) → lengthFor s 10 0 ≡ 32 + 4 * s
-unfolding pick
+unfolding pick rowOf
 status-long s = omega arith
 
 one-flat : (e : Entry) → entryBytes e ≡ flat entryBytes (e ∷ [])
@@ -73,76 +75,76 @@ module _ {sh : Shape} {b : List ℕ} (m : Midway sh b) where
       (w .0 ∙ ap (λ (n : ℕ). at + n) l, w .1 ∙ ap (splice out at) q)
 
   -- ---- an entry that is placed
-  module _ (from end n : ℕ) (hf : from ≡ startOf sh 3 + (4 + 24 * n)) (he : end ≡ from + 24) (hn : n < length (stateOf sh b .log)) where
-    placed-bytes : take (end - from) (drop from b) ≡ entryBytes (entryOf (stateOf sh b .log) n)
+  module _ (from end n : ℕ) (hf : from ≡ startOf sh atLog + (4 + 24 * n)) (he : end ≡ from + 24) (hn : n < length (stateOf sh b .logged .log)) where
+    placed-bytes : take (end - from) (drop from b) ≡ entryBytes (entryOf (stateOf sh b .logged .log) n)
     placed-bytes = log-entry (m .laid) (m .state .log .room) from end n hf he hn
 
     pub placed-room : (at L : ℕ) → at + lengthFor (sh .s) 5 1 ≤ L
         → Sized sh b × (24 * (length (take (end - from) (drop from b)) / 24) ≡ length (take (end - from) (drop from b))) × (length (take (end - from) (drop from b)) ≤ 98304) × (at + (24 + 4 * sh .s + 8 * 3 + length (take (end - from) (drop from b))) ≤ L)
-    placed-room at L h = room at 3 1 L (take (end - from) (drop from b)) (ap length placed-bytes ∙ long-entry (entryOf (stateOf sh b .log) n)) (omega arith) (omega (arith, placed-long (sh .s)))
+    placed-room at L h = room at 3 1 L (take (end - from) (drop from b)) (ap length placed-bytes ∙ long-entry (entryOf (stateOf sh b .logged .log) n)) (omega arith) (omega (arith, placed-long (sh .s)))
 
     pub placed-told : (out out′ : List ℕ) (at r sum : ℕ) (h : Header) → h ≡ headedIn b 5 255 1
         → (r ≡ at + length (messageBytes sh b (FastReply h 1 (n + 1) sum) (take (end - from) (drop from b)))) × (out′ ≡ splice out at (messageBytes sh b (FastReply h 1 (n + 1) sum) (take (end - from) (drop from b))))
-        → (r ≡ at + lengthFor (sh .s) 5 1) × (out′ ≡ splice out at (wireBytes (sendOut (stateOf sh b) 5 (1 ∷ (n + 1) ∷ sum ∷ []) (entryOf (stateOf sh b .log) n))))
-    unfolding pick
+        → (r ≡ at + lengthFor (sh .s) 5 1) × (out′ ≡ splice out at (wireBytes (sendOut (stateOf sh b) 5 (1 ∷ (n + 1) ∷ sum ∷ []) (entryOf (stateOf sh b .logged .log) n))))
+    unfolding pick rowOf
     placed-told out out′ at r sum h hh w =
-        let e = entryOf (stateOf sh b .log) n in
-        said out out′ (take (end - from) (drop from b)) at r 5 255 1 (FastReply h 1 (n + 1) sum) (1 ∷ (n + 1) ∷ sum ∷ []) (e ∷ []) hh refl (placed-bytes ∙ one-flat e) (all-at EntryFits noEntry (stateOf sh b .log) (m .state .log .each) n hn, tt) refl refl w
+        let e = entryOf (stateOf sh b .logged .log) n in
+        said out out′ (take (end - from) (drop from b)) at r 5 255 1 (FastReply h 1 (n + 1) sum) (1 ∷ (n + 1) ∷ sum ∷ []) (e ∷ []) hh refl (placed-bytes ∙ one-flat e) (all-at EntryFits noEntry (stateOf sh b .logged .log) (m .state .log .each) n hn, tt) refl refl w
 
   -- ---- one that is not
-  module _ (from end i time : ℕ) (hf : from ≡ startOf sh 4 + (4 + 24 * i)) (he : end ≡ from + 24) (hi : i < length (stateOf sh b .early)) where
-    unplaced-bytes : take (end - from) (drop from b) ≡ entryBytes (entryOf (stateOf sh b .early) i)
+  module _ (from end i time : ℕ) (hf : from ≡ startOf sh atEarly + (4 + 24 * i)) (he : end ≡ from + 24) (hi : i < length (stateOf sh b .waiting .early)) where
+    unplaced-bytes : take (end - from) (drop from b) ≡ entryBytes (entryOf (stateOf sh b .waiting .early) i)
     unplaced-bytes = early-entry (m .laid) (m .state .early .room) from end i hf he hi
 
     pub unplaced-room : (L : ℕ) → lengthFor (sh .s) 5 1 ≤ L
         → Sized sh b × (24 * (length (take (end - from) (drop from b)) / 24) ≡ length (take (end - from) (drop from b))) × (length (take (end - from) (drop from b)) ≤ 98304) × (0 + (24 + 4 * sh .s + 8 * 3 + length (take (end - from) (drop from b))) ≤ L)
-    unplaced-room L h = room 0 3 1 L (take (end - from) (drop from b)) (ap length unplaced-bytes ∙ long-entry (entryOf (stateOf sh b .early) i)) (omega arith) (omega (arith, placed-long (sh .s)))
+    unplaced-room L h = room 0 3 1 L (take (end - from) (drop from b)) (ap length unplaced-bytes ∙ long-entry (entryOf (stateOf sh b .waiting .early) i)) (omega arith) (omega (arith, placed-long (sh .s)))
 
-    pub unplaced-told : (out out′ : List ℕ) (r sum : ℕ) (h : Header) → h ≡ headedIn b 5 255 1 → sum ≡ digest (stateOf sh b .log) → entryOf (stateOf sh b .early) i ≡ entryOf (dueBy time (stateOf sh b .early)) 0
+    pub unplaced-told : (out out′ : List ℕ) (r sum : ℕ) (h : Header) → h ≡ headedIn b 5 255 1 → sum ≡ digest (stateOf sh b .logged .log) → entryOf (stateOf sh b .waiting .early) i ≡ entryOf (dueOf time (stateOf sh b .waiting .early)) 0
         → (r ≡ 0 + length (messageBytes sh b (FastReply h 0 0 sum) (take (end - from) (drop from b)))) × (out′ ≡ splice out 0 (messageBytes sh b (FastReply h 0 0 sum) (take (end - from) (drop from b))))
-        → (r ≡ lengthFor (sh .s) 5 1) × (out′ ≡ splice out 0 (wireBytes (unplacedReply (stateOf sh b) (entryOf (dueBy time (stateOf sh b .early)) 0))))
-    unfolding pick unplacedReply
+        → (r ≡ lengthFor (sh .s) 5 1) × (out′ ≡ splice out 0 (wireBytes (unplacedReply (stateOf sh b) (entryOf (dueOf time (stateOf sh b .waiting .early)) 0))))
+    unfolding pick unplacedReply rowOf
     unplaced-told out out′ r sum h hh hs hd w =
-        let e = entryOf (stateOf sh b .early) i in
-        let s = said out out′ (take (end - from) (drop from b)) 0 r 5 255 1 (FastReply h 0 0 sum) (0 ∷ 0 ∷ sum ∷ []) (e ∷ []) hh refl (unplaced-bytes ∙ one-flat e) (all-at EntryFits noEntry (stateOf sh b .early) (m .state .early .each) i hi, tt) refl refl w in
+        let e = entryOf (stateOf sh b .waiting .early) i in
+        let s = said out out′ (take (end - from) (drop from b)) 0 r 5 255 1 (FastReply h 0 0 sum) (0 ∷ 0 ∷ sum ∷ []) (e ∷ []) hh refl (unplaced-bytes ∙ one-flat e) (all-at EntryFits noEntry (stateOf sh b .waiting .early) (m .state .early .each) i hi, tt) refl refl w in
         (omega (arith, s .0), s .1 ∙ rw (hs, hd))
 
   -- ---- the log, to all followers
-  module _ (from end : ℕ) (hf : from ≡ startOf sh 3 + 4) (he : end ≡ from + 24 * length (stateOf sh b .log)) where
-    whole-bytes : take (end - from) (drop from b) ≡ flat entryBytes (stateOf sh b .log)
-    whole-bytes = log-rest (m .laid) (m .state .log .room) 0 (length (stateOf sh b .log)) from (end - from) (omega arith) (omega arith) (omega arith)
+  module _ (from end : ℕ) (hf : from ≡ startOf sh atLog + 4) (he : end ≡ from + 24 * length (stateOf sh b .logged .log)) where
+    whole-bytes : take (end - from) (drop from b) ≡ flat entryBytes (stateOf sh b .logged .log)
+    whole-bytes = log-rest (m .laid) (m .state .log .room) 0 (length (stateOf sh b .logged .log)) from (end - from) (omega arith) (omega arith) (omega arith)
 
-    pub log-room : (at L : ℕ) → at + lengthFor (sh .s) 4 (length (stateOf sh b .log)) ≤ L
+    pub log-room : (at L : ℕ) → at + lengthFor (sh .s) 4 (length (stateOf sh b .logged .log)) ≤ L
         → Sized sh b × (24 * (length (take (end - from) (drop from b)) / 24) ≡ length (take (end - from) (drop from b))) × (length (take (end - from) (drop from b)) ≤ 98304) × (at + (24 + 4 * sh .s + 8 * 0 + length (take (end - from) (drop from b))) ≤ L)
     log-room at L h =
-        room at 0 (length (stateOf sh b .log)) L (take (end - from) (drop from b)) (ap length whole-bytes ∙ flat-long entryBytes 24 long-entry (stateOf sh b .log))
-        (omega (arith, m .state .log .room, m .fits .small)) (omega (arith, log-long (sh .s) (length (stateOf sh b .log))))
+        room at 0 (length (stateOf sh b .logged .log)) L (take (end - from) (drop from b)) (ap length whole-bytes ∙ flat-long entryBytes 24 long-entry (stateOf sh b .logged .log))
+        (omega (arith, m .state .log .room, m .fits .small)) (omega (arith, log-long (sh .s) (length (stateOf sh b .logged .log))))
 
     pub log-told : (out out′ : List ℕ) (at r g own t : ℕ) (h : Header) → g ≡ num b 0 1 → own ≡ num b 1 1 → t ≡ others (sh .n) own → h ≡ headedIn b 4 g t
         → (r ≡ at + length (messageBytes sh b (ReplicaSync h) (take (end - from) (drop from b)))) × (out′ ≡ splice out at (messageBytes sh b (ReplicaSync h) (take (end - from) (drop from b))))
-        → (r ≡ at + lengthFor (sh .s) 4 (length (stateOf sh b .log))) × (out′ ≡ splice out at (wireBytes (sendFollowers sh (stateOf sh b) 4 (stateOf sh b .log))))
-    unfolding pick
+        → (r ≡ at + lengthFor (sh .s) 4 (length (stateOf sh b .logged .log))) × (out′ ≡ splice out at (wireBytes (sendFollowers sh (stateOf sh b) 4 (stateOf sh b .logged .log))))
+    unfolding pick rowOf
     log-told out out′ at r g own t h hg ho ht hh w =
         let st = stateOf sh b in
-        let y : headedIn b 4 g t ≡ headedIn b 4 (st .group) (others (sh .n) (st .replica)) = rw (hg ∙ own-group (m .laid) (sender (m .state)), ht ∙ ap (others (sh .n)) (ho ∙ own-replica (m .laid) (sender (m .state)))) in
-        said out out′ (take (end - from) (drop from b)) at r 4 (st .group) (others (sh .n) (st .replica)) (ReplicaSync h) [] (st .log) (hh ∙ y) refl whole-bytes (m .state .log .each) refl refl w
+        let y : headedIn b 4 g t ≡ headedIn b 4 (st .site .group) (others (sh .n) (st .site .replica)) = rw (hg ∙ own-group (m .laid) (sender (m .state)), ht ∙ ap (others (sh .n)) (ho ∙ own-replica (m .laid) (sender (m .state)))) in
+        said out out′ (take (end - from) (drop from b)) at r 4 (st .site .group) (others (sh .n) (st .site .replica)) (ReplicaSync h) [] (st .logged .log) (hh ∙ y) refl whole-bytes (m .state .log .each) refl refl w
 
   -- ---- the sync point, to the leader
-  pub sync-in : num b 24 8 ≡ stateOf sh b .sync
-  sync-in = get-head (m .laid) 7 24 8 (stateOf sh b .sync) (lit< tt) (simp length-le) (lit≤ tt) refl (m .state .sync)
+  pub sync-in : num b 24 8 ≡ stateOf sh b .logged .sync
+  sync-in = get-head (m .laid) 7 24 8 (stateOf sh b .logged .sync) (lit< tt) (simp length-le) (lit≤ tt) refl (m .state .sync)
 
   pub status-room : (at L : ℕ) → at + lengthFor (sh .s) 10 0 ≤ L
       → Sized sh b × (24 * (length (take (0 - 0) (drop 0 b)) / 24) ≡ length (take (0 - 0) (drop 0 b))) × (length (take (0 - 0) (drop 0 b)) ≤ 98304) × (at + (24 + 4 * sh .s + 8 * 1 + length (take (0 - 0) (drop 0 b))) ≤ L)
   status-room at L h = room at 1 0 L (take (0 - 0) (drop 0 b)) refl (omega arith) (omega (arith, status-long (sh .s)))
 
-  pub status-told : (out out′ : List ℕ) (at r g own view t sync : ℕ) (h : Header) → g ≡ num b 0 1 → own ≡ num b 0 1 → view ≡ num b (startOf sh 1 + 4 * own) 4 → t ≡ only (view % sh .n) → sync ≡ num b 24 8 → h ≡ headedIn b 10 g t
+  pub status-told : (out out′ : List ℕ) (at r g own view t sync : ℕ) (h : Header) → g ≡ num b 0 1 → own ≡ num b 0 1 → view ≡ num b (startOf sh atGVec + 4 * own) 4 → t ≡ only (view % sh .n) → sync ≡ num b 24 8 → h ≡ headedIn b 10 g t
       → (r ≡ at + length (messageBytes sh b (SyncStatus h sync) (take (0 - 0) (drop 0 b)))) × (out′ ≡ splice out at (messageBytes sh b (SyncStatus h sync) (take (0 - 0) (drop 0 b))))
-      → (r ≡ at + lengthFor (sh .s) 10 0) × (out′ ≡ splice out at (wireBytes (sendLeader sh (stateOf sh b) 10 (stateOf sh b .group) (stateOf sh b .sync ∷ []) [])))
-  unfolding pick flat
+      → (r ≡ at + lengthFor (sh .s) 10 0) × (out′ ≡ splice out at (wireBytes (sendLeader sh (stateOf sh b) 10 (stateOf sh b .site .group) (stateOf sh b .logged .sync ∷ []) [])))
+  unfolding pick flat rowOf
   status-told out out′ at r g own view t sync h hg ho hv ht hs hh w =
       let st = stateOf sh b in
-      let a : own ≡ st .group = ho ∙ own-group (m .laid) (sender (m .state)) in
-      let v : view ≡ getD (st .gVec) (st .group) 0 = hv ∙ ap (λ (j : ℕ). num b (startOf sh 1 + 4 * j) 4) a ∙ view-in (m .laid) (sender (m .state)) (st .group) (m .group) in
-      let y : headedIn b 10 g t ≡ headedIn b 10 (st .group) (only (getD (st .gVec) (st .group) 0 % sh .n)) = rw (hg ∙ own-group (m .laid) (sender (m .state)), ht ∙ ap (λ (x : ℕ). only (x % sh .n)) v) in
-      let n : sync ≡ st .sync = hs ∙ sync-in in
-      said out out′ (take (0 - 0) (drop 0 b)) at r 10 (st .group) (only (getD (st .gVec) (st .group) 0 % sh .n)) (SyncStatus h sync) (st .sync ∷ []) [] (hh ∙ y) (ap (λ (x : ℕ). x ∷ []) n) refl tt refl refl w
+      let a : own ≡ st .site .group = ho ∙ own-group (m .laid) (sender (m .state)) in
+      let v : view ≡ getD (st .view .gVec) (st .site .group) 0 = hv ∙ ap (λ (j : ℕ). num b (startOf sh atGVec + 4 * j) 4) a ∙ view-in (m .laid) (sender (m .state)) (st .site .group) (m .group) in
+      let y : headedIn b 10 g t ≡ headedIn b 10 (st .site .group) (only (getD (st .view .gVec) (st .site .group) 0 % sh .n)) = rw (hg ∙ own-group (m .laid) (sender (m .state)), ht ∙ ap (λ (x : ℕ). only (x % sh .n)) v) in
+      let n : sync ≡ st .logged .sync = hs ∙ sync-in in
+      said out out′ (take (0 - 0) (drop 0 b)) at r 10 (st .site .group) (only (getD (st .view .gVec) (st .site .group) 0 % sh .n)) (SyncStatus h sync) (st .logged .sync ∷ []) [] (hh ∙ y) (ap (λ (x : ℕ). x ∷ []) n) refl tt refl refl w

@@ -7,13 +7,15 @@ use native.Mathlib.Omega.{arith}
 use lib.ListN.{getD}
 use borrow.Author.Tests.{lt-ltb, le-ltb}
 use Rattle.octets.specs.Bytes.{num}
-use Rattle.rules.specs.Choice.{pick, leading}
-use Rattle.rules.specs.Wire.{Wire, known, tagOf, numbersOf}
+use Rattle.rules.specs.Choice.{pick, leading, any}
+use Rattle.rules.specs.Wire.{Wire, tagOf, numbersOf}
+use Rattle.rules.specs.Kind.{known}
 use Rattle.rules.specs.Wire as wires
 use Rattle.rules.specs.Read.{wireIn}
 use Rattle.rules.specs.State.{State, leads, agreed}
 use Rattle.rules.specs.Image.{stateOf}
-use Rattle.rules.specs.Step.{Outcome, refused, dueBy, leaderReleases, followerReleases, onTick}
+use Rattle.rules.specs.Step.{Outcome, refused, leaderReleases, followerReleases, onTick}
+use Rattle.rules.specs.Early.{dueOf}
 use Rattle.rules.specs.Bytes.{Left, leaves, closes}
 use Rattle.rules.specs.declared.Header.{Header}
 use Rattle.rules.specs.declared.Shape.{Shape}
@@ -30,11 +32,11 @@ module _ (sh : Shape) (st : State) (w : Wire) (t : ℕ) (e : wires.number w 0 �
   unfolding onTick pick
   below-clock h = rw (e, lt-ltb t (st .clock) h)
 
-  at-leader : st .clock ≤ t → leads sh st ≡ true → onTick sh st w ≡ leaderReleases sh st t (dueBy t (st .early)) (leading (agreed sh (st .notes)) (dueBy t (st .early)))
+  at-leader : st .clock ≤ t → leads sh st ≡ true → onTick sh st w ≡ leaderReleases sh st t (dueOf t (st .waiting .early)) (leading (agreed sh (st .waiting .notes)) (dueOf t (st .waiting .early)))
   unfolding onTick pick
   at-leader h l = rw (e, le-ltb t (st .clock) h, l)
 
-  at-follower : st .clock ≤ t → leads sh st ≡ false → onTick sh st w ≡ followerReleases sh st t (dueBy t (st .early))
+  at-follower : st .clock ≤ t → leads sh st ≡ false → onTick sh st w ≡ followerReleases sh st t (dueOf t (st .waiting .early))
   unfolding onTick pick
   at-follower h l = rw (e, le-ltb t (st .clock) h, l)
 
@@ -43,7 +45,7 @@ module _ (sh : Shape) (b msg out : List ℕ) (m : Message) (h : Header) (t : ℕ
   st = stateOf sh b
 
   time-is : wires.number (wireIn (sh .s) msg) 0 ≡ t
-  unfolding pick
+  unfolding pick any
   time-is =
       told-number (sh .n) (sh .s) m msg (ready-told sh b msg m r (ap (λ (x : Message). known (tagOf x)) e)) 0
       ∙ ap (λ (x : Message). getD (numbersOf x) 0 0) e
@@ -58,12 +60,12 @@ module _ (sh : Shape) (b msg out : List ℕ) (m : Message) (h : Header) (t : ℕ
         sym (by-rule (refused 7) (below-clock sh st _ t time-is q) ∙ closes-refused sh b out 7)
 
     module _ (g : c ≤ t) (l : Bool) (d : l ≡ leads sh st) where
-      pub led : l ≡ true → (x : Left) → x ≡ closes sh b out (leaderReleases sh st t (dueBy t (st .early)) (leading (agreed sh (st .notes)) (dueBy t (st .early)))) → x ≡ handled 23 onTick sh m b msg out
+      pub led : l ≡ true → (x : Left) → x ≡ closes sh b out (leaderReleases sh st t (dueOf t (st .waiting .early)) (leading (agreed sh (st .waiting .notes)) (dueOf t (st .waiting .early)))) → x ≡ handled 23 onTick sh m b msg out
       led y x w =
           let q : st .clock ≤ t = omega (arith, clock-of (r .stands)) in
           w ∙ sym (by-rule _ (at-leader sh st _ t time-is q (sym d ∙ y)))
 
-      pub followed : l ≡ false → (x : Left) → x ≡ closes sh b out (followerReleases sh st t (dueBy t (st .early))) → x ≡ handled 23 onTick sh m b msg out
+      pub followed : l ≡ false → (x : Left) → x ≡ closes sh b out (followerReleases sh st t (dueOf t (st .waiting .early))) → x ≡ handled 23 onTick sh m b msg out
       followed y x w =
           let q : st .clock ≤ t = omega (arith, clock-of (r .stands)) in
           w ∙ sym (by-rule _ (at-follower sh st _ t time-is q (sym d ∙ y)))

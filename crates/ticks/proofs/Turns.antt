@@ -8,14 +8,16 @@ use lib.ListN.{length, take, drop, length-append}
 use lib.Seq.{getD-append-add, getD-take, length-take-le}
 use Rattle.octets.specs.Bytes.{flat, splice}
 use Rattle.octets.proofs.Laws.{length-splice, splice-none, splice-next}
-use Rattle.rules.specs.Choice.{below}
+use Rattle.rules.specs.Kind.{rowOf}
+use Rattle.rules.specs.Choice.{below, pick}
 use Rattle.rules.specs.Entry.{noEntry, entryOf, without}
 use Rattle.rules.specs.Wire.{wireBytes}
 use Rattle.rules.specs.Read.{lengthFor}
 use Rattle.rules.specs.Digest.{digest}
 use Rattle.rules.specs.State.{State}
 use Rattle.rules.specs.Image.{stateOf}
-use Rattle.rules.specs.Step.{sends, sendOut, dueBy, notesWithout, placedReplies}
+use Rattle.rules.specs.Step.{sends, sendOut, placedReplies}
+use Rattle.rules.specs.Early.{dueOf, notesWithout}
 use Rattle.rules.specs.declared.Entry.{Entry}
 use Rattle.rules.specs.declared.Shape.{Shape}
 use Rattle.places.specs.With.{withLog, withEarly, withNotes}
@@ -49,60 +51,60 @@ module _ {sh : Shape} {b₀ : List ℕ} (m : Midway sh b₀) (out₀ : List ℕ)
         long = refl;
       }
 
-  pub sum-start : (sum : ℕ) → sum ≡ digest (st .log) → sum ≡ digest (st .log ++ take 0 ds)
-  sum-start sum e = e ∙ ap digest (sym (append-nil (st .log)))
+  pub sum-start : (sum : ℕ) → sum ≡ digest (st .logged .log) → sum ≡ digest (st .logged .log ++ take 0 ds)
+  sum-start sum e = e ∙ ap digest (sym (append-nil (st .logged .log)))
 
-  module _ (n k : ℕ) (hn : n ≡ length (st .log)) (hk : k ≤ length ds) (hc : n + k ≤ sh .c) (ho : lengthFor (sh .s) 5 1 * k ≤ length out₀)
-      (i at sum : ℕ) {b out : List ℕ} (l : i < k) (r : Appended sh b₀ out₀ time i at b out) (hs : sum ≡ digest (st .log ++ take i ds)) where
+  module _ (n k : ℕ) (hn : n ≡ length (st .logged .log)) (hk : k ≤ length ds) (hc : n + k ≤ sh .c) (ho : lengthFor (sh .s) 5 1 * k ≤ length out₀)
+      (i at sum : ℕ) {b out : List ℕ} (l : i < k) (r : Appended sh b₀ out₀ time i at b out) (hs : sum ≡ digest (st .logged .log ++ take i ds)) where
     less : i < length ds
     less = omega arith
 
-    long-log : (j : ℕ) → j ≤ length ds → length (st .log ++ take j ds) ≡ n + j
-    long-log j h = length-append (st .log) (take j ds) ∙ ap (λ (x : ℕ). length (st .log) + x) (length-take-le j ds h) ∙ ap (λ (x : ℕ). x + j) (sym hn)
+    long-log : (j : ℕ) → j ≤ length ds → length (st .logged .log ++ take j ds) ≡ n + j
+    long-log j h = length-append (st .logged .log) (take j ds) ∙ ap (λ (x : ℕ). length (st .logged .log) + x) (length-take-le j ds h) ∙ ap (λ (x : ℕ). x + j) (sym hn)
 
     -- what the next release asks for
-    pub turn-asks : Midway sh b × (n + i ≡ length (stateOf sh b .log)) × (n + i < sh .c) × (i < length (dueBy time (stateOf sh b .early))) × (drop n (stateOf sh b .log) ≡ take i (dueBy time (stateOf sh b .early))) × (sum ≡ digest (stateOf sh b .log))
+    pub turn-asks : Midway sh b × (n + i ≡ length (stateOf sh b .logged .log)) × (n + i < sh .c) × (i < length (dueOf time (stateOf sh b .waiting .early))) × (drop n (stateOf sh b .logged .log) ≡ take i (dueOf time (stateOf sh b .waiting .early))) × (sum ≡ digest (stateOf sh b .logged .log))
     turn-asks =
         let e : stateOf sh b ≡ longer st time i = r .reached .is in
-        let a : length (stateOf sh b .log) ≡ n + i = ap (λ (x : State). length (x .log)) e ∙ long-log i (omega (arith, less)) in
-        let d : length (dueBy time (stateOf sh b .early)) ≡ length ds = ap (λ (x : State). length (dueBy time (x .early))) e in
-        let g : drop n (stateOf sh b .log) ≡ take i (dueBy time (stateOf sh b .early)) = ap (λ (x : State). drop n (x .log)) e ∙ longer-rest st time n i hn ∙ ap (λ (x : State). take i (dueBy time (x .early))) (sym e) in
-        (r .reached .midway, sym a, omega arith, omega (arith, less), g, hs ∙ ap (λ (x : State). digest (x .log)) (sym e))
+        let a : length (stateOf sh b .logged .log) ≡ n + i = ap (λ (x : State). length (x .logged .log)) e ∙ long-log i (omega (arith, less)) in
+        let d : length (dueOf time (stateOf sh b .waiting .early)) ≡ length ds = ap (λ (x : State). length (dueOf time (x .waiting .early))) e in
+        let g : drop n (stateOf sh b .logged .log) ≡ take i (dueOf time (stateOf sh b .waiting .early)) = ap (λ (x : State). drop n (x .logged .log)) e ∙ longer-rest st time n i hn ∙ ap (λ (x : State). take i (dueOf time (x .waiting .early))) (sym e) in
+        (r .reached .midway, sym a, omega arith, omega (arith, less), g, hs ∙ ap (λ (x : State). digest (x .logged .log)) (sym e))
 
     module _ (sum₁ : ℕ) {b₁ : List ℕ}
-        (w : Reaches sh (withLog (stateOf sh b) (stateOf sh b .log ++ (entryOf (dueBy time (stateOf sh b .early)) i ∷ []))) b₁)
-        (hs₁ : sum₁ ≡ digest (stateOf sh b .log ++ (entryOf (dueBy time (stateOf sh b .early)) i ∷ []))) where
+        (w : Reaches sh (withLog (stateOf sh b) (stateOf sh b .logged .log ++ (entryOf (dueOf time (stateOf sh b .waiting .early)) i ∷ []))) b₁)
+        (hs₁ : sum₁ ≡ digest (stateOf sh b .logged .log ++ (entryOf (dueOf time (stateOf sh b .waiting .early)) i ∷ []))) where
       -- the state once it is there
       next-is : stateOf sh b₁ ≡ longer st time (i + 1)
-      next-is = w .is ∙ ap (λ (x : State). withLog x (x .log ++ (entryOf (dueBy time (x .early)) i ∷ []))) (r .reached .is) ∙ longer-next st time i less
+      next-is = w .is ∙ ap (λ (x : State). withLog x (x .logged .log ++ (entryOf (dueOf time (x .waiting .early)) i ∷ []))) (r .reached .is) ∙ longer-next st time i less
 
-      next-log : stateOf sh b₁ .log ≡ st .log ++ take (i + 1) ds
-      next-log = ap (λ (x : State). x .log) next-is
+      next-log : stateOf sh b₁ .logged .log ≡ st .logged .log ++ take (i + 1) ds
+      next-log = ap (λ (x : State). x .logged .log) next-is
 
-      next-sum : sum₁ ≡ digest (st .log ++ take (i + 1) ds)
-      next-sum = hs₁ ∙ ap (λ (x : State). digest (x .log ++ (entryOf (dueBy time (x .early)) i ∷ []))) (r .reached .is) ∙ ap digest (longer-log st time i less)
+      next-sum : sum₁ ≡ digest (st .logged .log ++ take (i + 1) ds)
+      next-sum = hs₁ ∙ ap (λ (x : State). digest (x .logged .log ++ (entryOf (dueOf time (x .waiting .early)) i ∷ []))) (r .reached .is) ∙ ap digest (longer-log st time i less)
 
-      next-entry : entryOf (stateOf sh b₁ .log) (n + i) ≡ entryOf ds i
-      next-entry = ap (λ (es : List Entry). entryOf es (n + i)) next-log ∙ rw hn (getD-append-add (st .log) (take (i + 1) ds) i noEntry) ∙ taken-at i
+      next-entry : entryOf (stateOf sh b₁ .logged .log) (n + i) ≡ entryOf ds i
+      next-entry = ap (λ (es : List Entry). entryOf es (n + i)) next-log ∙ rw hn (getD-append-add (st .logged .log) (take (i + 1) ds) i noEntry) ∙ taken-at i
         where
           taken-at : (j : ℕ) → entryOf (take (j + 1) ds) j ≡ entryOf ds j
           taken-at j = let z : j < j + 1 = omega arith in rw getD-take
 
       -- what its reply asks for
-      pub turn-tells : Midway sh b₁ × (n + i < length (stateOf sh b₁ .log)) × (at + lengthFor (sh .s) 5 1 ≤ length out)
+      pub turn-tells : Midway sh b₁ × (n + i < length (stateOf sh b₁ .logged .log)) × (at + lengthFor (sh .s) 5 1 ≤ length out)
       turn-tells =
-          let a : length (stateOf sh b₁ .log) ≡ n + (i + 1) = ap length next-log ∙ long-log (i + 1) (omega (arith, less)) in
+          let a : length (stateOf sh b₁ .logged .log) ≡ n + (i + 1) = ap length next-log ∙ long-log (i + 1) (omega (arith, less)) in
           (w .midway, omega arith, omega (arith, within (lengthFor (sh .s) 5 1) i k l, r .end, r .long))
 
       -- one more is there
       pub turn-next : (at₁ : ℕ) (out₁ : List ℕ)
-          → (at₁ ≡ at + lengthFor (sh .s) 5 1) × (out₁ ≡ splice out at (wireBytes (sendOut (stateOf sh b₁) 5 (1 ∷ (n + i + 1) ∷ sum₁ ∷ []) (entryOf (stateOf sh b₁ .log) (n + i)))))
-          → Appended sh b₀ out₀ time (i + 1) at₁ b₁ out₁ × (sum₁ ≡ digest (st .log ++ take (i + 1) ds))
+          → (at₁ ≡ at + lengthFor (sh .s) 5 1) × (out₁ ≡ splice out at (wireBytes (sendOut (stateOf sh b₁) 5 (1 ∷ (n + i + 1) ∷ sum₁ ∷ []) (entryOf (stateOf sh b₁ .logged .log) (n + i)))))
+          → Appended sh b₀ out₀ time (i + 1) at₁ b₁ out₁ × (sum₁ ≡ digest (st .logged .log ++ take (i + 1) ds))
       turn-next at₁ out₁ (p, q) =
           let L = lengthFor (sh .s) 5 1 in
           let x = flat wireBytes (placedReplies st (take i ds)) in
-          let y = wireBytes (sendOut st 5 (1 ∷ (length (st .log) + i + 1) ∷ digest (st .log ++ take (i + 1) ds) ∷ []) (entryOf ds i)) in
-          let s : wireBytes (sendOut (stateOf sh b₁) 5 (1 ∷ (n + i + 1) ∷ sum₁ ∷ []) (entryOf (stateOf sh b₁ .log) (n + i))) ≡ y = rw (next-entry, next-sum, next-is, hn) in
+          let y = wireBytes (sendOut st 5 (1 ∷ (length (st .logged .log) + i + 1) ∷ digest (st .logged .log ++ take (i + 1) ds) ∷ []) (entryOf ds i)) in
+          let s : wireBytes (sendOut (stateOf sh b₁) 5 (1 ∷ (n + i + 1) ∷ sum₁ ∷ []) (entryOf (stateOf sh b₁ .logged .log) (n + i))) ≡ y = rw (next-entry, next-sum, next-is, hn) in
           let lx : length x ≡ L * i = replies-length st ds (sh .s) (m .state .gVecPlaces) i (omega (arith, less)) in
           let ln : length (flat wireBytes (placedReplies st (take (i + 1) ds))) ≡ L * (i + 1) = replies-length st ds (sh .s) (m .state .gVecPlaces) (i + 1) (omega (arith, less)) in
           let g : L * i + L ≤ L * k = within L i k l in
@@ -119,11 +121,11 @@ module _ {sh : Shape} {b₀ : List ℕ} (m : Midway sh b₀) (out₀ : List ℕ)
           )
 
   -- all are there: what is asked for them to leave, and all are released
-  module _ (n k i at : ℕ) {b out : List ℕ} (hn : n ≡ length (st .log)) (hk : k ≤ length ds) (l : i ≤ k) (h : k ≤ i) (r : Appended sh b₀ out₀ time i at b out) where
-    pub leave-asks : Midway sh b × (n + k ≡ length (stateOf sh b .log))
+  module _ (n k i at : ℕ) {b out : List ℕ} (hn : n ≡ length (st .logged .log)) (hk : k ≤ length ds) (l : i ≤ k) (h : k ≤ i) (r : Appended sh b₀ out₀ time i at b out) where
+    pub leave-asks : Midway sh b × (n + k ≡ length (stateOf sh b .logged .log))
     leave-asks =
         let e : i ≡ k = omega arith in
-        let a : length (stateOf sh b .log) ≡ length (st .log) + i = ap (λ (x : State). length (x .log)) (r .reached .is) ∙ length-append (st .log) (take i ds) ∙ ap (λ (x : ℕ). length (st .log) + x) (length-take-le i ds (omega arith)) in
+        let a : length (stateOf sh b .logged .log) ≡ length (st .logged .log) + i = ap (λ (x : State). length (x .logged .log)) (r .reached .is) ∙ length-append (st .logged .log) (take i ds) ∙ ap (λ (x : ℕ). length (st .logged .log) + x) (length-take-le i ds (omega arith)) in
         (r .reached .midway, omega arith)
 
     pub turn-end : (b₁ : List ℕ) → Cleared sh b n b₁ → Released sh b₀ out₀ time k at b₁ out
@@ -133,7 +135,7 @@ module _ {sh : Shape} {b₀ : List ℕ} (m : Midway sh b₀) (out₀ : List ℕ)
         (record {
           reached =
               record {
-                is = w .is ∙ ap (λ (x : State). withNotes (withEarly x (without (drop n (x .log)) (x .early))) (notesWithout (drop n (x .log)) (x .notes))) (r .reached .is) ∙ longer-released st time n i hn;
+                is = w .is ∙ ap (λ (x : State). withNotes (withEarly x (without (drop n (x .logged .log)) (x .waiting .early))) (notesWithout (drop n (x .logged .log)) (x .waiting .notes))) (r .reached .is) ∙ longer-released st time n i hn;
                 midway = w .midway;
               };
           end = r .end;

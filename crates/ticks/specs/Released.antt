@@ -7,13 +7,14 @@ use Rattle.octets.specs.Bytes.{flat, splice}
 use Rattle.rules.specs.Image.{stateOf}
 use Rattle.rules.specs.Wire.{wireBytes}
 use Rattle.rules.specs.Read.{lengthFor}
-use Rattle.rules.specs.Step.{dueBy, released, placedReplies}
+use Rattle.rules.specs.Early.{dueOf}
+use Rattle.rules.specs.Step.{released, placedReplies}
 use Rattle.rules.specs.declared.Shape.{Shape}
 use Rattle.releases.specs.Midway.{Reaches}
 
 -- from the state in b, once the first k entries due by a time are released: the state, and the replies, which end at r
 pub record Released (sh : Shape) (b out : List ℕ) (time k r : ℕ) (b′ out′ : List ℕ) : Type 0 where
-  pub reached : Reaches sh (released (stateOf sh b) (stateOf sh b .clock) (stateOf sh b .sync) (take k (dueBy time (stateOf sh b .early)))) b′
+  pub reached : Reaches sh (released (stateOf sh b) (stateOf sh b .clock) (stateOf sh b .logged .sync) (take k (dueOf time (stateOf sh b .waiting .early)))) b′
   pub end : r ≡ lengthFor (sh .s) 5 1 * k
-  pub replies : out′ ≡ splice out 0 (flat wireBytes (placedReplies (stateOf sh b) (take k (dueBy time (stateOf sh b .early)))))
+  pub replies : out′ ≡ splice out 0 (flat wireBytes (placedReplies (stateOf sh b) (take k (dueOf time (stateOf sh b .waiting .early)))))
   pub long : length out′ ≡ length out

@@ -2,6 +2,8 @@
 use rules::Answer;
 use rules::Message;
 use rules::Shape;
+use rules::kind;
+use rules::refusal;
 ghost use mathlib.Core.Path.{_≡_};
 ghost use mathlib.Core.List.{[], _∷_};
 ghost use Prim.Native.Nat.{_+_, _-_, _*_, _<_, _≤_, min};
@@ -12,7 +14,8 @@ ghost use Rattle.rules.specs.Wire.{wireBytes};
 ghost use Rattle.rules.specs.Read.{lengthFor};
 ghost use Rattle.rules.specs.State.{agreed};
 ghost use Rattle.rules.specs.Image.{image, stateOf};
-ghost use Rattle.rules.specs.Step.{sendOut, sendLeader, sendFollowers, dueBy, unplacedReply, leaderReleases, followerReleases, onTick};
+ghost use Rattle.rules.specs.Step.{sendOut, sendLeader, sendFollowers, unplacedReply, leaderReleases, followerReleases, onTick};
+ghost use Rattle.rules.specs.Early.{dueOf};
 ghost use Rattle.rules.specs.Bytes.{left, closes};
 ghost use Rattle.rules.specs.Entry.{entryOf};
 ghost use Rattle.places.specs.With.{withClock, withSync};
@@ -24,47 +27,62 @@ ghost use Rattle.ticks.specs.Released.{Released};
 
 // Writes at `at` that entry n of the log is placed: its position, and the digest of the log up to it. Says where the message ends.
 fn tell_placed(shape: Shape, state: &[u8], out: &mut [u8], at: usize, n: usize, sum: u64) -> usize
-    requires { ⌜ Midway shape (now state) × (n < length (stateOf shape (now state) .log)) × (at + lengthFor (shape .s) 5 1 ≤ length (now out)) ⌝ }
-    ensures { λ r. ⌜ (r ≡ at + lengthFor (shape .s) 5 1) × (now (out .exit) ≡ splice (now (out .entry)) at (wireBytes (sendOut (stateOf shape (now (state .entry))) 5 (1 ∷ (n + 1) ∷ sum ∷ []) (entryOf (stateOf shape (now (state .entry)) .log) n)))) ⌝ }
+    requires { ⌜ Midway shape (now state) × (n < length (stateOf shape (now state) .logged .log)) × (at + lengthFor (shape .s) 5 1 ≤ length (now out)) ⌝ }
+    ensures { λ r. ⌜ (r ≡ at + lengthFor (shape .s) 5 1) × (now (out .exit) ≡ splice (now (out .entry)) at (wireBytes (sendOut (stateOf shape (now (state .entry))) 5 (1 ∷ (n + 1) ∷ sum ∷ []) (entryOf (stateOf shape (now (state .entry)) .logged .log) n)))) ⌝ }
 {
     let from = releases::log_place(shape, n);
     let end = from + 24;
-    let m = Message::FastReply(handler::headed(state, 5, 255, 1), 1, (n + 1) as u64, sum);
+    let m = Message::FastReply(
+        handler::headed(state, kind::FAST_REPLY, rules::OUTSIDE, 1),
+        1,
+        (n + 1) as u64,
+        sum,
+    );
     handler::tell(shape, state, out, at, m, &state[from..end])
 }
 
 // Writes from the start of the outgoing buffer on that the first entry due by a time is not placed, with the digest of the log. Says where the message ends.
 fn tell_unplaced(shape: Shape, state: &[u8], out: &mut [u8], time: u64) -> usize
-    requires { ⌜ Midway shape (now state) × (0 < length (dueBy time (stateOf shape (now state) .early))) × (lengthFor (shape .s) 5 1 ≤ length (now out)) ⌝ }
-    ensures { λ r. ⌜ (r ≡ lengthFor (shape .s) 5 1) × (now (out .exit) ≡ splice (now (out .entry)) 0 (wireBytes (unplacedReply (stateOf shape (now (state .entry))) (entryOf (dueBy time (stateOf shape (now (state .entry)) .early)) 0)))) ⌝ }
+    requires { ⌜ Midway shape (now state) × (0 < length (dueOf time (stateOf shape (now state) .waiting .early))) × (lengthFor (shape .s) 5 1 ≤ length (now out)) ⌝ }
+    ensures { λ r. ⌜ (r ≡ lengthFor (shape .s) 5 1) × (now (out .exit) ≡ splice (now (out .entry)) 0 (wireBytes (unplacedReply (stateOf shape (now (state .entry))) (entryOf (dueOf time (stateOf shape (now (state .entry)) .waiting .early)) 0)))) ⌝ }
 {
     let from = releases::early_place(shape, releases::first_due(shape, state, time));
     let end = from + 24;
     let sum = releases::log_digest(shape, state);
-    let m = Message::FastReply(handler::headed(state, 5, 255, 1), 0, 0, sum);
+    let m = Message::FastReply(
+        handler::headed(state, kind::FAST_REPLY, rules::OUTSIDE, 1),
+        0,
+        0,
+        sum,
+    );
     handler::tell(shape, state, out, 0, m, &state[from..end])
 }
 
 // Writes the log at `at`, to all followers. Says where the message ends.
 fn tell_log(shape: Shape, state: &[u8], out: &mut [u8], at: usize) -> usize
-    requires { ⌜ Midway shape (now state) × (at + lengthFor (shape .s) 4 (length (stateOf shape (now state) .log)) ≤ length (now out)) ⌝ }
-    ensures { λ r. ⌜ (r ≡ at + lengthFor (shape .s) 4 (length (stateOf shape (now (state .entry)) .log))) × (now (out .exit) ≡ splice (now (out .entry)) at (wireBytes (sendFollowers shape (stateOf shape (now (state .entry))) 4 (stateOf shape (now (state .entry)) .log)))) ⌝ }
+    requires { ⌜ Midway shape (now state) × (at + lengthFor (shape .s) 4 (length (stateOf shape (now state) .logged .log)) ≤ length (now out)) ⌝ }
+    ensures { λ r. ⌜ (r ≡ at + lengthFor (shape .s) 4 (length (stateOf shape (now (state .entry)) .logged .log))) × (now (out .exit) ≡ splice (now (out .entry)) at (wireBytes (sendFollowers shape (stateOf shape (now (state .entry))) 4 (stateOf shape (now (state .entry)) .logged .log)))) ⌝ }
 {
     let from = places::places_of(shape).log + 4;
     let end = from + 24 * releases::log_length(shape, state);
     let others = group::others(shape.n, places::get_replica(state));
-    let m = Message::ReplicaSync(handler::headed(state, 4, octets::get8(state, 0), others));
+    let m = Message::ReplicaSync(handler::headed(
+        state,
+        kind::REPLICA_SYNC,
+        octets::get8(state, 0),
+        others,
+    ));
     handler::tell(shape, state, out, at, m, &state[from..end])
 }
 
 // Writes the sync point at `at`, to the leader of the own group. Says where the message ends.
 fn tell_status(shape: Shape, state: &[u8], out: &mut [u8], at: usize) -> usize
     requires { ⌜ Midway shape (now state) × (at + lengthFor (shape .s) 10 0 ≤ length (now out)) ⌝ }
-    ensures { λ r. ⌜ (r ≡ at + lengthFor (shape .s) 10 0) × (now (out .exit) ≡ splice (now (out .entry)) at (wireBytes (sendLeader shape (stateOf shape (now (state .entry))) 10 (stateOf shape (now (state .entry)) .group) (stateOf shape (now (state .entry)) .sync ∷ []) []))) ⌝ }
+    ensures { λ r. ⌜ (r ≡ at + lengthFor (shape .s) 10 0) × (now (out .exit) ≡ splice (now (out .entry)) at (wireBytes (sendLeader shape (stateOf shape (now (state .entry))) 10 (stateOf shape (now (state .entry)) .site .group) (stateOf shape (now (state .entry)) .logged .sync ∷ []) []))) ⌝ }
 {
     let view = places::view_at(shape, state, places::get_group(state));
     let leader = group::only(view as u64 % shape.n);
-    let header = handler::headed(state, 10, octets::get8(state, 0), leader);
+    let header = handler::headed(state, kind::SYNC_STATUS, octets::get8(state, 0), leader);
     let m = Message::SyncStatus(header, places::get_sync(state));
     handler::tell(shape, state, out, at, m, &state[0..0])
 }
@@ -73,7 +91,7 @@ fn tell_status(shape: Shape, state: &[u8], out: &mut [u8], at: usize) -> usize
 
 // Releases the first k entries due by a time, each with its reply, from the start of the outgoing buffer on: one after the other to the log, then all at once out of early and the notes. Says where the last reply ends. n is the log's length.
 fn release(shape: Shape, state: &mut [u8], out: &mut [u8], time: u64, n: usize, k: usize) -> usize
-    requires { ⌜ Midway shape (now state) × (n ≡ length (stateOf shape (now state) .log)) × (k ≤ length (dueBy time (stateOf shape (now state) .early))) × (n + k ≤ shape .c) × (lengthFor (shape .s) 5 1 * k ≤ length (now out)) ⌝ }
+    requires { ⌜ Midway shape (now state) × (n ≡ length (stateOf shape (now state) .logged .log)) × (k ≤ length (dueOf time (stateOf shape (now state) .waiting .early))) × (n + k ≤ shape .c) × (lengthFor (shape .s) 5 1 * k ≤ length (now out)) ⌝ }
     ensures { λ r. ⌜ Released shape (now (state .entry)) (now (out .entry)) time k r (now (state .exit)) (now (out .exit)) ⌝ }
 {
     if k == 0 {
@@ -107,7 +125,7 @@ fn replies_length(s: u64, k: usize) -> usize
     requires { ⌜ (s ≤ 8) × (k ≤ 4096) ⌝ }
     ensures { λ r. ⌜ (r ≡ lengthFor s 5 1 * k) × (r ≤ 425984) ⌝ }
 {
-    kinds::length_for(s, 5, 1) * k
+    kinds::length_for(s, kind::FAST_REPLY, 1) * k
 }
 
 // Puts the clock and the sync point.
@@ -130,15 +148,15 @@ fn leader_waits(
     n: usize,
     due: usize,
 ) -> Answer
-    requires { ⌜ Midway shape (now state) × (n ≡ length (stateOf shape (now state) .log)) × (due ≡ length (dueBy time (stateOf shape (now state) .early))) ⌝ }
-    ensures { λ r. ⌜ left r (now (state .exit)) (now (out .exit)) ≡ closes shape (now (state .entry)) (now (out .entry)) (leaderReleases shape (stateOf shape (now (state .entry))) time (dueBy time (stateOf shape (now (state .entry)) .early)) []) ⌝ }
+    requires { ⌜ Midway shape (now state) × (n ≡ length (stateOf shape (now state) .logged .log)) × (due ≡ length (dueOf time (stateOf shape (now state) .waiting .early))) ⌝ }
+    ensures { λ r. ⌜ left r (now (state .exit)) (now (out .exit)) ≡ closes shape (now (state .entry)) (now (out .entry)) (leaderReleases shape (stateOf shape (now (state .entry))) time (dueOf time (stateOf shape (now (state .entry)) .waiting .early)) []) ⌝ }
 {
     if due == 0 {
         settle(shape, state, time, n as u64);
         return Answer::Done(0);
     }
-    if out.len() < kinds::length_for(shape.s, 5, 1) {
-        return Answer::Refused(9);
+    if out.len() < kinds::length_for(shape.s, kind::FAST_REPLY, 1) {
+        return Answer::Refused(refusal::NO_ROOM);
     }
     let end = tell_unplaced(shape, state, out, time);
     settle(shape, state, time, n as u64);
@@ -148,7 +166,7 @@ fn leader_waits(
 // A leader releases the run that is agreed, as far as the log holds it, and sends the log to its followers.
 fn leader_releases(shape: Shape, state: &mut [u8], out: &mut [u8], time: u64) -> Answer
     requires { ⌜ Midway shape (now state) ⌝ }
-    ensures { λ r. ⌜ left r (now (state .exit)) (now (out .exit)) ≡ closes shape (now (state .entry)) (now (out .entry)) (leaderReleases shape (stateOf shape (now (state .entry))) time (dueBy time (stateOf shape (now (state .entry)) .early)) (leading (agreed shape (stateOf shape (now (state .entry)) .notes)) (dueBy time (stateOf shape (now (state .entry)) .early)))) ⌝ }
+    ensures { λ r. ⌜ left r (now (state .exit)) (now (out .exit)) ≡ closes shape (now (state .entry)) (now (out .entry)) (leaderReleases shape (stateOf shape (now (state .entry))) time (dueOf time (stateOf shape (now (state .entry)) .waiting .early)) (leading (agreed shape (stateOf shape (now (state .entry)) .waiting .notes)) (dueOf time (stateOf shape (now (state .entry)) .waiting .early)))) ⌝ }
 {
     let n = releases::log_length(shape, state);
     let due = releases::due_count(shape, state, time);
@@ -157,11 +175,13 @@ fn leader_releases(shape: Shape, state: &mut [u8], out: &mut [u8], time: u64) ->
         return leader_waits(shape, state, out, time, n, due);
     }
     if shape.c as usize <= n {
-        return Answer::Refused(8);
+        return Answer::Refused(refusal::FULL);
     }
     let k = fitting(shape.c as usize, n, run);
-    if out.len() < replies_length(shape.s, k) + kinds::length_for(shape.s, 4, n + k) {
-        return Answer::Refused(9);
+    if out.len()
+        < replies_length(shape.s, k) + kinds::length_for(shape.s, kind::REPLICA_SYNC, n + k)
+    {
+        return Answer::Refused(refusal::NO_ROOM);
     }
     let at = release(shape, state, out, time, n, k);
     let end = tell_log(shape, state, out, at);
@@ -172,16 +192,16 @@ fn leader_releases(shape: Shape, state: &mut [u8], out: &mut [u8], time: u64) ->
 // A follower releases all that is due, as far as the log holds it, and tells the leader its sync point.
 fn follower_releases(shape: Shape, state: &mut [u8], out: &mut [u8], time: u64) -> Answer
     requires { ⌜ Midway shape (now state) ⌝ }
-    ensures { λ r. ⌜ left r (now (state .exit)) (now (out .exit)) ≡ closes shape (now (state .entry)) (now (out .entry)) (followerReleases shape (stateOf shape (now (state .entry))) time (dueBy time (stateOf shape (now (state .entry)) .early))) ⌝ }
+    ensures { λ r. ⌜ left r (now (state .exit)) (now (out .exit)) ≡ closes shape (now (state .entry)) (now (out .entry)) (followerReleases shape (stateOf shape (now (state .entry))) time (dueOf time (stateOf shape (now (state .entry)) .waiting .early))) ⌝ }
 {
     let n = releases::log_length(shape, state);
     let due = releases::due_count(shape, state, time);
     if (shape.c as usize <= n) & (due != 0) {
-        return Answer::Refused(8);
+        return Answer::Refused(refusal::FULL);
     }
     let k = fitting(shape.c as usize, n, due);
-    if out.len() < replies_length(shape.s, k) + kinds::length_for(shape.s, 10, 0) {
-        return Answer::Refused(9);
+    if out.len() < replies_length(shape.s, k) + kinds::length_for(shape.s, kind::SYNC_STATUS, 0) {
+        return Answer::Refused(refusal::NO_ROOM);
     }
     let at = release(shape, state, out, time, n, k);
     let end = tell_status(shape, state, out, at);
@@ -196,10 +216,10 @@ pub fn on_tick(shape: Shape, state: &mut [u8], m: Message, message: &[u8], out: 
     ensures { λ r. ⌜ left r (now (state .exit)) (now (out .exit)) ≡ handled 23 onTick shape m (now (state .entry)) (now (message .entry)) (now (out .entry)) ⌝ }
 {
     let Message::Tick(_, time) = m else {
-        return Answer::Refused(2);
+        return Answer::Refused(refusal::MALFORMED);
     };
     if time < places::get_clock(state) {
-        return Answer::Refused(7);
+        return Answer::Refused(refusal::NOTHING_TO_DO);
     }
     if handler::leads(shape, state) {
         return leader_releases(shape, state, out, time);

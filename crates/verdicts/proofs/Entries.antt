@@ -2,16 +2,17 @@
 use Prim.Native.Nat.{ℕ, zero, suc, _+_, _*_, _≤_, _<_}
 use mathlib.Core.Path.{_≡_, refl, sym, ap, ap₂, _∙_}
 use mathlib.Core.Bool.{Bool, true, false, _&&_, _||_, not}
+use mathlib.Core.List.{List, []}
 use native.Mathlib.Omega.{arith}
 use native.Mathlib.Decide.{decLe}
 use native.Mathlib.Numerals.{add-one}
 use lib.Dec.{eqb, ltb, leb}
 use borrow.Author.Tests.{lt-ltb, ltb-true}
 use Rattle.rules.specs.Choice.{pick, when, allOf}
-use Rattle.rules.specs.Entry.{stampBefore, mayFollow}
+use Rattle.rules.specs.Entry.{lastBefore, mayFollow}
 use Rattle.rules.specs.Log.{seenBefore, stands}
-use Rattle.rules.specs.Wire.{withLog}
-use Rattle.rules.specs.Read.{Fields, headRows, bodyRows, entryRows, entriesAt, firstWrong, andThen, entriesWrong, messageWrong}
+use Rattle.rules.specs.Kind.{numbersIn, withLog}
+use Rattle.rules.specs.Read.{Fields, headRows, bodyRows, numberRows, entryRows, entriesAt, firstWrong, andThen, entriesWrong, messageWrong}
 use Rattle.rules.specs.declared.Entry.{Entry}
 use Rattle.rules.specs.declared.Header.{Header}
 use Rattle.rules.specs.declared.Verdict.{Verdict}
@@ -19,26 +20,27 @@ use Rattle.rules.specs.declared.Verdict.the-variants.{Fine, Wrong}
 use Rattle.rules.proofs.Tests.{and-l, and-r}
 use Rattle.fields.specs.declared.Parts.{Parts}
 use Rattle.fields.specs.Parts.{fieldsFrom, fieldsOf, headed, rowsOf}
-use Rattle.verdicts.specs.Rows.{limitOf, standsAfter}
+use Rattle.verdicts.specs.Rows.{rowIn, limitOf, standsAfter, wrongIn}
+use Rattle.verdicts.specs.declared.Look.{Look}
 use Rattle.fields.proofs.Rows.{and-true, and-false}
 use Rattle.verdicts.proofs.Fresh.{Limit, limit-is}
 
 module _ (s k : ℕ) (f : ℕ → Entry) (i : ℕ) where
-  stands-fresh : (last : ℕ) → last ≡ stampBefore f i → seenBefore f (f i) i ≡ false → stands s k f i ≡ standsAfter s k last (f i)
+  stands-fresh : (last : ℕ) → last ≡ lastBefore f i .stamp → seenBefore f (f i) i ≡ false → stands s k f i ≡ standsAfter s k last (f i)
   unfolding stands mayFollow allOf
   stands-fresh last e h = rw (e, h, and-true (ltb (f i .mask) _))
 
   stands-again : seenBefore f (f i) i ≡ true → stands s k f i ≡ false
   unfolding stands mayFollow allOf
-  stands-again h = rw (h, and-false (leb (stampBefore f i) (f i .stamp)))
+  stands-again h = rw (h, and-false (leb (lastBefore f i .stamp) (f i .stamp)))
 
-pub stamp-next : (f : ℕ → Entry) (i : ℕ) (e : Entry) → e ≡ f i → e .stamp ≡ stampBefore f (i + 1)
-unfolding stampBefore
+pub stamp-next : (f : ℕ → Entry) (i : ℕ) (e : Entry) → e ≡ f i → e .stamp ≡ lastBefore f (i + 1) .stamp
+unfolding lastBefore
 stamp-next f i e q = rw (add-one, q)
 
 module _ (s : ℕ) (h : Header) (f : ℕ → Entry) (whole : ℕ) where
   abbrev m : Fields
-  m = fieldsFrom (headed h) f
+  m = fieldsFrom (headed h) [] f
 
   abbrev verdict : ℕ → Verdict
   verdict i = entriesWrong s m whole i
@@ -68,7 +70,7 @@ module _ (s : ℕ) (h : Header) (f : ℕ → Entry) (whole : ℕ) where
     abbrev is : Limit log f whole seen limit
     is = rw isLimit (limit-is log f whole seen)
 
-    module _ (i last : ℕ) (e : Entry) (st : Bool) (l : i < limit) (isLast : last ≡ stampBefore f i) (isEntry : e ≡ f i) (isStanding : st ≡ standsAfter s (h .«to_group») last e) where
+    module _ (i last : ℕ) (e : Entry) (st : Bool) (l : i < limit) (isLast : last ≡ lastBefore f i .stamp) (isEntry : e ≡ f i) (isStanding : st ≡ standsAfter s (h .«to_group») last e) where
       standing-is : when (withLog (h .kind) && ltb i whole) (stands s (h .«to_group») f i) ≡ (not (log && ltb i whole) || st)
       standing-is = rw (← isLog) (go (log && ltb i whole) refl)
         where
@@ -95,22 +97,35 @@ module _ (s : ℕ) (h : Header) (f : ℕ → Entry) (whole : ℕ) where
     all-fine i e a b c = let q : i ≡ seen = omega (arith, is .within) in rw q at (sym e)
 
 -- only the header counts
-pub entries-head : (s : ℕ) (p : Parts) (f : ℕ → Entry) (whole n : ℕ) → entriesWrong s (fieldsFrom p f) whole n ≡ entriesWrong s (fieldsFrom (headed (p .header)) f) whole n
+pub entries-head : (s : ℕ) (p : Parts) (xs : List ℕ) (f : ℕ → Entry) (whole n : ℕ) → entriesWrong s (fieldsFrom p xs f) whole n ≡ entriesWrong s (fieldsFrom (headed (p .header)) [] f) whole n
 unfolding entriesWrong
-entries-head s p f whole zero = refl
-entries-head s p f whole (suc n) = ap (λ (v : Verdict). andThen v (firstWrong (entryRows s (fieldsFrom p f) whole n))) (entries-head s p f whole n)
+entries-head s p xs f whole zero = refl
+entries-head s p xs f whole (suc n) = ap (λ (v : Verdict). andThen v (firstWrong (entryRows s (fieldsFrom p xs f) whole n))) (entries-head s p xs f whole n)
+
+-- no entry counts
+module _ (s : ℕ) (p : Parts) (xs : List ℕ) (f : ℕ → Entry) where
+  numbers-alone : (i : ℕ) → numberRows s (fieldsFrom p xs f) i ≡ numberRows s (fieldsOf p xs) i
+  unfolding numberRows
+  numbers-alone zero = refl
+  numbers-alone (suc i) = rw (numbers-alone i)
+
+  body-alone : firstWrong (bodyRows s (fieldsFrom p xs f)) ≡ firstWrong (bodyRows s (fieldsOf p xs))
+  body-alone = rw (numbers-alone (numbersIn (p .header .kind)))
 
 -- ---- the three runs of fields
-module _ (n s : ℕ) (p : Parts) (f : ℕ → Entry) (whole seen : ℕ) (head : Verdict) (isHead : head ≡ firstWrong (headRows n s (fieldsOf p))) where
-  pub head-wrong : (a u : ℕ) → head ≡ Wrong a u → Wrong a u ≡ messageWrong n s (fieldsFrom p f) whole seen
+module _ (n s : ℕ) (p : Parts) (xs b : List ℕ) (look : Look) (head : Verdict) (isHead : head ≡ firstWrong (headRows n s (fieldsOf p []))) where
+  pub head-wrong : (a u : ℕ) → head ≡ Wrong a u → Wrong a u ≡ wrongIn n s p xs b look
   unfolding messageWrong andThen
   head-wrong a u e = rw (sym isHead ∙ e)
 
-  module _ (fine : head ≡ Fine) (body : Verdict) (isBody : body ≡ firstWrong (bodyRows s (fieldsOf p))) where
-    pub body-wrong : (a u : ℕ) → body ≡ Wrong a u → Wrong a u ≡ messageWrong n s (fieldsFrom p f) whole seen
-    unfolding messageWrong andThen
-    body-wrong a u e = rw (sym isHead ∙ fine, sym isBody ∙ e)
+  module _ (fine : head ≡ Fine) (body : Verdict) (isBody : body ≡ firstWrong (bodyRows s (fieldsOf p xs))) where
+    is-body : firstWrong (bodyRows s (fieldsFrom p xs (rowIn b (look .at)))) ≡ firstWrong (bodyRows s (fieldsOf p xs))
+    is-body = body-alone s p xs (rowIn b (look .at))
 
-    pub rest-wrong : (v : Verdict) → body ≡ Fine → v ≡ entriesWrong s (fieldsFrom (headed (p .header)) f) whole seen → v ≡ messageWrong n s (fieldsFrom p f) whole seen
+    pub body-wrong : (a u : ℕ) → body ≡ Wrong a u → Wrong a u ≡ wrongIn n s p xs b look
     unfolding messageWrong andThen
-    rest-wrong v e q = rw (sym isHead ∙ fine, sym isBody ∙ e) (q ∙ sym (entries-head s p f whole seen))
+    body-wrong a u e = rw (sym isHead ∙ fine, is-body ∙ sym isBody ∙ e)
+
+    pub rest-wrong : (v : Verdict) → body ≡ Fine → v ≡ entriesWrong s (fieldsFrom (headed (p .header)) [] (rowIn b (look .at))) (look .whole) (look .seen) → v ≡ wrongIn n s p xs b look
+    unfolding messageWrong andThen
+    rest-wrong v e q = rw (sym isHead ∙ fine, is-body ∙ sym isBody ∙ e) (q ∙ sym (entries-head s p xs (rowIn b (look .at)) (look .whole) (look .seen)))

@@ -6,8 +6,12 @@ use lib.Dec.{ltb, leb}
 use Rattle.rules.specs.Choice.{pick}
 use Rattle.rules.specs.Group.{holds}
 use Rattle.rules.specs.Log.{seenBefore}
-use Rattle.rules.specs.Read.{entryAt}
+use Rattle.rules.specs.Read.{entryAt, messageWrong}
 use Rattle.rules.specs.declared.Entry.{Entry}
+use Rattle.rules.specs.declared.Verdict.{Verdict}
+use Rattle.fields.specs.Parts.{fieldsFrom}
+use Rattle.fields.specs.declared.Parts.{Parts}
+use Rattle.verdicts.specs.declared.Look.{Look}
 use Rattle.repeats.specs.Repeat.{firstTo}
 
 -- the entries that stand in b from `at` on
@@ -26,9 +30,13 @@ limitOf log f whole seen = pick (log && ltb (repeatOf f (min whole seen)) (min w
 abbrev pub standsAfter : ℕ → ℕ → ℕ → Entry → Bool
 standsAfter s k last e = leb last (e .stamp) && (holds (e .mask) k && ltb (e .mask) (2 ^ s))
 
--- what is looked at: `seen` entries from `at` on in `size` bytes, of which the first `whole` lie in them
-pub record Looked (s at whole seen size : ℕ) : Type 0 where
+-- the verdict on a message of these numbers, whose entries stand in b
+abbrev pub wrongIn : ℕ → ℕ → Parts → List ℕ → List ℕ → Look → Verdict
+wrongIn n s p xs b look = messageWrong n s (fieldsFrom p xs (rowIn b (look .at))) (look .whole) (look .seen)
+
+-- what is looked at lies near enough, and its whole entries lie in the `size` bytes
+pub record Looked (s : ℕ) (look : Look) (size : ℕ) : Type 0 where
   pub groups : s ≤ 8
-  pub near : at ≤ 2 ^ 32
-  pub few : seen ≤ 2 ^ 32
-  pub inside : 24 * whole ≤ size - at
+  pub near : look .at ≤ 2 ^ 32
+  pub few : look .seen ≤ 2 ^ 32
+  pub inside : 24 * look .whole ≤ size - look .at

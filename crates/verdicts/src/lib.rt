@@ -2,10 +2,11 @@
 ghost use mathlib.Core.Path.{_≡_};
 ghost use mathlib.Core.Bool.{Bool};
 ghost use Prim.Native.Nat.{ℕ, _+_, _-_, _*_, _≤_, min};
+ghost use mathlib.Core.List.{[]};
 ghost use lib.ListN.{length};
 ghost use Rattle.rules.specs.Read as reading;
 ghost use Rattle.fields.specs.Parts.{fieldsFrom, headed};
-ghost use Rattle.verdicts.specs.Rows.{rowIn, repeatOf, limitOf, standsAfter, Looked};
+ghost use Rattle.verdicts.specs.Rows.{rowIn, repeatOf, limitOf, standsAfter, wrongIn, Looked};
 use fields::Parts;
 use fields::below;
 use fields::body_wrong;
@@ -17,6 +18,13 @@ use repeats::Spots;
 use rules::Entry;
 use rules::Header;
 use rules::Verdict;
+
+// What is looked at of the entries in some bytes: where they begin, how many of them are whole, and how many are looked at.
+pub struct Look {
+    pub at: usize,
+    pub whole: usize,
+    pub seen: usize,
+}
 
 // The first of `count` entries whose transaction an earlier one has, or `count`; there is at least one entry.
 fn repeat_of(b: &[u8], at: usize, count: usize) -> usize
@@ -44,18 +52,19 @@ pub fn smaller(a: usize, b: usize) -> usize
 }
 
 // How many of `seen` entries come before the first that repeats an earlier one, where they are a log.
-fn limit_of(log: bool, b: &[u8], at: usize, whole: usize, seen: usize) -> usize
-    requires { ⌜ 24 * whole ≤ length (now b) - at ⌝ }
-    ensures { λ r. ⌜ r ≡ limitOf log (rowIn (now (b .entry)) at) whole seen ⌝ }
+fn limit_of(log: bool, b: &[u8], look: Look) -> usize
+    requires { ⌜ 24 * look .whole ≤ length (now b) - look .at ⌝ }
+    ensures { λ r. ⌜ r ≡ limitOf log (rowIn (now (b .entry)) (look .at)) (look .whole) (look .seen) ⌝ }
 {
+    let seen = look.seen;
     if !log {
         return seen;
     }
-    let count = smaller(whole, seen);
+    let count = smaller(look.whole, seen);
     if count < 1 {
         return seen;
     }
-    let place = repeat_of(b, at, count);
+    let place = repeat_of(b, look.at, count);
     if place < count {
         return place;
     }
@@ -71,13 +80,15 @@ fn stands_after(s: u64, group: u64, last: u64, e: Entry) -> bool
 }
 
 // The first wrong field of the entries that are looked at.
-fn entries_wrong(s: u64, h: Header, b: &[u8], at: usize, whole: usize, seen: usize) -> Verdict
-    requires { ⌜ Looked s at whole seen (length (now b)) ⌝ }
-    ensures { λ r. ⌜ r ≡ reading.entriesWrong s (fieldsFrom (headed h) (rowIn (now (b .entry)) at)) whole seen ⌝ }
+fn entries_wrong(s: u64, h: Header, b: &[u8], look: Look) -> Verdict
+    requires { ⌜ Looked s look (length (now b)) ⌝ }
+    ensures { λ r. ⌜ r ≡ reading.entriesWrong s (fieldsFrom (headed h) [] (rowIn (now (b .entry)) (look .at))) (look .whole) (look .seen) ⌝ }
 {
+    let at = look.at;
+    let whole = look.whole;
     let log = with_log(h.kind);
     let from = entries_at(s, h.kind);
-    let limit = limit_of(log, b, at, whole, seen);
+    let limit = limit_of(log, b, look);
     let mut last: u64 = 0;
     let mut i = 0;
     while i < limit {
@@ -91,35 +102,27 @@ fn entries_wrong(s: u64, h: Header, b: &[u8], at: usize, whole: usize, seen: usi
         last = e.stamp;
         i += 1;
     }
-    if limit < seen {
+    if limit < look.seen {
         let place = from + 4 + 24 * limit;
         return Verdict::Wrong(place, place);
     }
     Verdict::Fine
 }
 
-// The first wrong field of a message whose entries stand in b from `at` on.
-pub fn message_wrong(
-    n: u64,
-    s: u64,
-    p: Parts,
-    b: &[u8],
-    at: usize,
-    whole: usize,
-    seen: usize,
-) -> Verdict
-    requires { ⌜ Looked s at whole seen (length (now b)) ⌝ }
-    ensures { λ r. ⌜ r ≡ reading.messageWrong n s (fieldsFrom p (rowIn (now (b .entry)) at)) whole seen ⌝ }
+// The first wrong field of a message of these numbers, whose entries stand in b.
+pub fn message_wrong(n: u64, s: u64, p: Parts, numbers: &[u64], b: &[u8], look: Look) -> Verdict
+    requires { ⌜ Looked s look (length (now b)) ⌝ }
+    ensures { λ r. ⌜ r ≡ wrongIn n s p (now (numbers .entry)) (now (b .entry)) look ⌝ }
 {
     let head = head_wrong(n, s, p);
     match head {
         Verdict::Fine => {}
         Verdict::Wrong(a, u) => return Verdict::Wrong(a, u),
     }
-    let body = body_wrong(s, p);
+    let body = body_wrong(s, p, numbers);
     match body {
         Verdict::Fine => {}
         Verdict::Wrong(a, u) => return Verdict::Wrong(a, u),
     }
-    entries_wrong(s, p.header, b, at, whole, seen)
+    entries_wrong(s, p.header, b, look)
 }

@@ -18,7 +18,7 @@ use Rattle.rules.specs.Entry.{ordered}
 use Rattle.rules.specs.Wire.{entryBytes}
 use Rattle.rules.specs.Read.{entryAt}
 use Rattle.rules.specs.State.{State}
-use Rattle.rules.specs.Image.{zeroBytes, tableLength, tableBytes, tableAt}
+use Rattle.rules.specs.Image.{zeroBytes, tableLength, tableBytes, tableAt, atDraft, atLog}
 use Rattle.rules.specs.Step.{source, asked}
 use Rattle.rules.specs.declared.Entry.{Entry}
 use Rattle.rules.specs.declared.Shape.{Shape}
@@ -58,23 +58,23 @@ used-within c es t h = omega (arith, h .count, h .size, h .room)
 
 module _ {sh : Shape} {st : State} {b : List ℕ} (s : Stands sh st b) where
   pub source-fits : TableFits (sh .c) (source st)
-  source-fits = by-test (TableFits (sh .c)) (eqb (st .status) 3) (λ t. stands-fits s .draft) (λ f. stands-fits s .log)
+  source-fits = by-test (TableFits (sh .c)) (eqb (st .view .status) 3) (λ t. stands-fits s .draft) (λ f. stands-fits s .log)
 
-  module _ (d n l k : ℕ) (hd : d ≡ startOf sh 8) (hn : n ≡ tableLength (sh .c)) (hl : l ≡ startOf sh 3) (hk : k ≡ tableLength (sh .c)) where
-    pub draft-held : Holds (sh .c) (st .draft) (take n (drop d b))
+  module _ (d n l k : ℕ) (hd : d ≡ startOf sh atDraft) (hn : n ≡ tableLength (sh .c)) (hl : l ≡ startOf sh atLog) (hk : k ≡ tableLength (sh .c)) where
+    pub draft-held : Holds (sh .c) (st .change .draft) (take n (drop d b))
     draft-held = draft-lent (stands-laid s) d n (s .fits) (stands-fits s .draft) hd hn
 
-    pub log-held : Holds (sh .c) (st .log) (take k (drop l b))
+    pub log-held : Holds (sh .c) (st .logged .log) (take k (drop l b))
     log-held = log-lent (stands-laid s) l k (s .fits) (stands-fits s .log) hl hk
 
     -- by the status
     pub source-lent : (status : ℕ) (r : List ℕ) → status ≡ num b 2 1 → r ≡ usedIn (pick (eqb status 3) (take n (drop d b)) (take k (drop l b))) → (r ≡ flat entryBytes (source st)) × (length r ≤ 98304)
     source-lent status r e q =
-        let i : status ≡ st .status = e ∙ status-of s in
-        let g : (t : Bool) → usedIn (pick t (take n (drop d b)) (take k (drop l b))) ≡ flat entryBytes (pick t (st .draft) (st .log))
+        let i : status ≡ st .view .status = e ∙ status-of s in
+        let g : (t : Bool) → usedIn (pick t (take n (drop d b)) (take k (drop l b))) ≡ flat entryBytes (pick t (st .change .draft) (st .logged .log))
         = λ t. by-cases t
-        (λ y. ap usedIn (pick-true t _ _ y) ∙ used-is (sh .c) (st .draft) _ draft-held ∙ sym (ap (flat entryBytes) (pick-true t (st .draft) (st .log) y)))
-        (λ y. ap usedIn (pick-false t _ _ y) ∙ used-is (sh .c) (st .log) _ log-held ∙ sym (ap (flat entryBytes) (pick-false t (st .draft) (st .log) y))) in
+        (λ y. ap usedIn (pick-true t _ _ y) ∙ used-is (sh .c) (st .change .draft) _ draft-held ∙ sym (ap (flat entryBytes) (pick-true t (st .change .draft) (st .logged .log) y)))
+        (λ y. ap usedIn (pick-false t _ _ y) ∙ used-is (sh .c) (st .logged .log) _ log-held ∙ sym (ap (flat entryBytes) (pick-false t (st .change .draft) (st .logged .log) y))) in
         let w : r ≡ flat entryBytes (source st) = rw i at (q ∙ g (eqb status 3)) in
         (w, omega (arith, ap length w ∙ rows-long (source st), source-fits .room, s .fits .small))
 

@@ -1,7 +1,7 @@
 -- The ways through the handler of kind 18. Assumes nothing.
 use Prim.Native.Nat.{ℕ, _+_, _-_, _*_, _≤_, _<_}
 use mathlib.Core.Path.{_≡_, refl, sym, ap, _∙_}
-use mathlib.Core.Bool.{true}
+use mathlib.Core.Bool.{true, false}
 use mathlib.Core.List.{List, [], _∷_, _++_, append-assoc, append-nil}
 use native.Mathlib.Omega.{arith}
 use native.Mathlib.Nat.{zero-add}
@@ -9,10 +9,11 @@ use lib.ListN.{length, getD, length-append}
 use Rattle.octets.specs.Bytes.{le, splice, flat}
 use Rattle.octets.specs.Sections.{concat}
 use Rattle.octets.proofs.Laws.{Bytes, length-le, length-splice, splice-splice-next}
-use Rattle.rules.specs.Choice.{pick}
+use Rattle.rules.specs.Choice.{pick, any}
 use Rattle.rules.specs.Group.{only}
 use Rattle.rules.specs.Entry.{ordered}
-use Rattle.rules.specs.Wire.{Wire, known, fromOutside, entryBytes, headBytes, wireBytes, tagOf, headerIn, numbersOf}
+use Rattle.rules.specs.Wire.{Wire, entryBytes, headBytes, wireBytes, tagOf, headerIn, numbersOf}
+use Rattle.rules.specs.Kind.{known, fromOutside, rowOf}
 use Rattle.rules.specs.Wire as wires
 use Rattle.rules.specs.Read.{wireIn, lengthFor}
 use Rattle.rules.specs.State.{State}
@@ -39,7 +40,7 @@ use Rattle.verify.proofs.Asked.{rows-long, source-fits, asked-is, splic
 module _ (st : State) (k g t : ℕ) (xs : List ℕ) where
   -- what stands before the count
   front : List ℕ
-  front = concat (headBytes (send st k g t xs []) ∷ le 4 (length (st .gVec)) ∷ flat (le 4) (st .gVec) ∷ le 4 (length xs) ∷ flat (le 8) xs ∷ [])
+  front = concat (headBytes (send st k g t xs []) ∷ le 4 (length (st .view .gVec)) ∷ flat (le 4) (st .view .gVec) ∷ le 4 (length xs) ∷ flat (le 8) xs ∷ [])
 
   in-two : (es : List Entry) → wireBytes (send st k g t xs es) ≡ front ++ (le 4 (length es) ++ flat entryBytes es)
   unfolding front wireBytes headBytes concat
@@ -70,7 +71,7 @@ over-none out F k rows h =
 
 -- a step that sent n bytes
 abbrev sentLeft : ℕ → List ℕ → List ℕ → Left
-sentLeft n b out = record { number = 0; sent = n; state = b; out = out }
+sentLeft n b out = record { refused = false; number = 0; sent = n; state = b; out = out }
 
 sent-is : (n k : ℕ) (b c out o : List ℕ) → n ≡ k → b ≡ c → out ≡ o → sentLeft n b out ≡ sentLeft k c o
 sent-is n k b c out o e f g = rw (e, f, g)
@@ -88,7 +89,7 @@ module _ (sh : Shape) (b msg out : List ℕ) (m : Message) (h : Header) (p : ℕ
   from = h .«from_replica»
 
   kind-known : known (tagOf m) ≡ true
-  unfolding pick
+  unfolding pick any
   kind-known = ap (λ (x : Message). known (tagOf x)) e
 
   boundary-is : wires.number (wireIn (sh .s) msg) 0 ≡ p
@@ -99,6 +100,7 @@ module _ (sh : Shape) (b msg out : List ℕ) (m : Message) (h : Header) (p : ℕ
 
   -- the sender is a replica
   pub from-below : from < sh .n
+  unfolding rowOf
   from-below = rw e at (told-sender (sh .n) (sh .s) m msg (ready-told sh b msg m r kind-known) (ap (λ (x : Message). fromOutside (tagOf x)) e) .1)
 
   pub from-small : from < 8
@@ -120,7 +122,7 @@ module _ (sh : Shape) (b msg out : List ℕ) (m : Message) (h : Header) (p : ℕ
   none-told = message-sent (stands-laid (r .stands)) (sender (stands-fits (r .stands))) (VerifyReply (headedIn b 19 asker (only from))) [] 19 asker (only from) [] [] refl refl refl tt
 
   none-long : length (wireBytes (send st 19 asker (only from) [] [])) ≡ 24 + 4 * sh .s
-  unfolding pick
+  unfolding pick rowOf
   none-long = sent-length (sh .s) st 19 asker (only from) [] [] (stands-fits (r .stands) .gVecPlaces) refl refl ∙ omega arith
 
   module _ (t : List ℕ) (count : ℕ) (lt : t ≡ flat entryBytes (source st)) (hc : count ≡ length (askedIn p asker t)) where
@@ -131,7 +133,7 @@ module _ (sh : Shape) (b msg out : List ℕ) (m : Message) (h : Header) (p : ℕ
     asked-long = ap length (sym asked-all) ∙ length-ordered (askedIn p asker t) ∙ sym hc
 
     told-long : length (wireBytes told) ≡ lengthFor (sh .s) 19 count
-    unfolding pick
+    unfolding pick rowOf
     told-long = sent-length (sh .s) st 19 asker (only from) [] _ (stands-fits (r .stands) .gVecPlaces) refl refl ∙ ap (lengthFor (sh .s) 19) asked-long
 
     pub no-room : (need : ℕ) → need ≡ lengthFor (sh .s) 19 count → length out < need → leaves 9 b out ≡ handled 18 onVerifyRequest sh m b msg out
@@ -139,8 +141,8 @@ module _ (sh : Shape) (b msg out : List ℕ) (m : Message) (h : Header) (p : ℕ
 
     pub asked-told : (need end : ℕ) (out₁ out₂ : List ℕ) → need ≡ lengthFor (sh .s) 19 count → need ≤ length out → end ≡ 24 + 4 * sh .s → out₁ ≡ splice out 0 (messageBytes sh b (VerifyReply (headedIn b 19 asker (only from))) [])
         → out₂ ≡ splice out₁ (end - 4) (le 4 count ++ flat entryBytes (ordered (askedIn p asker t)))
-        → _≡_ {A = Left} (record { number = 0; sent = end + 24 * count; state = b; out = out₂ }) (handled 18 onVerifyRequest sh m b msg out)
-    unfolding pick
+        → _≡_ {A = Left} (record { refused = false; number = 0; sent = end + 24 * count; state = b; out = out₂ }) (handled 18 onVerifyRequest sh m b msg out)
+    unfolding pick rowOf
     asked-told need end out₁ out₂ n l he w₁ w₂ =
         let F = front st 19 asker (only from) [] in
         let es = asked p asker (source st) in

@@ -6,13 +6,13 @@ use lib.ListN.{length}
 use Rattle.octets.specs.Bytes.{num, part, items}
 use Rattle.rules.specs.Choice.{keep}
 use Rattle.rules.specs.Group.{holds}
-use Rattle.rules.specs.Entry.{later, ordered}
+use Rattle.rules.specs.Entry.{pastAsked, ordered}
 use Rattle.rules.specs.Read.{entryAt}
 use Rattle.rules.specs.declared.Entry.{Entry}
 
 -- an entry past the boundary whose mask has the asker's group
 abbrev pub isAsked : ℕ → ℕ → Entry → Bool
-isAsked boundary j e = later boundary e && holds (e .mask) j
+isAsked boundary j e = pastAsked boundary e && holds (e .mask) j
 
 -- the bytes of the entries that a table has
 unfoldable pub usedIn : List ℕ → List ℕ

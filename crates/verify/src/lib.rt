@@ -3,6 +3,9 @@ use rules::Answer;
 use rules::Entry;
 use rules::Message;
 use rules::Shape;
+use rules::kind;
+use rules::refusal;
+use rules::status;
 ghost use mathlib.Core.Path.{_≡_};
 ghost use mathlib.Core.List.{[], _++_};
 ghost use Prim.Native.Nat.{_+_, _*_, _<_, _≤_};
@@ -10,7 +13,7 @@ ghost use lib.Dec.{eqb};
 ghost use lib.ListN.{length};
 ghost use Rattle.octets.specs.Bytes.{le, num, splice, flat};
 ghost use Rattle.rules.specs.Choice.{pick};
-ghost use Rattle.rules.specs.Entry.{later};
+ghost use Rattle.rules.specs.Entry.{pastAsked};
 ghost use Rattle.rules.specs.Group as sets;
 ghost use Rattle.rules.specs.Wire.{entryBytes};
 ghost use Rattle.rules.specs.Image.{stateOf};
@@ -27,7 +30,7 @@ fn source<'a>(status: u8, draft: &'a [u8], log: &'a [u8]) -> &'a [u8]
     requires { ⌜ (4 + 24 * num (now draft) 0 4 ≤ length (now draft)) × (4 + 24 * num (now log) 0 4 ≤ length (now log)) ⌝ }
     ensures { λ r. ⌜ now r ≡ usedIn (pick (eqb status 3) (now (draft .entry)) (now (log .entry))) ⌝ }
 {
-    if status == 3 {
+    if status == status::CROSS_SHARD {
         let end = 4 + 24 * entries::count(draft);
         &draft[4..end]
     } else {
@@ -53,18 +56,18 @@ fn source_of(shape: Shape, state: &[u8]) -> &[u8]
     )
 }
 
-// Whether e is later than a boundary.
-fn is_later(boundary: u64, e: Entry) -> bool
-    ensures { λ r. ⌜ r ≡ later boundary e ⌝ }
+// Whether e is past the boundary that is asked from.
+fn is_past(boundary: u64, e: Entry) -> bool
+    ensures { λ r. ⌜ r ≡ pastAsked boundary e ⌝ }
 {
     boundary < e.stamp
 }
 
-// Whether e is asked for: it is later than the boundary, and its mask has the asker's group.
+// Whether e is asked for: it is past the boundary, and its mask has the asker's group.
 fn is_asked(boundary: u64, asker: u64, e: Entry) -> bool
     ensures { λ r. ⌜ r ≡ isAsked boundary asker e ⌝ }
 {
-    is_later(boundary, e) & group::holds(e.mask, asker)
+    is_past(boundary, e) & group::holds(e.mask, asker)
 }
 
 // How many of the entries in t are asked for.
@@ -118,7 +121,7 @@ fn tell_none(shape: Shape, state: &[u8], out: &mut [u8], to_group: u8, to: u64) 
     ensures { λ r. ⌜ (r ≡ 24 + 4 * shape .s) × (now (out .exit) ≡ splice (now (out .entry)) 0 (messageBytes shape (now (state .entry)) (cases.VerifyReply (headedIn (now (state .entry)) 19 «to_group» (sets.only to))) [])) ⌝ }
 {
     let mask = group::only(to);
-    let h = handler::headed(state, 19, to_group, mask);
+    let h = handler::headed(state, kind::VERIFY_REPLY, to_group, mask);
     let m = Message::VerifyReply(h);
     handler::tell(shape, state, out, 0, m, &state[0..0])
 }
@@ -135,13 +138,13 @@ pub fn on_verify_request(
     ensures { λ r. ⌜ left r (now (state .entry)) (now (out .exit)) ≡ handled 18 steps.onVerifyRequest shape m (now (state .entry)) (now (message .entry)) (now (out .entry)) ⌝ }
 {
     let Message::VerifyRequest(h, boundary) = m else {
-        return Answer::Refused(2);
+        return Answer::Refused(refusal::MALFORMED);
     };
     let asker = h.from_group as u64;
     let t = source_of(shape, state);
     let count = count_asked(t, boundary, asker);
-    if out.len() < kinds::length_for(shape.s, 19, count) {
-        return Answer::Refused(9);
+    if out.len() < kinds::length_for(shape.s, kind::VERIFY_REPLY, count) {
+        return Answer::Refused(refusal::NO_ROOM);
     }
     let end = tell_none(shape, state, out, h.from_group, h.from_replica as u64);
     put_asked(t, boundary, asker, count, out, end - 4);

@@ -11,7 +11,7 @@ use Rattle.octets.proofs.Laws.{Bytes, length-le}
 use Rattle.octets.proofs.Codecs.{length-items}
 use Rattle.rules.specs.Read.{entryAt}
 use Rattle.rules.specs.State.{State}
-use Rattle.rules.specs.Image.{tableLength, tableBytes, image}
+use Rattle.rules.specs.Image.{tableLength, tableBytes, image, atEarly, atHeard, atLog}
 use Rattle.rules.specs.Step.{started}
 use Rattle.rules.specs.declared.Entry.{Entry}
 use Rattle.rules.specs.declared.Shape.{Shape}
@@ -31,24 +31,24 @@ pub begun-in : (b b₁ b₂ b₃ b₄ b₅ : List ℕ) (view len old commit : �
 begun-in b b₁ b₂ b₃ b₄ b₅ view len old commit e q w₁ w₂ w₃ w₄ w₅ = rw (w₅, w₄, w₃, w₂, w₁, q, e)
 
 module _ {sh : Shape} {st : State} {b : List ℕ} (l : Laid sh st b) where
-  head-begun : {b′ : List ℕ} (view len : ℕ) → st .commit < 256 ^ 8 → b′ ≡ begunIn b view len → Laid sh (withBoundary (withCommit (withSync (withNormal (withStatus st 1) view) len) (min (st .commit) len)) 0) b′
+  head-begun : {b′ : List ℕ} (view len : ℕ) → st .logged .commit < 256 ^ 8 → b′ ≡ begunIn b view len → Laid sh (withBoundary (withCommit (withSync (withNormal (withStatus st 1) view) len) (min (st .logged .commit) len)) 0) b′
   head-begun view len f w =
-      let e : num b 32 8 ≡ st .commit = get-head l 8 32 8 (st .commit) (lit< tt) (simp length-le) (lit≤ tt) refl f in
-      put-boundary (put-commit (put-sync (put-normal (put-status l 1 refl) view refl) len refl) (min (st .commit) len) refl) 0
+      let e : num b 32 8 ≡ st .logged .commit = get-head l 8 32 8 (st .logged .commit) (lit< tt) (simp length-le) (lit≤ tt) refl f in
+      put-boundary (put-commit (put-sync (put-normal (put-status l 1 refl) view refl) len refl) (min (st .logged .commit) len) refl) 0
       (w ∙ ap (λ (v : ℕ). splice (splice (splice (splice (splice b 2 (le 1 1)) 12 (le 4 view)) 24 (le 8 len)) 32 (le 8 (min v len))) 40 (le 8 0)) e)
 
 -- ---- the whole
 
 -- with the old log and the old tables still
 abbrev unheard : Shape → State → ℕ → List ℕ → ℕ → State
-unheard sh st view gVec len = withHeard (withBoundary (withCommit (withSync (withNormal (withStatus (withGVec (withView st view) gVec) 1) view) len) (min (st .commit) len)) 0) (replicate (sh .n) none)
+unheard sh st view gVec len = withHeard (withBoundary (withCommit (withSync (withNormal (withStatus (withGVec (withView st view) gVec) 1) view) len) (min (st .logged .commit) len)) 0) (replicate (sh .n) none)
 
 module _ {sh : Shape} {st : State} {b : List ℕ} (s : Stands sh st b) (view : ℕ) (msg : List ℕ) (bs : Bytes msg) (h : 16 + 4 * sh .s ≤ length msg) (es : List Entry) (r : length es ≤ sh .c) where
   -- before the log is written, and after it
-  heard-laid : {b₁ b₂ b₃ : List ℕ} → b₁ ≡ takenIn sh b view msg → b₂ ≡ begunIn b₁ view (length es) → b₃ ≡ splice b₂ (startOf sh 2) (replicate (9 * sh .n) 0) → Laid sh (unheard sh st view (viewsOf sh msg) (length es)) b₃
+  heard-laid : {b₁ b₂ b₃ : List ℕ} → b₁ ≡ takenIn sh b view msg → b₂ ≡ begunIn b₁ view (length es) → b₃ ≡ splice b₂ (startOf sh atHeard) (replicate (9 * sh .n) 0) → Laid sh (unheard sh st view (viewsOf sh msg) (length es)) b₃
   heard-laid w₁ w₂ w₃ = clear-heard (head-begun (view-taken (stands-laid s) view msg bs h w₁) view (length es) (stands-fits s .commit) w₂) w₃
 
-  log-laid : {b₁ b₂ b₃ b₄ : List ℕ} → b₁ ≡ takenIn sh b view msg → b₂ ≡ begunIn b₁ view (length es) → b₃ ≡ splice b₂ (startOf sh 2) (replicate (9 * sh .n) 0) → b₄ ≡ splice b₃ (startOf sh 3) (tableBytes (sh .c) es) → Laid sh (withLog (unheard sh st view (viewsOf sh msg) (length es)) es) b₄
+  log-laid : {b₁ b₂ b₃ b₄ : List ℕ} → b₁ ≡ takenIn sh b view msg → b₂ ≡ begunIn b₁ view (length es) → b₃ ≡ splice b₂ (startOf sh atHeard) (replicate (9 * sh .n) 0) → b₄ ≡ splice b₃ (startOf sh atLog) (tableBytes (sh .c) es) → Laid sh (withLog (unheard sh st view (viewsOf sh msg) (length es)) es) b₄
   log-laid w₁ w₂ w₃ w₄ = put-log (heard-laid w₁ w₂ w₃) es r w₄
 
   -- its bytes
@@ -56,8 +56,8 @@ module _ {sh : Shape} {st : State} {b : List ℕ} (s : Stands sh st b) (view : �
   begun-laid e = laid-as (empty-laid (log-laid refl refl refl refl) refl) e
 
 -- with the entries that stand in a row
-module _ {sh : Shape} {st : State} {b : List ℕ} (s : Stands sh st b) (view : ℕ) (msg : List ℕ) (bs : Bytes msg) (h : 16 + 4 * sh .s ≤ length msg) (src : List ℕ) (at number log : ℕ) (r : number ≤ sh .c) (e : log ≡ startOf sh 3) {b₁ b₂ b₃ : List ℕ}
-    (w₁ : b₁ ≡ takenIn sh b view msg) (w₂ : b₂ ≡ begunIn b₁ view number) (w₃ : b₃ ≡ splice b₂ (startOf sh 2) (replicate (9 * sh .n) 0)) where
+module _ {sh : Shape} {st : State} {b : List ℕ} (s : Stands sh st b) (view : ℕ) (msg : List ℕ) (bs : Bytes msg) (h : 16 + 4 * sh .s ≤ length msg) (src : List ℕ) (at number log : ℕ) (r : number ≤ sh .c) (e : log ≡ startOf sh atLog) {b₁ b₂ b₃ : List ℕ}
+    (w₁ : b₁ ≡ takenIn sh b view msg) (w₂ : b₂ ≡ begunIn b₁ view number) (w₃ : b₃ ≡ splice b₂ (startOf sh atHeard) (replicate (9 * sh .n) 0)) where
   abbrev es : List Entry
   es = items (entryAt src) 24 at number
 
@@ -78,5 +78,5 @@ module _ {sh : Shape} {st : State} {b : List ℕ} (s : Stands sh st b) (view : �
     pub begun-sized : Sized sh b₄
     begun-sized = record { fits = s .fits; size = row-laid .size }
 
-    pub begun : {b₅ : List ℕ} → b₅ ≡ splice b₄ (startOf sh 4) (replicate (tablesLength sh) 0) → b₅ ≡ image sh (started sh st view (viewsOf sh msg) es)
+    pub begun : {b₅ : List ℕ} → b₅ ≡ splice b₄ (startOf sh atEarly) (replicate (tablesLength sh) 0) → b₅ ≡ image sh (started sh st view (viewsOf sh msg) es)
     begun w₅ = empty-laid row-laid w₅ .bytes

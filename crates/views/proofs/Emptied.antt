@@ -8,7 +8,7 @@ use Rattle.octets.specs.Sections.{concat, total}
 use Rattle.octets.proofs.Laws.{splice-back}
 use Rattle.octets.proofs.Sections.{splice-whole}
 use Rattle.rules.specs.State.{State}
-use Rattle.rules.specs.Image.{lengths, zeroBytes, headSection, sections, image}
+use Rattle.rules.specs.Image.{lengths, zeroBytes, headSection, sections, image, atEarly}
 use Rattle.rules.specs.declared.Shape.{Shape}
 use Rattle.rules.proofs.Image.{length-total}
 use Rattle.places.specs.Layout.{startOf, Laid}
@@ -34,19 +34,19 @@ module _ (sh : Shape) (st : State) where
   emptied-sections = simp (table-zeros (sh .c), notes-zeros sh, votes-zeros (sh .c) (sh .n), replies-zeros (sh .c) (sh .s))
 
 module _ {sh : Shape} {st : State} {b : List ℕ} (l : Laid sh st b) where
-  pub empty-laid : {b′ : List ℕ} → b′ ≡ splice b (startOf sh 4) (replicate (tablesLength sh) 0) → Laid sh (emptied sh st) b′
+  pub empty-laid : {b′ : List ℕ} → b′ ≡ splice b (startOf sh atEarly) (replicate (tablesLength sh) 0) → Laid sh (emptied sh st) b′
   unfolding image
   empty-laid w =
       let xs = take 4 (sections sh st) in
       let ys = drop 4 (sections sh st) in
       let zs = after sh st in
-      let at : startOf sh 4 ≡ total (map length xs) = sym (ap (λ (ns : List ℕ). total (take 4 ns)) (l .long)) in
+      let at : startOf sh atEarly ≡ total (map length xs) = sym (ap (λ (ns : List ℕ). total (take 4 ns)) (l .long)) in
       let z : zeroBytes (tablesLength sh) ≡ concat zs = sym (concat-zeros (drop 4 (lengths sh))) in
       let n : length (concat zs) ≡ length (concat ys) = length-total zs ∙ ap total (long-zeros (drop 4 (lengths sh))) ∙ sym (length-total ys ∙ ap (λ (ns : List ℕ). total (drop 4 ns)) (l .long)) in
       lay
       (w
-      ∙ ap (λ (y : List ℕ). splice y (startOf sh 4) (zeroBytes (tablesLength sh))) (l .bytes)
-      ∙ ap (λ (y : List ℕ). splice (concat (sections sh st)) (startOf sh 4) y) z
+      ∙ ap (λ (y : List ℕ). splice y (startOf sh atEarly) (zeroBytes (tablesLength sh))) (l .bytes)
+      ∙ ap (λ (y : List ℕ). splice (concat (sections sh st)) (startOf sh atEarly) y) z
       ∙ ap (λ (k : ℕ). splice (concat (sections sh st)) k (concat zs)) at
       ∙ splice-last xs ys zs n
       ∙ ap concat (sym (emptied-sections sh st)))

@@ -8,7 +8,7 @@ use Rattle.octets.specs.Bytes.{le, num, part, splice}
 use Rattle.octets.proofs.Laws.{Bytes, num-lt}
 use Rattle.octets.proofs.Codecs.{All, length-items}
 use Rattle.rules.specs.State.{State}
-use Rattle.rules.specs.Image.{image}
+use Rattle.rules.specs.Image.{image, atGVec}
 use Rattle.rules.specs.declared.Shape.{Shape}
 use Rattle.rules.proofs.Tests.{all-items}
 use Rattle.places.specs.Layout.{startOf, Laid}
@@ -32,10 +32,10 @@ module _ (sh : Shape) (msg : List ℕ) where
 
 -- ---- what is written
 
-pub taken-in : (sh : Shape) (b b₁ b₂ msg : List ℕ) (view : ℕ) → b₁ ≡ splice b 8 (le 4 view) → b₂ ≡ splice b₁ (startOf sh 1) (part msg 16 (4 * sh .s)) → b₂ ≡ takenIn sh b view msg
+pub taken-in : (sh : Shape) (b b₁ b₂ msg : List ℕ) (view : ℕ) → b₁ ≡ splice b 8 (le 4 view) → b₂ ≡ splice b₁ (startOf sh atGVec) (part msg 16 (4 * sh .s)) → b₂ ≡ takenIn sh b view msg
 taken-in sh b b₁ b₂ msg view w₁ w₂ = w₂ ∙ rw w₁
 
 module _ {sh : Shape} {st : State} {b : List ℕ} (l : Laid sh st b) where
   pub view-taken : {b′ : List ℕ} (view : ℕ) (msg : List ℕ) → Bytes msg → 16 + 4 * sh .s ≤ length msg → b′ ≡ takenIn sh b view msg → Laid sh (withGVec (withView st view) (viewsOf sh msg)) b′
   view-taken view msg bs h w =
-      put-views (put-view l view refl) (viewsOf sh msg) (views-long sh msg) (w ∙ ap (splice (splice b 8 (le 4 view)) (startOf sh 1)) (views-in msg 16 (sh .s) bs h))
+      put-views (put-view l view refl) (viewsOf sh msg) (views-long sh msg) (w ∙ ap (splice (splice b 8 (le 4 view)) (startOf sh atGVec)) (views-in msg 16 (sh .s) bs h))

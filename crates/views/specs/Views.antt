@@ -5,8 +5,8 @@ use mathlib.Core.List.{List, []}
 use lib.ListN.{drop, replicate}
 use Rattle.octets.specs.Bytes.{le, num, part, splice, items}
 use Rattle.octets.specs.Sections.{total}
-use Rattle.rules.specs.State.{State}
-use Rattle.rules.specs.Image.{lengths}
+use Rattle.rules.specs.State.{withWaiting, withChange, noneWait, State}
+use Rattle.rules.specs.Image.{lengths, atGVec}
 use Rattle.rules.specs.declared.Shape.{Shape}
 use Rattle.places.specs.Layout.{startOf}
 
@@ -17,26 +17,8 @@ viewsOf sh msg = items (λ a. num msg a 4) 4 16 (sh .s)
 -- early, late, notes, votes, draft and replies empty
 abbrev pub emptied : Shape → State → State
 emptied sh st =
-    record {
-      group = st .group;
-      replica = st .replica;
-      view = st .view;
-      gVec = st .gVec;
-      normal = st .normal;
-      status = st .status;
-      clock = st .clock;
-      sync = st .sync;
-      commit = st .commit;
-      log = st .log;
-      early = [];
-      late = [];
-      notes = [];
-      votes = replicate (sh .n) none;
-      draft = [];
-      boundary = st .boundary;
-      replies = replicate (sh .s) none;
-      heard = st .heard;
-    }
+    withWaiting noneWait
+    (withChange (record { votes = replicate (sh .n) none; draft = []; boundary = st .change .boundary; replies = replicate (sh .s) none }) st)
 
 -- how many bytes there are from early on
 abbrev pub tablesLength : Shape → ℕ
@@ -44,7 +26,7 @@ tablesLength sh = total (drop 4 (lengths sh))
 
 -- the gView and the gVec of a message written
 abbrev pub takenIn : Shape → List ℕ → ℕ → List ℕ → List ℕ
-takenIn sh b view msg = splice (splice b 8 (le 4 view)) (startOf sh 1) (part msg 16 (4 * sh .s))
+takenIn sh b view msg = splice (splice b 8 (le 4 view)) (startOf sh atGVec) (part msg 16 (4 * sh .s))
 
 -- the numbers of a view that starts with a log of this length written
 abbrev pub begunIn : List ℕ → ℕ → ℕ → List ℕ

@@ -1,11 +1,12 @@
 // What a new view leaves in the state: its gView and its gVec, empty tables, and, where it starts, its numbers and its log.
 use rules::Shape;
+use rules::status;
 ghost use mathlib.Core.Path.{_≡_};
 ghost use Prim.Native.Nat.{_+_, _*_, _≤_, min};
 ghost use lib.ListN.{length, replicate};
 ghost use Rattle.octets.specs.Bytes.{splice, items};
 ghost use Rattle.rules.specs.Read.{entryAt};
-ghost use Rattle.rules.specs.Image.{image, stateOf};
+ghost use Rattle.rules.specs.Image.{image, stateOf, atEarly};
 ghost use Rattle.rules.specs.Step.{started};
 ghost use Rattle.places.specs.Layout.{startOf, Sized, Stands};
 ghost use Rattle.views.specs.Views.{viewsOf, tablesLength, takenIn, begunIn};
@@ -13,7 +14,7 @@ ghost use Rattle.views.specs.Views.{viewsOf, tablesLength, takenIn, begu
 // Empties early, late, notes, votes, draft and replies: they stand side by side to the end.
 pub fn empty_tables(shape: Shape, state: &mut [u8])
     requires { ⌜ Sized shape (now state) ⌝ }
-    ensures { λ _. ⌜ now (state .exit) ≡ splice (now (state .entry)) (startOf shape 4) (replicate (tablesLength shape) 0) ⌝ }
+    ensures { λ _. ⌜ now (state .exit) ≡ splice (now (state .entry)) (startOf shape atEarly) (replicate (tablesLength shape) 0) ⌝ }
 {
     let places = places::places_of(shape);
     octets::fill_zero(state, places.early, places.end - places.early);
@@ -41,7 +42,7 @@ fn begin_head(state: &mut [u8], view: u32, len: u64)
     ensures { λ _. ⌜ now (state .exit) ≡ begunIn (now (state .entry)) view len ⌝ }
 {
     let commit = smaller(places::get_commit(state), len);
-    places::put_status(state, 1);
+    places::put_status(state, status::NORMAL);
     places::put_normal(state, view);
     places::put_sync(state, len);
     places::put_commit(state, commit);

@@ -1,7 +1,7 @@
 -- The ways through the asking of all other groups. Assumes nothing.
 use Prim.Native.Nat.{ℕ, _-_, _*_, _^_, _≤_, _<_}
 use mathlib.Core.Path.{_≡_, refl, sym, ap, _∙_}
-use mathlib.Core.Bool.{true, not, _&&_}
+use mathlib.Core.Bool.{true, not, _&&_, false}
 use mathlib.Core.Option.{Option}
 use mathlib.Core.List.{List, [], _∷_}
 use native.Mathlib.Omega.{arith}
@@ -9,6 +9,7 @@ use lib.ListN.{length}
 use lib.Dec.{eqb}
 use Rattle.octets.specs.Bytes.{splice, flat}
 use Rattle.octets.proofs.Laws.{Bytes}
+use Rattle.rules.specs.Kind.{rowOf}
 use Rattle.rules.specs.Choice.{pick, keep, below}
 use Rattle.rules.specs.Group.{holds, only, leader}
 use Rattle.rules.specs.Wire.{Wire, wireBytes}
@@ -39,7 +40,7 @@ othersOf sh mask g = keep (λ j. not (eqb j g) && holds mask j) (below (sh .s))
 
 -- how long a verify request is
 pub ask-need : (s need : ℕ) → s ≤ 8 → need ≡ lengthFor s 18 0 → need ≤ 64
-unfolding pick
+unfolding pick rowOf
 ask-need s need h e = omega arith
 
 module _ (sh : Shape) (b msg : List ℕ) (view : ℕ) (k : Cast) (g : Brought sh b msg view k) (bs : Bytes msg) (v : view < 256 ^ 4) (out t : List ℕ) (h : Table (sh .c) t) (boundary mask count : ℕ) (m : mask ≡ 2 ^ sh .s - 1) (n : count ≡ length (othersIn sh b mask)) where
@@ -53,7 +54,7 @@ module _ (sh : Shape) (b msg : List ℕ) (view : ℕ) (k : Cast) (g : Brought sh
   draft = tableAt (sh .c) t 0
 
   abbrev next : State
-  next = changing here 3 votes draft boundary (here .replies)
+  next = changing here 3 votes draft boundary (here .change .replies)
 
   abbrev asks : ℕ → Wire
   asks j = sendLeader sh here 18 j (boundary ∷ []) []
@@ -77,10 +78,10 @@ module _ (sh : Shape) (b msg : List ℕ) (view : ℕ) (k : Cast) (g : Brought sh
   others-here = ap (othersOf sh mask) (come .group) ∙ sym (others-are (stands-laid stands) (sender (stands-fits stands)) mask)
 
   long : (need : ℕ) → need ≡ lengthFor (sh .s) 18 0 → length (flat wireBytes sent-all) ≡ need * count
-  unfolding pick
+  unfolding pick rowOf
   long need e =
       sends-length asks (lengthFor (sh .s) 18 0) (otherGroups sh here (λ j. true))
-      (all-given (λ j. sent-length (sh .s) here 18 j (only (leader (sh .n) (here .gVec) j)) (boundary ∷ []) [] (come .sends .places) refl refl) (otherGroups sh here (λ j. true)))
+      (all-given (λ j. sent-length (sh .s) here 18 j (only (leader (sh .n) (here .view .gVec) j)) (boundary ∷ []) [] (come .sends .places) refl refl) (otherGroups sh here (λ j. true)))
       ∙ rw (e, n, groups-are, others-here)
 
   pub ask-short : (need : ℕ) → need ≡ lengthFor (sh .s) 18 0 → length out < need * count → leaves 9 b out ≡ outcome
@@ -99,7 +100,7 @@ module _ (sh : Shape) (b msg : List ℕ) (view : ℕ) (k : Cast) (g : Brought sh
         let x : othersIn sh b₂ mask ≡ othersIn sh b mask = others-are next-laid next-sender mask ∙ others-here in
         rw (x, ← n, ← e) l
 
-    pub ask-sent : (sent : ℕ) (out′ : List ℕ) → sent ≡ length (flat (leaderBytes sh b₂ 18 boundary []) (othersIn sh b₂ mask)) → out′ ≡ splice out 0 (flat (leaderBytes sh b₂ 18 boundary []) (othersIn sh b₂ mask)) → _≡_ {A = Left} (record { number = 0; sent = sent; state = b₂; out = out′ }) outcome
+    pub ask-sent : (sent : ℕ) (out′ : List ℕ) → sent ≡ length (flat (leaderBytes sh b₂ 18 boundary []) (othersIn sh b₂ mask)) → out′ ≡ splice out 0 (flat (leaderBytes sh b₂ 18 boundary []) (othersIn sh b₂ mask)) → _≡_ {A = Left} (record { refused = false; number = 0; sent = sent; state = b₂; out = out′ }) outcome
     ask-sent sent out′ q o =
         let y : flat (leaderBytes sh b₂ 18 boundary []) (othersIn sh b₂ mask) ≡ flat wireBytes sent-all = verifies-sent next-laid next-sender boundary mask ∙ ap (λ (js : List ℕ). flat wireBytes (sends asks js)) (sym groups-are) in
         sym (closes-sent sh b out next sent-all (rw (long need e) l) ∙ rw (q, o, y, next-laid .bytes))

@@ -10,10 +10,11 @@ use borrow.Author.Tests.{not-true, not-false}
 use Rattle.octets.specs.Bytes.{le, num, splice, items}
 use Rattle.octets.proofs.Laws.{Bytes}
 use Rattle.octets.proofs.Codecs.{length-items}
+use Rattle.rules.specs.Kind.{rowOf}
 use Rattle.rules.specs.Choice.{pick}
 use Rattle.rules.specs.Read.{entryAt}
 use Rattle.rules.specs.State.{Vote, State}
-use Rattle.rules.specs.Image.{voteLength, tableBytes, voteBytes, tableAt, image, stateOf}
+use Rattle.rules.specs.Image.{voteLength, tableBytes, voteBytes, tableAt, image, stateOf, atDraft, atVotes}
 use Rattle.rules.specs.Step.{ownVote, started}
 use Rattle.rules.specs.declared.Entry.{Entry}
 use Rattle.rules.specs.declared.Shape.{Shape}
@@ -52,13 +53,13 @@ even-none c (suc n) = (length-replicate {A = ℕ} (voteLength c) 0, even-none c 
 -- ---- what is known of the state in the vote's view
 
 pub record Comes (sh : Shape) (b msg : List ℕ) (v : ℕ) (k : Cast) (st : State) : Type 0 where
-  pub votes : set (st .votes) (k .sender) (some (said msg k)) ≡ votesIn sh b msg k
-  pub even : Even (voteBytes (sh .c)) (voteLength (sh .c)) (st .votes)
+  pub votes : set (st .change .votes) (k .sender) (some (said msg k)) ≡ votesIn sh b msg k
+  pub even : Even (voteBytes (sh .c)) (voteLength (sh .c)) (st .change .votes)
   pub laid : (b′ : List ℕ) → b′ ≡ image sh st → Laid sh st b′
   pub sends : Sender sh st
-  pub status : st .status ≡ 2
-  pub group : st .group ≡ stateOf sh b .group
-  pub begins : (es : List Entry) → started sh st (st .view) (st .gVec) es ≡ started sh (stateOf sh b) v (viewsOf sh msg) es
+  pub status : st .view .status ≡ 2
+  pub group : st .site .group ≡ stateOf sh b .site .group
+  pub begins : (es : List Entry) → started sh st (st .view .gView) (st .view .gVec) es ≡ started sh (stateOf sh b) v (viewsOf sh msg) es
 
 module _ (sh : Shape) (b msg : List ℕ) (view : ℕ) (k : Cast) (g : Brought sh b msg view k) where
   abbrev st : State
@@ -80,16 +81,16 @@ module _ (sh : Shape) (b msg : List ℕ) (view : ℕ) (k : Cast) (g : Brought sh
 
   module _ (bs : Bytes msg) (v : view < 256 ^ 4) where
     comes-entered : k .entering ≡ true → Comes sh b msg view k entered
-    unfolding votesIn pick
+    unfolding votesIn pick rowOf
     comes-entered e =
         let f = stands-fits stands in
         let n = even-none (sh .c) (sh .n) in
         let o : length (voteBytes (sh .c) (some (ownVote st))) ≡ voteLength (sh .c) = vote-long (sh .c) (ownVote st) (f .log .room) in
-        let l = put-vote (entered-laid stands view msg bs (g .views) refl) (st .replica) (ownVote st) n (f .log .room) (replica-below stands) refl in
+        let l = put-vote (entered-laid stands view msg bs (g .views) refl) (st .site .replica) (ownVote st) n (f .log .room) (replica-below stands) refl in
         let s = entered-sender stands view msg bs (g .views) v in
         record {
           votes = sym (rw e (ballots-entering sh st (k .sender) (said msg k)));
-          even = even-set (voteBytes (sh .c)) (voteLength (sh .c)) (replicate (sh .n) none) (st .replica) (some (ownVote st)) n o;
+          even = even-set (voteBytes (sh .c)) (voteLength (sh .c)) (replicate (sh .n) none) (st .site .replica) (some (ownVote st)) n o;
           laid = λ b′ i. laid-as l i;
           sends = record { group = s .group; replica = s .replica; view = s .view; places = s .places; gVec = s .gVec };
           status = refl;
@@ -119,11 +120,11 @@ module _ (sh : Shape) (b msg : List ℕ) (view : ℕ) (k : Cast) (g : Brought sh
     -- ---- the vote kept
 
     pub kept : (b₁ b₂ : List ℕ) (at number normal : ℕ) → b₁ ≡ image sh (cameTo sh b msg view (k .entering)) → at ≡ k .at → number ≡ num msg at 4 → normal ≡ k .normal
-        → b₂ ≡ splice b₁ (startOf sh 7 + voteLength (sh .c) * k .sender) (voteBytes (sh .c) (some (record { normal = normal; sync = k .sync; log = items (entryAt msg) 24 (at + 4) number }))) → Laid sh (keptIn sh b msg view k) b₂
+        → b₂ ≡ splice b₁ (startOf sh atVotes + voteLength (sh .c) * k .sender) (voteBytes (sh .c) (some (record { normal = normal; sync = k .sync; log = items (entryAt msg) 24 (at + 4) number }))) → Laid sh (keptIn sh b msg view k) b₂
     kept b₁ b₂ at number normal i a n m w =
         let q = comes in
         let r : length (sentLog msg (k .at)) ≤ sh .c = omega (arith, g .given .room, length-items (entryAt msg) 24 (k .at + 4) (num msg (k .at) 4)) in
-        let w′ : b₂ ≡ splice b₁ (startOf sh 7 + voteLength (sh .c) * k .sender) (voteBytes (sh .c) (some (said msg k))) = w ∙ rw (n, a, m) in
+        let w′ : b₂ ≡ splice b₁ (startOf sh atVotes + voteLength (sh .c) * k .sender) (voteBytes (sh .c) (some (said msg k))) = w ∙ rw (n, a, m) in
         subst (λ (vs : List (Option Vote)). Laid sh (withVotes (cameTo sh b msg view (k .entering)) vs) b₂) (q .votes)
         (put-vote (q .laid b₁ i) (k .sender) (said msg k) (q .even) r (g .given .sent .sender) w′)
 
@@ -140,7 +141,7 @@ module _ (sh : Shape) (b msg : List ℕ) (view : ℕ) (entering : Bool) where
 
 -- ---- the draft
 
-pub draft-taken : (sh : Shape) (b b₁ b₂ b₃ t : List ℕ) (draft number boundary : ℕ) → Table (sh .c) t → draft ≡ startOf sh 8 → number ≡ num t 0 4 → b₁ ≡ splice b draft (tableBytes (sh .c) (items (entryAt t) 24 4 number)) → b₂ ≡ splice b₁ 40 (le 8 boundary) → b₃ ≡ splice b₂ 2 (le 1 3) → b₃ ≡ draftedIn sh b (tableAt (sh .c) t 0) boundary
+pub draft-taken : (sh : Shape) (b b₁ b₂ b₃ t : List ℕ) (draft number boundary : ℕ) → Table (sh .c) t → draft ≡ startOf sh atDraft → number ≡ num t 0 4 → b₁ ≡ splice b draft (tableBytes (sh .c) (items (entryAt t) 24 4 number)) → b₂ ≡ splice b₁ 40 (le 8 boundary) → b₃ ≡ splice b₂ 2 (le 1 3) → b₃ ≡ draftedIn sh b (tableAt (sh .c) t 0) boundary
 draft-taken sh b b₁ b₂ b₃ t draft number boundary h d n w₁ w₂ w₃ = rw (w₃, w₂, w₁, d, table-row (sh .c) t number h n)
 
 module _ {sh : Shape} {st : State} {b : List ℕ} (l : Laid sh st b) where

@@ -41,7 +41,7 @@ module _ (sh : Shape) (st : State) (votes : List (Option Vote)) where
       let q = lt-leb (length log) (sh .c) h in
       by-test (λ (o : Outcome). o ≡ refused 8) (eqb (sh .s) 1) (λ e. pick-false (leb (length log) (sh .c)) _ _ q) (λ e. pick-false (leb (length log) (sh .c)) _ _ q)
 
-  one : length log ≤ sh .c → sh .s ≡ 1 → concludes sh st votes ≡ ledBy sh st (st .view) (st .gVec) log
+  one : length log ≤ sh .c → sh .s ≡ 1 → concludes sh st votes ≡ ledBy sh st (st .view .gView) (st .view .gVec) log
   unfolding starts
   one h e = pick-true (eqb (sh .s) 1) _ _ (eq-eqb (sh .s) 1 e) ∙ pick-true (leb (length log) (sh .c)) _ _ (le-leb (length log) (sh .c) h)
 

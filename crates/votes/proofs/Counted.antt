@@ -11,7 +11,7 @@ use lib.Dec.{eqb}
 use borrow.Author.Tests.{eqb-true, eqb-false}
 use Rattle.rules.specs.Choice.{pick, count, isSome}
 use Rattle.rules.specs.State.{Vote, held}
-use Rattle.rules.specs.Image.{voteLength, voteAt, stateOf}
+use Rattle.rules.specs.Image.{voteLength, voteAt, stateOf, atVotes}
 use Rattle.rules.specs.declared.Shape.{Shape}
 use Rattle.rules.proofs.Choice.{by-test, by-cases, pick-true, pick-false}
 use Rattle.rules.proofs.KeptLaws.{count-same, count-none}
@@ -63,15 +63,15 @@ held-none n =
 
 module _ (sh : Shape) (b : List ℕ) (k : Cast) where
   pub count-entering : k .entering ≡ true → 2 ≡ countWith sh b k
-  count-entering e = sym (pick-true (k .entering) 2 (held (stateOf sh b .votes) + 1) e)
+  count-entering e = sym (pick-true (k .entering) 2 (held (stateOf sh b .change .votes) + 1) e)
 
   module _ (g : Sent sh b k) where
-    pub second-kept : (t : Bool) → t ≡ isSome (voteAt (sh .c) b (startOf sh 7 + voteLength (sh .c) * k .sender)) → (not (k .entering) && t) ≡ isSecond sh b k
+    pub second-kept : (t : Bool) → t ≡ isSome (voteAt (sh .c) b (startOf sh atVotes + voteLength (sh .c) * k .sender)) → (not (k .entering) && t) ≡ isSecond sh b k
     second-kept t e = ap (λ (x : Bool). not (k .entering) && x) (e ∙ ap isSome (vote-at (g .stands) (k .sender) (g .sender)))
 
-    module _ (m : ℕ) (e : m ≡ count (λ r. isSome (voteAt (sh .c) b (startOf sh 7 + voteLength (sh .c) * r))) (sh .n)) where
+    module _ (m : ℕ) (e : m ≡ count (λ r. isSome (voteAt (sh .c) b (startOf sh atVotes + voteLength (sh .c) * r))) (sh .n)) where
       pub count-small : m ≤ 7
-      count-small = omega (arith, count-most (λ r. isSome (voteAt (sh .c) b (startOf sh 7 + voteLength (sh .c) * r))) (sh .n), g .stands .fits .most)
+      count-small = omega (arith, count-most (λ r. isSome (voteAt (sh .c) b (startOf sh atVotes + voteLength (sh .c) * r))) (sh .n), g .stands .fits .most)
 
       pub count-kept : k .entering ≡ false → m + 1 ≡ countWith sh b k
-      count-kept f = ap (λ (x : ℕ). x + 1) (e ∙ votes-held (g .stands)) ∙ sym (pick-false (k .entering) 2 (held (stateOf sh b .votes) + 1) f)
+      count-kept f = ap (λ (x : ℕ). x + 1) (e ∙ votes-held (g .stands)) ∙ sym (pick-false (k .entering) 2 (held (stateOf sh b .change .votes) + 1) f)

@@ -11,10 +11,11 @@ use lib.Dec.{eqb, ltb, leb}
 use borrow.Author.Tests.{lt-ltb, le-ltb, le-leb, lt-leb, eqb-true, eqb-false, not-true}
 use Rattle.octets.specs.Bytes.{num, items}
 use Rattle.octets.proofs.Laws.{Bytes}
-use Rattle.rules.specs.Choice.{pick, isSome}
+use Rattle.rules.specs.Choice.{pick, isSome, any}
 use Rattle.rules.specs.Group.{majority}
 use Rattle.rules.specs.Log.{goodLog}
-use Rattle.rules.specs.Wire.{Wire, bare, known, tagOf, headerIn, numbersOf}
+use Rattle.rules.specs.Wire.{Wire, tagOf, headerIn, numbersOf}
+use Rattle.rules.specs.Kind.{bare, known, fromOutside, withLog, rowOf}
 use Rattle.rules.specs.Wire as wires
 use Rattle.rules.specs.Read.{wireIn, entriesAt, lengthFor, entryAt, formed}
 use Rattle.rules.specs.State.{Vote, State, held}
@@ -49,10 +50,10 @@ use Rattle.votes.proofs.Came.{said, Comes, comes}
 
 module _ (sh : Shape) (st : State) (r : ℕ) (v : Vote) where
   abbrev with-it : List (Option Vote)
-  with-it = set (st .votes) r (some v)
+  with-it = set (st .change .votes) r (some v)
 
   abbrev kept-already : Bool
-  kept-already = isSome (getD (st .votes) r none)
+  kept-already = isSome (getD (st .change .votes) r none)
 
   second : kept-already ≡ true → keepsVote sh st r v ≡ refused 7
   unfolding keepsVote
@@ -64,7 +65,7 @@ module _ (sh : Shape) (st : State) (r : ℕ) (v : Vote) where
     past h = pick-false kept-already _ _ e ∙ pick-false (leb (length (v .log)) (sh .c)) _ _ (lt-leb (length (v .log)) (sh .c) h)
 
     module _ (h : length (v .log) ≤ sh .c) where
-      few : held with-it < majority (sh .n) → keepsVote sh st r v ≡ done (changing st 2 with-it (st .draft) (st .boundary) (st .replies)) []
+      few : held with-it < majority (sh .n) → keepsVote sh st r v ≡ done (changing st 2 with-it (st .change .draft) (st .change .boundary) (st .change .replies)) []
       unfolding keepsVote
       few l = pick-false kept-already _ _ e ∙ pick-true (leb (length (v .log)) (sh .c)) _ _ (le-leb (length (v .log)) (sh .c) h) ∙ pick-true (ltb (held with-it) (majority (sh .n))) _ _ (lt-ltb (held with-it) (majority (sh .n)) l)
 
@@ -76,23 +77,23 @@ module _ (sh : Shape) (st : State) (r : ℕ) (v : Vote) where
 
 record Right (sh : Shape) (st : State) (w : Wire) : Type 0 where
   leads : leadsBy sh st w ≡ true
-  other : w .fromReplica ≡ st .replica → ⊥
-  status : newer st w ≡ false → st .status ≡ 2
-  view : newer st w ≡ false → w .view ≡ st .view
-  gVec : newer st w ≡ false → w .gVec ≡ st .gVec
+  other : w .fromReplica ≡ st .site .replica → ⊥
+  status : newer st w ≡ false → st .view .status ≡ 2
+  view : newer st w ≡ false → w .view ≡ st .view .gView
+  gVec : newer st w ≡ false → w .gVec ≡ st .view .gVec
 
 right : (sh : Shape) (st : State) (w : Wire) → viewRight 8 st w ≡ true → statusRight 8 st w ≡ true → roleRight 8 sh st w ≡ true → Right sh st w
-unfolding viewRight statusRight roleRight pick
+unfolding viewRight statusRight roleRight pick rowOf
 right sh st w v s r =
     let p = and-right (leadsBy sh st w) _ r in
-    let q : not (eqb (w .fromReplica) (st .replica)) ≡ true = and-right (fromOwn st w) _ p in
+    let q : not (eqb (w .fromReplica) (st .site .replica)) ≡ true = and-right (fromOwn st w) _ p in
     let same-one : newer st w ≡ false → equal st w ≡ true = λ f. or-cases (newer st w) (equal st w) v (λ t. clash (newer st w) t f) (λ t. t) in
     record {
       leads = and-left (leadsBy sh st w) _ r;
-      other = eqb-false (w .fromReplica) (st .replica) (not-true (eqb (w .fromReplica) (st .replica)) q);
-      status = λ f. or-cases (newer st w) (eqb (st .status) 2) s (λ t. clash (newer st w) t f) (λ t. eqb-true (st .status) 2 t);
-      view = λ f. eqb-true (w .view) (st .view) (and-left (eqb (w .view) (st .view)) _ (same-one f));
-      gVec = λ f. same-true (w .gVec) (st .gVec) (and-right (eqb (w .view) (st .view)) _ (same-one f));
+      other = eqb-false (w .fromReplica) (st .site .replica) (not-true (eqb (w .fromReplica) (st .site .replica)) q);
+      status = λ f. or-cases (newer st w) (eqb (st .view .status) 2) s (λ t. clash (newer st w) t f) (λ t. eqb-true (st .view .status) 2 t);
+      view = λ f. eqb-true (w .view) (st .view .gView) (and-left (eqb (w .view) (st .view .gView)) _ (same-one f));
+      gVec = λ f. same-true (w .gVec) (st .view .gVec) (and-right (eqb (w .view) (st .view .gView)) _ (same-one f));
     }
 
 -- ---- the ways
@@ -117,9 +118,11 @@ module _ (sh : Shape) (b msg out : List ℕ) (m : Message) (h : Header) (normal 
   kind-is = ap tagOf e
 
   kind-known : known (tagOf m) ≡ true
+  unfolding any
   kind-known = ap (λ (x : Message). known (tagOf x)) e
 
   kind-views : bare (tagOf m) ≡ false
+  unfolding rowOf
   kind-views = ap (λ (x : Message). bare (tagOf x)) e
 
   told-so : Told (sh .n) (sh .s) m msg
@@ -177,20 +180,22 @@ module _ (sh : Shape) (b msg out : List ℕ) (m : Message) (h : Header) (normal 
   vote-counted = omega (arith, whole)
 
   pub vote-sender : Sent sh b k
+  unfolding rowOf
   vote-sender =
-      let f = told-sender (sh .n) (sh .s) m msg told-so (ap (λ (x : Message). wires.fromOutside (tagOf x)) e) .1 in
+      let f = told-sender (sh .n) (sh .s) m msg told-so (ap (λ (x : Message). fromOutside (tagOf x)) e) .1 in
       record { stands = r .stands; sender = subst (λ (x : Header). x .«from_replica» < sh .n) header-is f }
 
   formed-so : formed (sh .n) (sh .s) w ≡ true
   formed-so = told-formed (sh .n) (sh .s) m msg told-so bs
 
   pub vote-brought : num msg at 4 ≤ sh .c → Brought sh b msg (h .view) k
+  unfolding rowOf
   vote-brought l =
       let p = vote-parts (sh .n) (sh .s) w formed-so (told-so .kind ∙ kind-is) in
       let x : normal ≡ wires.number w 0 = sym (ap (λ (v : Vote). v .normal) vote-is) in
       let y : sync ≡ wires.number w 1 = sym (ap (λ (v : Vote). v .sync) vote-is) in
       let wide = view-wide (sh .n) (sh .s) w formed-so in
-      let good : goodLog (sh .s) (st .group) (sentLog msg at) ≡ true = rw (← entries-are) (ready-log sh b msg m r bs (ap (λ (z : Message). wires.withLog (tagOf z)) e)) in
+      let good : goodLog (sh .s) (st .site .group) (sentLog msg at) ≡ true = rw (← entries-are) (ready-log sh b msg m r bs (ap (λ (z : Message). withLog (tagOf z)) e)) in
       record {
         given = record { sent = vote-sender; long = omega (arith, whole); room = l; good = good; within = omega (arith, p .1, entries-long) };
         normal = omega (arith, p .0);
@@ -202,20 +207,20 @@ module _ (sh : Shape) (b msg out : List ℕ) (m : Message) (h : Header) (normal 
 
   -- ---- what is kept already
 
-  other-sender : k .sender ≡ st .replica → ⊥
+  other-sender : k .sender ≡ st .site .replica → ⊥
   other-sender q = is-right .other (from-is ∙ q)
 
   abbrev own : List (Option Vote)
-  own = set (replicate (sh .n) none) (st .replica) (some (ownVote st))
+  own = set (replicate (sh .n) none) (st .site .replica) (some (ownVote st))
 
   own-other : getD own (k .sender) none ≡ none
-  own-other = getD-set-other (replicate (sh .n) none) (st .replica) (k .sender) (some (ownVote st)) none other-sender ∙ getD-replicate (sh .n) (k .sender) none none (vote-sender .sender)
+  own-other = getD-set-other (replicate (sh .n) none) (st .site .replica) (k .sender) (some (ownVote st)) none other-sender ∙ getD-replicate (sh .n) (k .sender) none none (vote-sender .sender)
 
-  entered-votes : k .entering ≡ true → here .votes ≡ own
+  entered-votes : k .entering ≡ true → here .change .votes ≡ own
   unfolding cameTo pick
   entered-votes f = rw f
 
-  same-votes : k .entering ≡ false → here .votes ≡ st .votes
+  same-votes : k .entering ≡ false → here .change .votes ≡ st .change .votes
   unfolding cameTo pick
   same-votes f = rw f
 
@@ -225,23 +230,23 @@ module _ (sh : Shape) (b msg out : List ℕ) (m : Message) (h : Header) (normal 
       (λ f. rw (entered-votes f, own-other, f))
       (λ f. rw (same-votes f, f))
 
-  places-long : length (here .votes) ≡ sh .n
+  places-long : length (here .change .votes) ≡ sh .n
   places-long =
       by-cases (k .entering)
-      (λ f. ap length (entered-votes f) ∙ length-set (replicate (sh .n) none) (st .replica) (some (ownVote st)) ∙ length-replicate {A = Option Vote} (sh .n) none)
+      (λ f. ap length (entered-votes f) ∙ length-set (replicate (sh .n) none) (st .site .replica) (some (ownVote st)) ∙ length-replicate {A = Option Vote} (sh .n) none)
       (λ f. ap length (same-votes f) ∙ stands-fits (r .stands) .votePlaces)
 
-  held-here : held (here .votes) + 1 ≡ countWith sh b k
+  held-here : held (here .change .votes) + 1 ≡ countWith sh b k
   held-here = by-cases (k .entering) entering staying
     where
-      entering : k .entering ≡ true → held (here .votes) + 1 ≡ countWith sh b k
+      entering : k .entering ≡ true → held (here .change .votes) + 1 ≡ countWith sh b k
       entering f =
-          let x : st .replica < length (replicate {A = Option Vote} (sh .n) none) = omega (arith, length-replicate {A = Option Vote} (sh .n) none, replica-below (r .stands)) in
-          let y : isSome (getD (replicate {A = Option Vote} (sh .n) none) (st .replica) none) ≡ false = ap isSome (getD-replicate {A = Option Vote} (sh .n) (st .replica) none none (replica-below (r .stands))) in
-          ap (λ (vs : List (Option Vote)). held vs + 1) (entered-votes f) ∙ ap (λ (i : ℕ). i + 1) (held-more (replicate (sh .n) none) (st .replica) (ownVote st) x y ∙ ap (λ (i : ℕ). i + 1) (held-none (sh .n))) ∙ sym (pick-true (k .entering) 2 (held (st .votes) + 1) f)
+          let x : st .site .replica < length (replicate {A = Option Vote} (sh .n) none) = omega (arith, length-replicate {A = Option Vote} (sh .n) none, replica-below (r .stands)) in
+          let y : isSome (getD (replicate {A = Option Vote} (sh .n) none) (st .site .replica) none) ≡ false = ap isSome (getD-replicate {A = Option Vote} (sh .n) (st .site .replica) none none (replica-below (r .stands))) in
+          ap (λ (vs : List (Option Vote)). held vs + 1) (entered-votes f) ∙ ap (λ (i : ℕ). i + 1) (held-more (replicate (sh .n) none) (st .site .replica) (ownVote st) x y ∙ ap (λ (i : ℕ). i + 1) (held-none (sh .n))) ∙ sym (pick-true (k .entering) 2 (held (st .change .votes) + 1) f)
 
-      staying : k .entering ≡ false → held (here .votes) + 1 ≡ countWith sh b k
-      staying f = ap (λ (vs : List (Option Vote)). held vs + 1) (same-votes f) ∙ sym (pick-false (k .entering) 2 (held (st .votes) + 1) f)
+      staying : k .entering ≡ false → held (here .change .votes) + 1 ≡ countWith sh b k
+      staying f = ap (λ (vs : List (Option Vote)). held vs + 1) (same-votes f) ∙ sym (pick-false (k .entering) 2 (held (st .change .votes) + 1) f)
 
   -- ---- the ways
 
@@ -269,12 +274,12 @@ module _ (sh : Shape) (b msg out : List ℕ) (m : Message) (h : Header) (normal 
 
           count-is : total ≡ held (with-it sh here (k .sender) (said msg k))
           count-is =
-              let x : k .sender < length (here .votes) = omega (arith, places-long, vote-sender .sender) in
-              c ∙ sym held-here ∙ sym (held-more (here .votes) (k .sender) (said msg k) x first)
+              let x : k .sender < length (here .change .votes) = omega (arith, places-long, vote-sender .sender) in
+              c ∙ sym held-here ∙ sym (held-more (here .change .votes) (k .sender) (said msg k) x first)
 
           pub vote-few : (b′ : List ℕ) → total < most → Laid sh (keptIn sh b msg (h .view) k) b′ → quiet b′ out ≡ outcome
           vote-few b′ u i =
-              let next = changing here 2 (with-it sh here (k .sender) (said msg k)) (here .draft) (here .boundary) (here .replies) in
+              let next = changing here 2 (with-it sh here (k .sender) (said msg k)) (here .change .draft) (here .change .boundary) (here .change .replies) in
               let z : next ≡ keptIn sh b msg (h .view) k = rw (come .votes, ← come .status) in
               sym (by-rule (done next []) (few sh here (k .sender) (said msg k) first (omega (arith, log-long)) (omega (arith, count-is))) ∙ closes-quiet sh b out next ∙ ap (λ (x : State). quiet (image sh x) out) z ∙ ap (λ (x : List ℕ). quiet x out) (sym (i .bytes)))
 

@@ -9,7 +9,7 @@ use lib.Dec.{eqb}
 use Rattle.octets.specs.Bytes.{le, splice}
 use Rattle.rules.specs.Choice.{pick, isSome}
 use Rattle.rules.specs.State.{Vote, State, held}
-use Rattle.rules.specs.Image.{tableBytes, stateOf}
+use Rattle.rules.specs.Image.{tableBytes, stateOf, atDraft}
 use Rattle.rules.specs.Rebuild.{rebuilt}
 use Rattle.rules.specs.Step.{Outcome, done, sends, sendLeader, otherGroups, starts, changing, verifies}
 use Rattle.rules.specs.declared.Entry.{Entry}
@@ -26,17 +26,17 @@ pub record Brought (sh : Shape) (b msg : List ℕ) (view : ℕ) (k : Cast) : Typ
   pub given : Given sh b msg k
   pub normal : k .normal < 2 ^ 32
   pub views : 16 + 4 * sh .s ≤ length msg
-  pub status : k .entering ≡ false → stateOf sh b .status ≡ 2
-  pub sameView : k .entering ≡ false → view ≡ stateOf sh b .view
-  pub sameViews : k .entering ≡ false → viewsOf sh msg ≡ stateOf sh b .gVec
+  pub status : k .entering ≡ false → stateOf sh b .view .status ≡ 2
+  pub sameView : k .entering ≡ false → view ≡ stateOf sh b .view .gView
+  pub sameViews : k .entering ≡ false → viewsOf sh msg ≡ stateOf sh b .view .gVec
 
 -- the sender's vote is kept already: no other's is where a greater view is entered
 abbrev pub isSecond : Shape → List ℕ → Cast → Bool
-isSecond sh b k = not (k .entering) && isSome (getD (stateOf sh b .votes) (k .sender) none)
+isSecond sh b k = not (k .entering) && isSome (getD (stateOf sh b .change .votes) (k .sender) none)
 
 -- how many votes there are with this one
 abbrev pub countWith : Shape → List ℕ → Cast → ℕ
-countWith sh b k = pick (k .entering) 2 (held (stateOf sh b .votes) + 1)
+countWith sh b k = pick (k .entering) 2 (held (stateOf sh b .change .votes) + 1)
 
 -- the state in the vote's view, which is entered where it is a greater one
 unfoldable pub cameTo : Shape → List ℕ → List ℕ → ℕ → Bool → State
@@ -48,12 +48,12 @@ keptIn sh b msg view k = withVotes (cameTo sh b msg view (k .entering)) (votesIn
 
 -- a draft, its boundary and status 3 written
 abbrev pub draftedIn : Shape → List ℕ → List Entry → ℕ → List ℕ
-draftedIn sh b draft boundary = splice (splice (splice b (startOf sh 8) (tableBytes (sh .c) draft)) 40 (le 8 boundary)) 2 (le 1 3)
+draftedIn sh b draft boundary = splice (splice (splice b (startOf sh atDraft) (tableBytes (sh .c) draft)) 40 (le 8 boundary)) 2 (le 1 3)
 
 -- with a draft at hand, the leaders of all other groups are asked
 abbrev pub asksAll : Shape → State → List (Option Vote) → List Entry → ℕ → Outcome
 asksAll sh st votes draft boundary =
-    done (changing st 3 votes draft boundary (st .replies)) (sends (λ j. sendLeader sh st 18 j (boundary ∷ []) []) (otherGroups sh st (λ j. true)))
+    done (changing st 3 votes draft boundary (st .change .replies)) (sends (λ j. sendLeader sh st 18 j (boundary ∷ []) []) (otherGroups sh st (λ j. true)))
 
 -- with F+1 votes: one group starts at once, more verify first
 abbrev pub concludes : Shape → State → List (Option Vote) → Outcome

@@ -5,6 +5,9 @@ use rules::Answer;
 use rules::GroupSize;
 use rules::Message;
 use rules::Shape;
+use rules::kind;
+use rules::refusal;
+use rules::status;
 ghost use mathlib.Core.Path.{_≡_};
 ghost use mathlib.Core.List.{[]};
 ghost use Prim.Native.Nat.{_+_, _-_, _*_, _^_, _≤_, _<_};
@@ -86,7 +89,7 @@ fn take_draft(shape: Shape, state: &mut [u8], table: &[u8], boundary: u64)
     let number = entries::count(table);
     places::put_table(shape, state, draft, table, 4, number);
     places::put_boundary(state, boundary);
-    places::put_status(state, 3);
+    places::put_status(state, status::CROSS_SHARD);
 }
 
 // ---- with F+1 votes
@@ -104,7 +107,15 @@ fn tell_all(shape: Shape, state: &[u8], out: &mut [u8], boundary: u64, mask: u16
     requires { ⌜ Sized shape (now state) × (lengthFor (shape .s) 18 0 * length (othersIn shape (now state) mask) ≤ length (now out)) ⌝ }
     ensures { λ r. ⌜ (r ≡ length (flat (leaderBytes shape (now (state .entry)) 18 boundary []) (othersIn shape (now (state .entry)) mask))) × (now (out .exit) ≡ splice (now (out .entry)) 0 (flat (leaderBytes shape (now (state .entry)) 18 boundary []) (othersIn shape (now (state .entry)) mask))) ⌝ }
 {
-    handler::tell_leaders(shape, state, out, 18, boundary, mask, &state[0..0])
+    handler::tell_leaders(
+        shape,
+        state,
+        out,
+        kind::VERIFY_REQUEST,
+        boundary,
+        mask,
+        &state[0..0],
+    )
 }
 
 // The rebuilt log becomes the draft, and the leaders of all other groups are asked for what they have past its boundary.
@@ -123,8 +134,8 @@ fn ask_all(
 {
     let mask = all_groups(shape.s);
     let count = handler::count_others(shape, state, mask) as usize;
-    if out.len() < kinds::length_for(shape.s, 18, 0) * count {
-        return Answer::Refused(9);
+    if out.len() < kinds::length_for(shape.s, kind::VERIFY_REQUEST, 0) * count {
+        return Answer::Refused(refusal::NO_ROOM);
     }
     keep_vote(shape, state, view, message, cast);
     take_draft(shape, state, table, boundary);
@@ -147,7 +158,7 @@ fn conclude(
 {
     let rebuilt = rebuild::rebuild(shape, state, message, cast, table);
     let Rebuilt::Log(boundary) = rebuilt else {
-        return Answer::Refused(8);
+        return Answer::Refused(refusal::FULL);
     };
     if shape.s == 1 {
         return changes::start_leading(shape, state, view, message, table, out);
@@ -215,23 +226,23 @@ pub fn on_vote(shape: Shape, state: &mut [u8], m: Message, message: &[u8], out: 
     ensures { λ r. ⌜ left r (now (state .exit)) (now (out .exit)) ≡ handled 8 onVote shape m (now (state .entry)) (now (message .entry)) (now (out .entry)) ⌝ }
 {
     let Message::Vote(h, normal, sync) = m else {
-        return Answer::Refused(2);
+        return Answer::Refused(refusal::MALFORMED);
     };
     let view = h.view;
     let cast = Cast {
         sender: h.from_replica as u64,
         normal,
         sync,
-        at: kinds::entries_at(shape.s, 8),
+        at: kinds::entries_at(shape.s, kind::VOTE),
         entering: places::get_view(state) < view,
     };
     if is_second(shape, state, cast) {
-        return Answer::Refused(7);
+        return Answer::Refused(refusal::NOTHING_TO_DO);
     }
     let at = cast.at;
     let number = octets::get32(message, at) as usize;
     if (shape.c as usize) < number {
-        return Answer::Refused(8);
+        return Answer::Refused(refusal::FULL);
     }
     if count_with(shape, state, cast) < GroupSize(shape.n).majority() {
         keep_vote(shape, state, view, message, cast);

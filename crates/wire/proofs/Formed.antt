@@ -1,10 +1,10 @@
 -- When the writer's parts are formed, and what it answers. Assumes nothing.
-use Prim.Native.Nat.{ℕ, zero, suc, _+_, _*_, _/_, _^_, _≤_, _<_}
+use Prim.Native.Nat.{ℕ, _+_, _-_, _*_, _/_, _^_, _≤_, _<_}
 use mathlib.Core.Path.{_≡_, refl, sym, ap, ap₂, _∙_}
 use mathlib.Core.Bool.{Bool, true, false, _&&_, not}
 use mathlib.Core.List.{List, [], _∷_}
 use native.Mathlib.Omega.{arith}
-use lib.ListN.{length, getD}
+use lib.ListN.{length, take, getD}
 use lib.Dec.{eqb, ltb, leb}
 use borrow.Author.Tests.{eq-eqb, lt-ltb, ltb-true, le-leb, lt-leb, not-true, not-false}
 use Rattle.octets.specs.Bytes.{num, items, splice}
@@ -13,7 +13,8 @@ use Rattle.octets.proofs.Codecs.{length-items, getD-items}
 use Rattle.rules.specs.Choice.{pick, allOf, every}
 use Rattle.rules.specs.Entry.{noEntry, entryOf}
 use Rattle.rules.specs.Group.{sizesFit}
-use Rattle.rules.specs.Wire.{wireBytes, bare, viewsIn, numbersIn, numbersOf}
+use Rattle.rules.specs.Wire.{wireBytes, numbersOf}
+use Rattle.rules.specs.Kind.{bare, viewsIn}
 use Rattle.rules.specs.Wire as Wires
 use Rattle.rules.specs.Read.{entryAt, messageWrong, entryWide, wide, isFine, formed}
 use Rattle.rules.specs.Read as Reads
@@ -28,17 +29,17 @@ use Rattle.rules.proofs.Messages.{formed-fits}
 use Rattle.rules.proofs.Case.{PartsAre, parts-are}
 use Rattle.fields.specs.declared.Parts.{Parts}
 use Rattle.writer.specs.declared.Said.{Said}
-use Rattle.fields.specs.Parts.{numberOf, fieldsFrom}
+use Rattle.fields.specs.Parts.{fieldsFrom}
 use Rattle.writer.specs.Said.{saidOf, sizeOf, Room}
 use Rattle.wire.specs.Parts.{partsFrom}
-use Rattle.verdicts.specs.Rows.{rowIn}
-use Rattle.wire.proofs.Reader.{numbers-few}
-use Rattle.writer.proofs.Writer.{length-bytes}
+use Rattle.verdicts.specs.declared.Look.{Look}
+use Rattle.verdicts.specs.Rows.{rowIn, wrongIn}
+use Rattle.writer.proofs.Writer.{length-bytes, numbers-said}
 
 -- the parts that a case says, and its blocks
 abbrev partsSaid : Said → List ℕ → List ℕ → Parts
 partsSaid p views entries =
-    record { header = p .header; zeros = 0; views = length views / 4; numbers = p .numbers; first = p .first; second = p .second; third = p .third; entries = length entries / 24 }
+    record { header = p .header; zeros = 0; views = length views / 4; numbers = p .count; entries = length entries / 24 }
 
 module _ (n s : ℕ) (m : Message) (views entries : List ℕ) where
   abbrev count : ℕ
@@ -65,37 +66,35 @@ module _ (n s : ℕ) (m : Message) (views entries : List ℕ) where
       let l : length (items (entryAt entries) 24 0 count) < 4294967296 = ltb-true _ _ (split _ w 3) in
       omega (arith, length-items (entryAt entries) 24 0 count))
 
+  -- all its entries are looked at
+  abbrev look : Look
+  look = record { at = 0; whole = count; seen = count }
+
   -- the verdict on the message of the parts, as the reader's function gives it
-  verdict-is : messageWrong n s (Reads.fieldsOf (wireFrom m views entries)) (length (wireFrom m views entries .entries)) (length (wireFrom m views entries .entries)) ≡ messageWrong n s (fieldsFrom (partsFrom m views entries) (rowIn entries 0)) count count
+  verdict-is : messageWrong n s (Reads.fieldsOf (wireFrom m views entries)) (length (wireFrom m views entries .entries)) (length (wireFrom m views entries .entries)) ≡ wrongIn n s (partsFrom m views entries) (numbersOf m) entries look
   unfolding Reads.fieldsOf wireFrom
   verdict-is =
       simp length-items
-      (verdict-ext n s (fieldsFrom (partsFrom m views entries) (rowIn entries 0)) (λ i. getD (numbersOf m) i 0) (numberOf (partsFrom m views entries)) (entryOf (items (entryAt entries) 24 0 count)) (rowIn entries 0) same count count (λ j l. getD-items (entryAt entries) 24 0 count j noEntry l))
-    where
-      same : (i : ℕ) → i < numbersIn (Wires.headerIn m .kind) → getD (numbersOf m) i 0 ≡ numberOf (partsFrom m views entries) i
-      same zero h = refl
-      same (suc zero) h = refl
-      same (suc (suc zero)) h = refl
-      same (suc (suc (suc i))) h = absurd (omega (arith, numbers-few (Wires.headerIn m .kind)))
+      (verdict-ext n s (fieldsFrom (partsFrom m views entries) (numbersOf m) (rowIn entries 0)) (λ i. getD (numbersOf m) i 0) (λ i. getD (numbersOf m) i 0) (entryOf (items (entryAt entries) 24 0 count)) (rowIn entries 0) (λ i h. refl) count count (λ j l. getD-items (entryAt entries) 24 0 count j noEntry l))
 
   module _ (p : Said) (e : p ≡ saidOf m) where
     pub tag-off : (p .tag ≡ p .header .kind → ⊥) → false ≡ partsFormed n s m views entries
     tag-off h = refuses (λ f. h (rw e (parts-are n s m views entries f .kind)))
 
-    module _ (v : Verdict) (q : v ≡ messageWrong n s (fieldsFrom (partsSaid p views entries) (rowIn entries 0)) count count) where
+    module _ (v : Verdict) (q : v ≡ wrongIn n s (partsSaid p views entries) (take (p .count - 0) (p .numbers)) entries look) where
       given : v ≡ messageWrong n s (Reads.fieldsOf (wireFrom m views entries)) (length (wireFrom m views entries .entries)) (length (wireFrom m views entries .entries))
-      given = rw e at q ∙ sym verdict-is
+      given = let whole : p .count - 0 ≡ p .count = omega arith in rw (whole, e, numbers-said m) at q ∙ sym verdict-is
 
       pub wrong-off : (a u : ℕ) → v ≡ Wrong a u → false ≡ partsFormed n s m views entries
       unfolding formed
       wrong-off a u h = refuses (λ f. not-fine a u (sym h ∙ given ∙ is-fine _ (and-r (wide (wireFrom m views entries)) _ (parts-are n s m views entries f .right))))
 
-      module _ (bv : Bytes views) (be : Bytes entries) (wv : 4 * (length views / 4) ≡ length views) (we : 24 * count ≡ length entries) (few : count < 4294967296) (numbers : p .numbers ≤ 3) (view : p .header .view < 4294967296) (first : p .first < 18446744073709551616) (second : p .second < 18446744073709551616) (third : p .third < 18446744073709551616) where
+      module _ (bv : Bytes views) (be : Bytes entries) (wv : 4 * (length views / 4) ≡ length views) (we : 24 * count ≡ length entries) (few : count < 4294967296) (view : p .header .view < 4294967296) (each : (i : ℕ) → getD (take (p .count - 0) (p .numbers)) i 0 < 2 ^ 64) where
         number-wide : (i : ℕ) → i < length (numbersOf m) → ltb (getD (numbersOf m) i 0) (2 ^ 64) ≡ true
-        number-wide zero h = lt-ltb _ _ (rw e at first)
-        number-wide (suc zero) h = lt-ltb _ _ (rw e at second)
-        number-wide (suc (suc zero)) h = lt-ltb _ _ (rw e at third)
-        number-wide (suc (suc (suc i))) h = let l : length (numbersOf m) ≤ 3 = rw e at numbers in absurd (omega arith)
+        number-wide i h =
+            let whole : p .count - 0 ≡ p .count = omega arith in
+            let w : getD (numbersOf m) i 0 < 2 ^ 64 = rw (whole, e, numbers-said m) at (each i) in
+            lt-ltb _ _ w
 
         view-wide : (i : ℕ) → i < length views / 4 → ltb (num views (0 + 4 * i) 4) (2 ^ 32) ≡ true
         view-wide i h = lt-ltb _ _ (num-lt views (0 + 4 * i) 4 bv (omega arith))
@@ -125,7 +124,7 @@ module _ (n s : ℕ) (m : Message) (views entries : List ℕ) where
 
   -- ---- the writer's answers
   module _ (out : List ℕ) (t : Bool) (et : t ≡ sizesFit n s) where
-    pub sizes-wrong : not t ≡ true → record { number = 1; sent = 0; out = out } ≡ writes n s m views entries out
+    pub sizes-wrong : not t ≡ true → record { refused = true; number = 1; sent = 0; out = out } ≡ writes n s m views entries out
     unfolding writes pick
     sizes-wrong h = rw (sym et ∙ not-true t h)
 
@@ -133,7 +132,7 @@ module _ (n s : ℕ) (m : Message) (views entries : List ℕ) where
       fit : sizesFit n s ≡ true
       fit = sym et ∙ not-false t right
 
-      pub parts-wrong : not r ≡ true → record { number = 2; sent = 0; out = out } ≡ writes n s m views entries out
+      pub parts-wrong : not r ≡ true → record { refused = true; number = 2; sent = 0; out = out } ≡ writes n s m views entries out
       unfolding writes pick
       parts-wrong h = rw (fit, sym er ∙ not-true r h)
 
@@ -160,13 +159,13 @@ module _ (n s : ℕ) (m : Message) (views entries : List ℕ) where
             record { wholeViews = are .wholeViews; wholeEntries = are .wholeEntries; fewViews = small .0; fewEntries = small .1; room = omega arith }
 
         module _ (bv : Bytes views) (be : Bytes entries) where
-          pub no-room : (size : ℕ) → size ≡ sizeOf m views entries → length out < size → record { number = 9; sent = 0; out = out } ≡ writes n s m views entries out
+          pub no-room : (size : ℕ) → size ≡ sizeOf m views entries → length out < size → record { refused = true; number = 9; sent = 0; out = out } ≡ writes n s m views entries out
           unfolding writes pick
           no-room size e h =
               let l = length-bytes m views entries (are .wholeViews) (are .wholeEntries) bv be in
               rw (fit, sym er ∙ not-false r ok, lt-leb (length (wireBytes (wireFrom m views entries))) (length out) (omega arith))
 
-          pub all-done : (size end : ℕ) (o : List ℕ) → size ≡ sizeOf m views entries → size ≤ length out → end ≡ 0 + length (wireBytes (wireFrom m views entries)) → o ≡ splice out 0 (wireBytes (wireFrom m views entries)) → record { number = 0; sent = end; out = o } ≡ writes n s m views entries out
+          pub all-done : (size end : ℕ) (o : List ℕ) → size ≡ sizeOf m views entries → size ≤ length out → end ≡ 0 + length (wireBytes (wireFrom m views entries)) → o ≡ splice out 0 (wireBytes (wireFrom m views entries)) → record { refused = false; number = 0; sent = end; out = o } ≡ writes n s m views entries out
           unfolding writes pick
           all-done size end o e h q w =
               let l = length-bytes m views entries (are .wholeViews) (are .wholeEntries) bv be in

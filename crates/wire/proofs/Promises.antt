@@ -6,9 +6,16 @@ use Rattle.octets.specs.Bytes.{part}
 use Rattle.rules.specs.Read.{decoded}
 use Rattle.rules.specs.Write.{Written, written, writes}
 use Rattle.rules.specs.declared.Answer.{Answer}
-use Rattle.rules.specs.declared.Answer.the-variants.{Done}
+use Rattle.rules.specs.declared.Answer.the-variants.{Done, Refused}
 use Rattle.rules.specs.declared.Message.{Message}
+use Rattle.rules.proofs.Answers.{written-answer}
 use Rattle.rules.proofs.Case.{writes-read}
+
+written-out : (x y : Answer) (o u : List ℕ) → written x o ≡ written y u → o ≡ u
+written-out (Done a) (Done b) o u e = ap (λ (w : Written). w .out) e
+written-out (Done a) (Refused b) o u e = ap (λ (w : Written). w .out) e
+written-out (Refused a) (Done b) o u e = ap (λ (w : Written). w .out) e
+written-out (Refused a) (Refused b) o u e = ap (λ (w : Written). w .out) e
 
 module _ (n s : ℕ) where
   -- bytes are read in one way
@@ -17,8 +24,8 @@ module _ (n s : ℕ) where
 
   module _ (m : Message) (views entries out : List ℕ) where
     -- a message is written in one way: one answer, and one buffer
-    pub write-one : (x y : Answer) (o u : List ℕ) → written x o ≡ writes n s m views entries out → written y u ≡ writes n s m views entries out → written x o ≡ written y u
-    write-one x y o u p q = p ∙ sym q
+    pub write-one : (x y : Answer) (o u : List ℕ) → written x o ≡ writes n s m views entries out → written y u ≡ writes n s m views entries out → (x ≡ y) × (o ≡ u)
+    write-one x y o u p q = (written-answer x y o u (p ∙ sym q), written-out x y o u (p ∙ sym q))
 
     -- what was written is read as what it was written from
     pub read-written : (sent : ℕ) (o : List ℕ) (x : Message) → written (Done sent) o ≡ writes n s m views entries out → x ≡ decoded n s (part o 0 sent) → x ≡ m

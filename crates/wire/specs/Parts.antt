@@ -1,11 +1,12 @@
 -- The parts of a message, as the reader finds them and as the writer is given them.
 use Prim.Native.Nat.{ℕ, _+_, _/_, min}
 use mathlib.Core.List.{List}
-use lib.ListN.{length, getD}
+use lib.ListN.{length}
 use lib.Dec.{eqb, leb}
 use Rattle.octets.specs.Bytes.{num, items}
 use Rattle.rules.specs.Choice.{pick}
-use Rattle.rules.specs.Wire.{numbersIn, numbersOf}
+use Rattle.rules.specs.Kind.{numbersIn}
+use Rattle.rules.specs.Wire.{numbersOf}
 use Rattle.rules.specs.Wire as Wires
 use Rattle.rules.specs.Read.{numbersAt, entriesAt}
 use Rattle.rules.specs.declared.Header.{Header}
@@ -21,9 +22,13 @@ abbrev pub headerIn : List ℕ → Header
 headerIn b =
     record { kind = num b 0 1; «to_group» = num b 1 1; «to_mask» = num b 2 1; «from_group» = num b 3 1; «from_replica» = num b 4 1; view = num b 8 4 }
 
--- number i, where there are `count` from `at` on
-abbrev pub numberIn : List ℕ → ℕ → ℕ → ℕ → ℕ
-numberIn b at count i = getD (items (λ a. num b a 8) 8 at count) i 0
+-- `count` numbers from `at` on
+abbrev pub numbersFrom : List ℕ → ℕ → ℕ → List ℕ
+numbersFrom b at count = items (λ a. num b a 8) 8 at count
+
+-- the numbers of the kind that the bytes say
+abbrev pub kindNumbers : ℕ → List ℕ → List ℕ
+kindNumbers s b = numbersFrom b (numbersAt s (num b 0 1) + 4) (numbersIn (num b 0 1))
 
 abbrev pub partsIn : ℕ → List ℕ → Parts
 partsIn s b =
@@ -32,9 +37,6 @@ partsIn s b =
       zeros = num b 5 3;
       views = num b 12 4;
       numbers = num b (numbersAt s (num b 0 1)) 4;
-      first = numberIn b (numbersAt s (num b 0 1) + 4) (numbersIn (num b 0 1)) 0;
-      second = numberIn b (numbersAt s (num b 0 1) + 4) (numbersIn (num b 0 1)) 1;
-      third = numberIn b (numbersAt s (num b 0 1) + 4) (numbersIn (num b 0 1)) 2;
       entries = num b (entriesAt s (num b 0 1)) 4;
     }
 
@@ -53,8 +55,5 @@ partsFrom m views entries =
       zeros = 0;
       views = length views / 4;
       numbers = length (numbersOf m);
-      first = getD (numbersOf m) 0 0;
-      second = getD (numbersOf m) 1 0;
-      third = getD (numbersOf m) 2 0;
       entries = length entries / 24;
     }

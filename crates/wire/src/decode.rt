@@ -1,19 +1,18 @@
 // The parts of a message as they stand in bytes, and the case that they are.
 ghost use mathlib.Core.Path.{_≡_};
-ghost use mathlib.Core.List.{List, [], _∷_};
 ghost use Prim.Native.Nat.{ℕ, _+_, _*_, _^_, _≤_, _<_};
-ghost use lib.ListN.{getD};
 ghost use Rattle.octets.specs.Bytes.{num};
 ghost use Rattle.rules.specs.Wire as kinds;
-ghost use Rattle.fields.specs.Parts.{numberOf};
-ghost use Rattle.wire.specs.Parts.{headerIn, numberIn, partsIn, judgedAs};
+ghost use Rattle.writer.specs.Said.{mostNumbers, padded};
+ghost use Rattle.wire.specs.Parts.{headerIn, numbersFrom, partsIn, judgedAs};
 use fields::Parts;
+use fields::number_of;
 use kinds::entries_at;
 use kinds::numbers_at;
-use kinds::numbers_in;
 use rules::Header;
 use rules::Message;
 use rules::Verdict;
+use writer::MOST_NUMBERS;
 
 // The header, where what lies past the end counts as 0.
 fn header_at(b: &[u8]) -> Header
@@ -42,18 +41,21 @@ fn zeros_at(b: &[u8]) -> u64
     octets::look16(b, 5) as u64 + octets::look8(b, 7) as u64 * 65536
 }
 
-// Number i of `count` from `at` on, or 0.
-fn number_at(b: &[u8], at: usize, count: u64, i: u64) -> u64
-    requires { ⌜ (at ≤ 2 ^ 32) × (i ≤ 2 ^ 32) ⌝ }
-    ensures { λ r. ⌜ r ≡ numberIn (now (b .entry)) at count i ⌝ }
+// The numbers from `at` on, with zeros behind them.
+pub fn numbers_from(b: &[u8], at: usize, count: usize) -> [u64; MOST_NUMBERS]
+    requires { ⌜ (at ≤ 2 ^ 32) × (count ≤ mostNumbers) ⌝ }
+    ensures { λ r. ⌜ r ≡ padded (numbersFrom (now (b .entry)) at count) ⌝ }
 {
-    if i < count {
-        return octets::look64(b, at + 8 * i as usize);
+    let mut numbers = [0; MOST_NUMBERS];
+    let mut i = 0;
+    while i < count {
+        numbers[i] = octets::look64(b, at + 8 * i);
+        i += 1;
     }
-    0
+    numbers
 }
 
-// What the bytes say beside their entries.
+// What the bytes say beside their numbers and their entries.
 pub fn parts_at(s: u64, b: &[u8]) -> Parts
     requires { ⌜ s ≤ 8 ⌝ }
     ensures { λ r. ⌜ (r ≡ partsIn s (now (b .entry))) × (r .entries < 2 ^ 32) ⌝ }
@@ -61,45 +63,39 @@ pub fn parts_at(s: u64, b: &[u8]) -> Parts
     let header = header_at(b);
     let zeros = zeros_at(b);
     let views = octets::look32(b, 12) as u64;
-    let at = numbers_at(s, header.kind);
-    let count = numbers_in(header.kind);
-    let numbers = octets::look32(b, at) as u64;
-    let first = number_at(b, at + 4, count, 0);
-    let second = number_at(b, at + 4, count, 1);
-    let third = number_at(b, at + 4, count, 2);
+    let numbers = octets::look32(b, numbers_at(s, header.kind)) as u64;
     let entries = octets::look32(b, entries_at(s, header.kind)) as u64;
     Parts {
         header,
         zeros,
         views,
         numbers,
-        first,
-        second,
-        third,
         entries,
     }
 }
 
-// The case of the parts.
-pub fn case_with(p: Parts) -> Message
-    ensures { λ r. ⌜ r ≡ kinds.caseWith (p .header) (numberOf p) ⌝ }
+// The case of a header and its numbers.
+pub fn case_with(h: Header, numbers: &[u64]) -> Message
+    ensures { λ r. ⌜ r ≡ kinds.caseWith h (now (numbers .entry)) ⌝ }
 {
-    let h = p.header;
+    let x = number_of(numbers, 0);
+    let y = number_of(numbers, 1);
+    let z = number_of(numbers, 2);
     let k = h.kind;
     match k {
-        1 => Message::Transaction(h, p.first, p.second),
+        1 => Message::Transaction(h, x, y),
         3 => Message::Note(h),
         4 => Message::ReplicaSync(h),
-        5 => Message::FastReply(h, p.first, p.second, p.third),
-        6 => Message::SlowReply(h, p.first),
+        5 => Message::FastReply(h, x, y, z),
+        6 => Message::SlowReply(h, x),
         7 => Message::ChangeView(h),
-        8 => Message::Vote(h, p.first, p.second),
+        8 => Message::Vote(h, x, y),
         9 => Message::StartView(h),
-        10 => Message::SyncStatus(h, p.first),
-        11 => Message::Commit(h, p.first),
-        18 => Message::VerifyRequest(h, p.first),
+        10 => Message::SyncStatus(h, x),
+        11 => Message::Commit(h, x),
+        18 => Message::VerifyRequest(h, x),
         19 => Message::VerifyReply(h),
-        23 => Message::Tick(h, p.first),
+        23 => Message::Tick(h, x),
         _ => Message::Malformed(0),
     }
 }

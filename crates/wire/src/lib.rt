@@ -3,16 +3,20 @@ pub mod decode;
 
 ghost use mathlib.Core.Path.{_≡_};
 ghost use Prim.Native.Nat.{ℕ, _+_, _*_, _^_, _≤_, _<_};
-ghost use lib.ListN.{length};
+ghost use lib.ListN.{length, getD};
 ghost use Rattle.rules.specs.Read as reading;
 ghost use Rattle.rules.specs.Wire as kinds;
 ghost use Rattle.rules.specs.Write as writing;
 use fields::Parts;
 use kinds::entries_at;
 use kinds::length_for;
+use kinds::numbers_at;
+use kinds::numbers_in;
 use rules::Answer;
 use rules::Message;
 use rules::Verdict;
+use rules::refusal;
+use verdicts::Look;
 
 // How many entries from `from` on the bytes have room for.
 fn whole_in(len: usize, from: usize) -> usize
@@ -33,17 +37,23 @@ pub fn read(n: u64, s: u64, b: &[u8]) -> Message
     }
     let p = decode::parts_at(s, b);
     let h = p.header;
-    let count = p.entries as usize;
-    let from = entries_at(s, h.kind) + 4;
-    let whole = whole_in(b.len(), from);
-    let seen = verdicts::smaller(count, whole + 1);
-    let v = verdicts::message_wrong(n, s, p, b, from, whole, seen);
-    decode::judged(
-        b.len(),
-        length_for(s, h.kind, count),
-        decode::case_with(p),
-        v,
-    )
+    let count = numbers_in(h.kind) as usize;
+    let room = decode::numbers_from(b, numbers_at(s, h.kind) + 4, count);
+    let numbers = &room[0..count];
+    let entries = p.entries as usize;
+    let at = entries_at(s, h.kind) + 4;
+    let whole = whole_in(b.len(), at);
+    let seen = verdicts::smaller(entries, whole + 1);
+    let v = verdicts::message_wrong(n, s, p, numbers, b, Look { at, whole, seen });
+    let end = length_for(s, h.kind, entries);
+    decode::judged(b.len(), end, decode::case_with(h, numbers), v)
+}
+
+// That each number fits its 64 bits is known of a slice that is a parameter, and of an array in a struct it is not.
+fn known_wide(numbers: &[u64])
+    ensures { λ _. ⌜ ((i : ℕ) → getD (now (numbers .entry)) i 0 < 2 ^ 64) ⌝ }
+{
+    let _first = fields::number_of(numbers, 0);
 }
 
 // Whether the case is that of its header, the blocks are whole, and the message is well formed.
@@ -71,13 +81,18 @@ fn parts_formed(n: u64, s: u64, m: Message, views: &[u8], entries: &[u8]) -> boo
         header,
         zeros: 0,
         views: items as u64,
-        numbers: said.numbers,
-        first: said.first,
-        second: said.second,
-        third: said.third,
+        numbers: said.count as u64,
         entries: count as u64,
     };
-    let v = verdicts::message_wrong(n, s, p, entries, 0, count, count);
+    let room = said.numbers;
+    let most = said.count;
+    let look = Look {
+        at: 0,
+        whole: count,
+        seen: count,
+    };
+    known_wide(&room[0..most]);
+    let v = verdicts::message_wrong(n, s, p, &room[0..most], entries, look);
     match v {
         Verdict::Fine => true,
         Verdict::Wrong(_, _) => false,
@@ -90,7 +105,7 @@ fn size_of(m: Message, views: usize, entries: usize) -> usize
     ensures { λ r. ⌜ r ≡ 24 + views + 8 * length (kinds.numbersOf m) + entries ⌝ }
 {
     let said = writer::said_of(m);
-    24 + views + 8 * said.numbers as usize + entries
+    24 + views + 8 * said.count + entries
 }
 
 // Writes the message of these parts first into the buffer. All is tested, the room last, before a byte is written.
@@ -98,13 +113,13 @@ pub fn write(n: u64, s: u64, m: Message, views: &[u8], entries: &[u8], out: &mut
     ensures { λ r. ⌜ writing.written r (now (out .exit)) ≡ writing.writes n s m (now (views .entry)) (now (entries .entry)) (now (out .entry)) ⌝ }
 {
     if !group::sizes_fit(n, s) {
-        return Answer::Refused(1);
+        return Answer::Refused(refusal::WRONG_STATE);
     }
     if !parts_formed(n, s, m, views, entries) {
-        return Answer::Refused(2);
+        return Answer::Refused(refusal::MALFORMED);
     }
     if out.len() < size_of(m, views.len(), entries.len()) {
-        return Answer::Refused(9);
+        return Answer::Refused(refusal::NO_ROOM);
     }
     let end = writer::put_message(out, 0, m, views, entries);
     Answer::Done(end)

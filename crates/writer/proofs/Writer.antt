@@ -1,13 +1,15 @@
 -- Writes one after the other are one write of the message's bytes, and how long those are. Assumes nothing.
-use Prim.Native.Nat.{ℕ, zero, suc, _+_, _*_, _/_, _≤_, _<_}
+use Prim.Native.Nat.{ℕ, zero, suc, _+_, _-_, _*_, _/_, _≤_, _<_}
 use mathlib.Core.Path.{_≡_, refl, sym, ap, ap₂, _∙_}
 use mathlib.Core.List.{List, [], _∷_, _++_, append-assoc, append-nil}
 use native.Mathlib.Omega.{arith}
+use native.Mathlib.Numerals.{add-one}
 use lib.ListN.{length, take, drop, getD, replicate, length-append, length-replicate, drop-of-length-le}
+use lib.Seq.{length-take-le, take-suc, take-at, take-all}
 use Rattle.octets.specs.Bytes.{le, flat, items, num, splice}
 use Rattle.octets.specs.Sections.{concat}
-use Rattle.octets.proofs.Laws.{Bytes, length-le, splice-next}
-use Rattle.octets.proofs.Codecs.{Exact, length-items, peel-all, exact-number}
+use Rattle.octets.proofs.Laws.{Bytes, length-le, splice-next, splice-none}
+use Rattle.octets.proofs.Codecs.{Exact, length-items, peel-all, exact-number, flat-append}
 use Rattle.rules.specs.Wire.{Wire, entryBytes, headBytes, wireBytes, numbersOf}
 use Rattle.rules.specs.Wire as Wires
 use Rattle.rules.specs.Read.{entryAt}
@@ -17,7 +19,7 @@ use Rattle.rules.specs.declared.Message.{Message}
 use Rattle.rules.specs.declared.Message.the-variants.{WrongSizes, Malformed, Transaction, Note, ReplicaSync, FastReply, SlowReply, ChangeView, Vote, StartView, SyncStatus, Commit, VerifyRequest, VerifyReply, Tick}
 use Rattle.rules.proofs.Entries.{exact-entry}
 use Rattle.writer.specs.declared.Said.{Said}
-use Rattle.writer.specs.Said.{saidOf, numbersSaid, bareWire, sizeOf, Room}
+use Rattle.writer.specs.Said.{mostNumbers, saidFirst, saidNext, saidOf, numbersSaid, bareWire, sizeOf, Room}
 
 -- y is written where x ends
 next : (b : List ℕ) (at j i : ℕ) (x y m e : List ℕ) → at + j ≤ length b → length x ≡ j → i ≡ at + j → m ≡ splice b at x → e ≡ splice m i y → e ≡ splice b at (x ++ y)
@@ -55,62 +57,74 @@ long-header : (h : Header) → length (headBytes (bareWire h)) ≡ 12
 unfolding headBytes concat
 long-header h = simp (length-append, length-le)
 
--- ---- the numbers, after their count
-
 long-eights : (xs : List ℕ) → length (flat (le 8) xs) ≡ 8 * length xs
 unfolding flat
 long-eights [] = refl
 long-eights (x ∷ xs) = length-append (le 8 x) (flat (le 8) xs) ∙ omega (arith, length-le 8 x, long-eights xs)
 
-module _ (b : List ℕ) (at : ℕ) (p : Said) where
-  abbrev run : List ℕ
-  run = le 4 (p .numbers) ++ flat (le 8) (numbersSaid p)
+-- ---- what a case says
 
-  pub none-put : (m₁ : List ℕ) → p .numbers ≡ 0 → m₁ ≡ splice b at (le 4 (p .numbers)) → m₁ ≡ splice b at run
-  unfolding flat
-  none-put m₁ e e₁ = e₁ ∙ ap (splice b at) (rw e (sym (append-nil (le 4 0))))
+pub count-first : (k : ℕ) (h : Header) (p : Said) → p ≡ saidFirst k h → p .count ≡ 0
+count-first k h p e = ap (λ (q : Said). q .count) e
 
-  module _ (m₁ m₂ : List ℕ) (r : at + 4 + 8 * p .numbers ≤ length b) where
-    pub one-put : p .numbers ≡ 1 → m₁ ≡ splice b at (le 4 (p .numbers)) → m₂ ≡ splice m₁ (at + 4) (le 8 (p .first)) → m₂ ≡ splice b at run
-    unfolding flat
-    one-put e e₁ e₂ =
-        splice-next b at 4 (le 4 (p .numbers)) (le 8 (p .first)) m₁ m₂ (omega arith) (length-le 4 (p .numbers)) e₁ e₂
-        ∙ ap (splice b at) (rw e (simp append-nil))
+pub count-next : (p r : Said) (x : ℕ) → r ≡ saidNext p x → r .count ≡ p .count + 1
+unfolding saidNext
+count-next p r x e = ap (λ (q : Said). q .count) e
 
-  module _ (m₁ m₂ m₃ : List ℕ) (r : at + 4 + 8 * p .numbers ≤ length b) where
-    pub two-put : p .numbers ≡ 2 → m₁ ≡ splice b at (le 4 (p .numbers)) → m₂ ≡ splice m₁ (at + 4) (le 8 (p .first)) → m₃ ≡ splice m₂ (at + 12) (le 8 (p .second)) → m₃ ≡ splice b at run
-    unfolding flat
-    two-put e e₁ e₂ e₃ =
-        let s₂ : m₂ ≡ splice b at (le 4 (p .numbers) ++ le 8 (p .first)) = splice-next b at 4 (le 4 (p .numbers)) (le 8 (p .first)) m₁ m₂ (omega arith) (length-le 4 (p .numbers)) e₁ e₂ in
-        splice-next b at 12 (le 4 (p .numbers) ++ le 8 (p .first)) (le 8 (p .second)) m₂ m₃ (omega arith) (simp (length-append, length-le)) s₂ e₃
-        ∙ ap (splice b at) (rw e (simp (append-assoc, append-nil)))
+pub next-is : (p q r : Said) (x : ℕ) → p ≡ q → r ≡ saidNext p x → r ≡ saidNext q x
+next-is p q r x e f = f ∙ ap (λ (t : Said). saidNext t x) e
 
-  module _ (m₁ m₂ m₃ m₄ : List ℕ) (r : at + 4 + 8 * p .numbers ≤ length b) where
-    pub three-put : p .numbers ≡ 3 → m₁ ≡ splice b at (le 4 (p .numbers)) → m₂ ≡ splice m₁ (at + 4) (le 8 (p .first)) → m₃ ≡ splice m₂ (at + 12) (le 8 (p .second)) → m₄ ≡ splice m₃ (at + 20) (le 8 (p .third)) → m₄ ≡ splice b at run
-    unfolding flat
-    three-put e e₁ e₂ e₃ e₄ =
-        let x = le 4 (p .numbers) ++ le 8 (p .first) in
-        let s₂ : m₂ ≡ splice b at x = splice-next b at 4 (le 4 (p .numbers)) (le 8 (p .first)) m₁ m₂ (omega arith) (length-le 4 (p .numbers)) e₁ e₂ in
-        let s₃ : m₃ ≡ splice b at (x ++ le 8 (p .second)) = splice-next b at 12 x (le 8 (p .second)) m₂ m₃ (omega arith) (simp (length-append, length-le)) s₂ e₃ in
-        splice-next b at 20 (x ++ le 8 (p .second)) (le 8 (p .third)) m₃ m₄ (omega arith) (simp (length-append, length-le)) s₃ e₄
-        ∙ ap (splice b at) (rw e (simp (append-assoc, append-nil)))
+few-numbers : (m : Message) → length (numbersOf m) ≤ mostNumbers
+few-numbers WrongSizes = omega arith
+few-numbers (Malformed at) = omega arith
+few-numbers (Transaction h x y) = omega arith
+few-numbers (Note h) = omega arith
+few-numbers (ReplicaSync h) = omega arith
+few-numbers (FastReply h x y z) = omega arith
+few-numbers (SlowReply h x) = omega arith
+few-numbers (ChangeView h) = omega arith
+few-numbers (Vote h x y) = omega arith
+few-numbers (StartView h) = omega arith
+few-numbers (SyncStatus h x) = omega arith
+few-numbers (Commit h x) = omega arith
+few-numbers (VerifyRequest h x) = omega arith
+few-numbers (VerifyReply h) = omega arith
+few-numbers (Tick h x) = omega arith
 
-numbers-said : (m : Message) → numbersSaid (saidOf m) ≡ numbersOf m
-numbers-said WrongSizes = refl
-numbers-said (Malformed at) = refl
-numbers-said (Transaction h x y) = refl
-numbers-said (Note h) = refl
-numbers-said (ReplicaSync h) = refl
-numbers-said (FastReply h x y z) = refl
-numbers-said (SlowReply h x) = refl
-numbers-said (ChangeView h) = refl
-numbers-said (Vote h x y) = refl
-numbers-said (StartView h) = refl
-numbers-said (SyncStatus h x) = refl
-numbers-said (Commit h x) = refl
-numbers-said (VerifyRequest h x) = refl
-numbers-said (VerifyReply h) = refl
-numbers-said (Tick h x) = refl
+-- what is known of the case of a message
+pub is-said : (m k : Message) (p : Said) → m ≡ k → p ≡ saidOf k → (p ≡ saidOf m) × (p .count ≡ length (numbersOf m)) × (p .count ≤ mostNumbers)
+is-said m k p e f =
+    let s : p ≡ saidOf m = f ∙ sym (ap saidOf e) in
+    (s, ap (λ (q : Said). q .count) s, rw s (few-numbers m))
+
+-- ---- the numbers
+
+-- one number more
+pub number-put : (b : List ℕ) (at i x : ℕ) (xs m e : List ℕ) → at + 8 * length xs ≤ length b → i < length xs → x ≡ getD xs i 0 → m ≡ splice b at (flat (le 8) (take i xs)) → e ≡ splice m (at + 8 * i) (le 8 x) → e ≡ splice b at (flat (le 8) (take (i + 1) xs))
+unfolding flat
+number-put b at i x xs m e h l q hm he =
+    let long : length (take i xs) ≡ i = length-take-le i xs (omega arith) in
+    let eights : length (flat (le 8) (take i xs)) ≡ 8 * i = omega (arith, long-eights (take i xs)) in
+    let s : e ≡ splice b at (flat (le 8) (take i xs) ++ le 8 x) = splice-next b at (8 * i) (flat (le 8) (take i xs)) (le 8 x) m e (omega arith) eights hm he in
+    let one : flat (le 8) (x ∷ []) ≡ le 8 x = append-nil (le 8 x) in
+    let more : take i xs ++ (x ∷ []) ≡ take (i + 1) xs = rw (q, add-one) (sym (take-suc xs i 0 l)) in
+    let same : flat (le 8) (take i xs) ++ le 8 x ≡ flat (le 8) (take (i + 1) xs) =
+    ap (λ (ys : List ℕ). flat (le 8) (take i xs) ++ ys) (sym one) ∙ sym (flat-append (le 8) (take i xs) (x ∷ [])) ∙ ap (flat (le 8)) more in
+    s ∙ ap (splice b at) same
+
+pub no-number-put : (b : List ℕ) (at : ℕ) (xs : List ℕ) → b ≡ splice b at (flat (le 8) (take 0 xs))
+unfolding flat
+no-number-put b at xs = sym (splice-none b at)
+
+pub all-numbers-put : (b : List ℕ) (at i : ℕ) (xs e : List ℕ) → i ≤ length xs → length xs ≤ i → e ≡ splice b at (flat (le 8) (take i xs)) → e ≡ splice b at (flat (le 8) xs)
+all-numbers-put b at i xs e h l q = q ∙ ap (λ (ys : List ℕ). splice b at (flat (le 8) ys)) (take-all i xs l)
+
+-- they lie in the room for them
+pub room-said : (m : Message) (p : Said) → p ≡ saidOf m → p .count ≤ length (p .numbers)
+room-said m p e = rw (e, length-append (numbersOf m) (replicate (mostNumbers - length (numbersOf m)) 0)) (omega arith)
+
+pub numbers-said : (m : Message) → numbersSaid (saidOf m) ≡ numbersOf m
+numbers-said m = take-at (numbersOf m) _ (length (numbersOf m)) refl
 
 -- ---- a message
 
@@ -138,33 +152,37 @@ module _ (m : Message) (views entries : List ℕ) where
     length-bytes = ap length bytes-are ∙ simp (length-append, length-le, long-header, long-eights) (omega arith)
 
   module _ (at size : ℕ) (r : Room m views entries at size) (p : Said) (e : p ≡ saidOf m) (bv : Bytes views) (be : Bytes entries) where
-    pub message-end : at + 16 + length views + 4 + 8 * p .numbers + 4 + length entries ≡ at + length bytes
+    pub message-end : at + 16 + length views + 4 + 8 * p .count + 4 + length entries ≡ at + length bytes
     message-end = rw (e, length-bytes (r .wholeViews) (r .wholeEntries) bv be) (omega arith)
 
-  module _ (at : ℕ) (b : List ℕ) (r : Room m views entries at (length b)) (p : Said) (e : p ≡ saidOf m) (bv : Bytes views) (be : Bytes entries) (m₁ m₂ m₃ m₄ m₅ m₆ : List ℕ) where
+  module _ (at : ℕ) (b : List ℕ) (r : Room m views entries at (length b)) (p : Said) (e : p ≡ saidOf m) (bv : Bytes views) (be : Bytes entries) (m₁ m₂ m₃ m₄ m₅ m₆ m₇ : List ℕ) where
     pub message-put : m₁ ≡ splice b at (headBytes (bareWire (p .header)))
         → m₂ ≡ splice m₁ (at + 12) (le 4 (length views / 4))
         → m₃ ≡ splice m₂ (at + 16) views
-        → m₄ ≡ splice m₃ (at + 16 + length views) (le 4 (p .numbers) ++ flat (le 8) (numbersSaid p))
-        → m₅ ≡ splice m₄ (at + 16 + length views + 4 + 8 * p .numbers) (le 4 (length entries / 24))
-        → m₆ ≡ splice m₅ (at + 16 + length views + 4 + 8 * p .numbers + 4) entries
-        → m₆ ≡ splice b at bytes
-    message-put e₁ e₂ e₃ e₄ e₅ e₆ =
+        → m₄ ≡ splice m₃ (at + 16 + length views) (le 4 (p .count))
+        → m₅ ≡ splice m₄ (at + 16 + length views + 4) (flat (le 8) (take (p .count - 0) (p .numbers)))
+        → m₆ ≡ splice m₅ (at + 16 + length views + 4 + 8 * p .count) (le 4 (length entries / 24))
+        → m₇ ≡ splice m₆ (at + 16 + length views + 4 + 8 * p .count + 4) entries
+        → m₇ ≡ splice b at bytes
+    message-put e₁ e₂ e₃ e₄ e₅ e₆ e₇ =
         let H = headBytes (bareWire (Wires.headerIn m)) in
         let lh : length H ≡ 12 = long-header (Wires.headerIn m) in
         let c = le 4 (length views / 4) in
-        let N : List ℕ = le 4 (length (numbersOf m)) ++ flat (le 8) (numbersOf m) in
         let n = length (numbersOf m) in
-        let ln : length N ≡ 4 + 8 * n = simp (length-append, length-le, long-eights) in
+        let d = le 4 n in
+        let N = flat (le 8) (numbersOf m) in
         let k = le 4 (length entries / 24) in
         let room : at + sizeOf m views entries ≤ length b = r .room in
         let f₁ : m₁ ≡ splice b at H = rw e at e₁ in
-        let f₄ : m₄ ≡ splice m₃ (at + 16 + length views) N = rw (e, numbers-said m) at e₄ in
-        let f₅ : m₅ ≡ splice m₄ (at + 16 + length views + 4 + 8 * n) k = rw e at e₅ in
-        let f₆ : m₆ ≡ splice m₅ (at + 16 + length views + 4 + 8 * n + 4) entries = rw e at e₆ in
+        let f₄ : m₄ ≡ splice m₃ (at + 16 + length views) d = rw e at e₄ in
+        let whole : p .count - 0 ≡ p .count = omega arith in
+        let f₅ : m₅ ≡ splice m₄ (at + 16 + length views + 4) N = rw (whole, e, numbers-said m) at e₅ in
+        let f₆ : m₆ ≡ splice m₅ (at + 16 + length views + 4 + 8 * n) k = rw e at e₆ in
+        let f₇ : m₇ ≡ splice m₆ (at + 16 + length views + 4 + 8 * n + 4) entries = rw e at e₇ in
         let s₂ : m₂ ≡ splice b at (H ++ c) = next b at 12 (at + 12) H c m₁ m₂ (omega arith) lh refl f₁ e₂ in
         let s₃ : m₃ ≡ splice b at ((H ++ c) ++ views) = next b at 16 (at + 16) (H ++ c) views m₂ m₃ (omega arith) (simp (length-append, length-le, lh)) refl s₂ e₃ in
-        let s₄ : m₄ ≡ splice b at (((H ++ c) ++ views) ++ N) = next b at (16 + length views) (at + 16 + length views) ((H ++ c) ++ views) N m₃ m₄ (omega arith) (simp (length-append, length-le, lh)) (omega arith) s₃ f₄ in
-        let s₅ : m₅ ≡ splice b at ((((H ++ c) ++ views) ++ N) ++ k) = next b at (16 + length views + 4 + 8 * n) (at + 16 + length views + 4 + 8 * n) (((H ++ c) ++ views) ++ N) k m₄ m₅ (omega arith) (simp (length-append, length-le, lh, long-eights) (omega arith)) (omega arith) s₄ f₅ in
-        let s₆ : m₆ ≡ splice b at (((((H ++ c) ++ views) ++ N) ++ k) ++ entries) = next b at (16 + length views + 4 + 8 * n + 4) (at + 16 + length views + 4 + 8 * n + 4) ((((H ++ c) ++ views) ++ N) ++ k) entries m₅ m₆ (omega arith) (simp (length-append, length-le, lh, long-eights) (omega arith)) (omega arith) s₅ f₆ in
-        s₆ ∙ ap (splice b at) (sym (bytes-are (r .wholeViews) (r .wholeEntries) bv be ∙ simp append-assoc))
+        let s₄ : m₄ ≡ splice b at (((H ++ c) ++ views) ++ d) = next b at (16 + length views) (at + 16 + length views) ((H ++ c) ++ views) d m₃ m₄ (omega arith) (simp (length-append, length-le, lh)) (omega arith) s₃ f₄ in
+        let s₅ : m₅ ≡ splice b at ((((H ++ c) ++ views) ++ d) ++ N) = next b at (16 + length views + 4) (at + 16 + length views + 4) (((H ++ c) ++ views) ++ d) N m₄ m₅ (omega arith) (simp (length-append, length-le, lh) (omega arith)) (omega arith) s₄ f₅ in
+        let s₆ : m₆ ≡ splice b at (((((H ++ c) ++ views) ++ d) ++ N) ++ k) = next b at (16 + length views + 4 + 8 * n) (at + 16 + length views + 4 + 8 * n) ((((H ++ c) ++ views) ++ d) ++ N) k m₅ m₆ (omega arith) (simp (length-append, length-le, lh, long-eights) (omega arith)) (omega arith) s₅ f₆ in
+        let s₇ : m₇ ≡ splice b at ((((((H ++ c) ++ views) ++ d) ++ N) ++ k) ++ entries) = next b at (16 + length views + 4 + 8 * n + 4) (at + 16 + length views + 4 + 8 * n + 4) (((((H ++ c) ++ views) ++ d) ++ N) ++ k) entries m₆ m₇ (omega arith) (simp (length-append, length-le, lh, long-eights) (omega arith)) (omega arith) s₆ f₇ in
+        s₇ ∙ ap (splice b at) (sym (bytes-are (r .wholeViews) (r .wholeEntries) bv be ∙ simp append-assoc))

@@ -1,13 +1,28 @@
 -- What a message's case says, and what its bytes are made of.
-use Prim.Native.Nat.{ℕ, _+_, _*_, _/_, _^_, _≤_, _<_}
+use Prim.Native.Nat.{ℕ, _+_, _-_, _*_, _/_, _^_, _≤_, _<_}
 use mathlib.Core.Path.{_≡_}
-use mathlib.Core.List.{List, [], _∷_}
-use lib.ListN.{length, take, getD}
+use mathlib.Core.List.{List, [], _++_}
+use lib.ListN.{length, take, set, replicate}
 use Rattle.rules.specs.Wire.{Wire, tagOf, numbersOf}
 use Rattle.rules.specs.Wire as Wires
 use Rattle.rules.specs.declared.Header.{Header}
 use Rattle.rules.specs.declared.Message.{Message}
 use Rattle.writer.specs.declared.Said.{Said}
+
+-- how many numbers a case has at most
+abbrev pub mostNumbers : ℕ
+mostNumbers = 3
+
+-- a case with no numbers yet, and with one more
+abbrev pub saidFirst : ℕ → Header → Said
+saidFirst tag header = record { tag = tag; header = header; count = 0; numbers = replicate mostNumbers 0 }
+
+unfoldable pub saidNext : Said → ℕ → Said
+saidNext p x = record { tag = p .tag; header = p .header; count = p .count + 1; numbers = set (p .numbers) (p .count) x }
+
+-- numbers with zeros behind them
+abbrev pub padded : List ℕ → List ℕ
+padded xs = xs ++ replicate (mostNumbers - length xs) 0
 
 -- all that a case says
 abbrev pub saidOf : Message → Said
@@ -15,15 +30,13 @@ saidOf m =
     record {
       tag = tagOf m;
       header = Wires.headerIn m;
-      numbers = length (numbersOf m);
-      first = getD (numbersOf m) 0 0;
-      second = getD (numbersOf m) 1 0;
-      third = getD (numbersOf m) 2 0;
+      count = length (numbersOf m);
+      numbers = padded (numbersOf m);
     }
 
 -- the numbers of a case
 abbrev pub numbersSaid : Said → List ℕ
-numbersSaid p = take (p .numbers) (p .first ∷ p .second ∷ p .third ∷ [])
+numbersSaid p = take (p .count) (p .numbers)
 
 -- a message that is only a header
 abbrev pub bareWire : Header → Wire

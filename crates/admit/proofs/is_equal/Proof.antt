@@ -1,4 +1,5 @@
 -- `admit::is_equal` meets its contract. Assumes nothing.
+-- Made by tools/answers from the file `answers` beside it: change that one.
 use Rattle.admit.proofs.Ways.{equal-is}
 use borrow.Author.Needs.{needs}
 use Rattle.admit.proofs.is_equal.Statement.{statement}

@@ -1,4 +1,5 @@
 -- `admit::is_here` meets its contract. Assumes nothing.
+-- Made by tools/answers from the file `answers` beside it: change that one.
 use Rattle.admit.proofs.Ways.{here-is}
 use borrow.Author.Needs.{needs}
 use Rattle.admit.proofs.is_here.Statement.{statement}
@@ -25,4 +26,10 @@ returns c = search here-is
 pub is-here-spec : {M : Type 1} → statement M
 is-here-spec =
     tie.close
-    (tie.spec cast-own get-group-requires cast-holds get-replica-requires holds-requires returns)
+    (tie.spec
+    cast-own
+    get-group-requires
+    cast-holds
+    get-replica-requires
+    holds-requires
+    returns)

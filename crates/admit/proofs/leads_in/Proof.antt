@@ -1,4 +1,5 @@
 -- `admit::leads_in` meets its contract. Assumes nothing.
+-- Made by tools/answers from the file `answers` beside it: change that one.
 use borrow.Author.Needs.{needs}
 use Rattle.admit.proofs.leads_in.Statement.{statement}
 use Rattle.admit.proofs.leads_in.Tie as tie

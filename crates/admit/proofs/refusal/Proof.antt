@@ -1,4 +1,5 @@
 -- `admit::refusal` meets its contract: one law for each way through it. Assumes nothing.
+-- Made by tools/answers from the file `answers` beside it: change that one.
 use Rattle.admit.proofs.Refuses.{heads, two, three, four, five, six, taken}
 use borrow.Author.Needs.{needs}
 use Rattle.admit.proofs.refusal.Statement.{statement}

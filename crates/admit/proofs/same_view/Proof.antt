@@ -1,4 +1,5 @@
 -- `admit::same_view` meets its contract. Assumes nothing.
+-- Made by tools/answers from the file `answers` beside it: change that one.
 use borrow.Author.Needs.{needs}
 use Rattle.admit.proofs.same_view.Statement.{statement}
 use Rattle.admit.proofs.same_view.Tie as tie
@@ -19,5 +20,4 @@ returns : tie.Need-returns
 returns c = cc
 
 pub same-view-spec : {M : Type 1} → statement M
-same-view-spec =
-    tie.close (tie.spec mul-look32 add-look32 look32-requires view-at-requires returns)
+same-view-spec = tie.close (tie.spec mul-look32 add-look32 look32-requires view-at-requires returns)

@@ -1,4 +1,5 @@
 -- `admit::same_views` meets its contract: the views compared so far are the same. Assumes nothing.
+-- Made by tools/answers from the file `answers` beside it: change that one.
 use Prim.Native.Nat.{ℕ, _≤_, _-_}
 use mathlib.Core.Path.{_≡_, _∙_, ap}
 use mathlib.Core.Bool.{Bool}
@@ -36,13 +37,17 @@ loop-again : tie.Need-loop-again Inv-loop μ-loop
 loop-again c = (search needs, search views-next)
 
 returns : tie.Need-returns Inv-loop μ-loop
-returns c =
-    let l = c .before .before .loop in
-    let a = c .before .before .before .before .before .args in
-    let e : l .j ≡ a .shape .s = omega arith in
-    l .inv .1 ∙ ends (a .message .now) (a .state .now) (l .j) (a .shape .s) e ∙ ap (same (items (λ (x : ℕ). num (a .message .now) x 4) 4 16 (a .shape .s))) (views-in (c .before .before .before .before .before .pre))
+returns c = let l = c .before .before .loop in let a = c .before .before .before .before .before .args in let e : l .j ≡ a .shape .s = omega arith in l .inv .1 ∙ ends (a .message .now) (a .state .now) (l .j) (a .shape .s) e ∙ ap (same (items (λ (x : ℕ). num (a .message .now) x 4) 4 16 (a .shape .s))) (views-in (c .before .before .before .before .before .pre))
 
 pub same-views-spec : {M : Type 1} → statement M
 same-views-spec =
     tie.close
-    (tie.spec Inv-loop μ-loop loop-holds same-view-requires add-j loop-less loop-again returns)
+    (tie.spec
+    Inv-loop
+    μ-loop
+    loop-holds
+    same-view-requires
+    add-j
+    loop-less
+    loop-again
+    returns)

@@ -1,28 +1,43 @@
 -- `admit::status_right` meets its contract: one law for each way through it. Assumes nothing.
-use Rattle.admit.proofs.Ways.{status-asked, status-replied, status-changing, status-normal}
+-- Made by tools/answers from the file `answers` beside it: change that one.
+use Rattle.admit.proofs.Ways.{status-if-equal, status-always}
 use borrow.Author.Needs.{needs}
 use Rattle.admit.proofs.status_right.Statement.{statement}
 use Rattle.admit.proofs.status_right.Tie as tie
 
+row-of-requires : tie.Need-row-of-requires
+row-of-requires c κs = search needs
+
+cast-holds : tie.Need-cast-holds
+cast-holds c = search needs
+
 get-status-requires : tie.Need-get-status-requires
 get-status-requires c κs = search needs
 
-returns : tie.Need-returns
-returns c = search status-asked
+cast-holds-2 : tie.Need-cast-holds-2
+cast-holds-2 c = search needs
 
-returns-2 : tie.Need-returns-2
-returns-2 c = search status-replied
+holds-requires : tie.Need-holds-requires
+holds-requires c κs = search needs
 
 is-newer-requires : tie.Need-is-newer-requires
 is-newer-requires c κs = search needs
 
-returns-3 : tie.Need-returns-3
-returns-3 c = search (status-changing, c .before .before .if2 .left, c .before .before .before .if1 .left)
+returns : tie.Need-returns
+returns c = search status-if-equal
 
-returns-4 : tie.Need-returns-4
-returns-4 c = search (status-normal, c .before .if2 .left, c .before .before .if1 .left)
+returns-2 : tie.Need-returns-2
+returns-2 c = search status-always
 
 pub status-right-spec : {M : Type 1} → statement M
 status-right-spec =
     tie.close
-    (tie.spec get-status-requires returns returns-2 is-newer-requires returns-3 returns-4)
+    (tie.spec
+    row-of-requires
+    cast-holds
+    get-status-requires
+    cast-holds-2
+    holds-requires
+    is-newer-requires
+    returns
+    returns-2)

@@ -1,9 +1,10 @@
 -- `arrivals::follower_takes` meets its contract. Assumes nothing.
+-- Made by tools/answers from the file `answers` beside it: change that one.
+use Rattle.stamps.proofs.Midway.{stands-midway}
+use Rattle.arrivals.proofs.TakeWays.{early-full, early-taken, late-full, late-taken}
 use borrow.Author.Needs.{needs}
 use Rattle.arrivals.proofs.follower_takes.Statement.{statement}
 use Rattle.arrivals.proofs.follower_takes.Tie as tie
-use Rattle.stamps.proofs.Midway.{stands-midway}
-use Rattle.arrivals.proofs.TakeWays.{early-full, early-taken, late-full, late-taken}
 
 may-follow-requires : tie.Need-may-follow-requires
 may-follow-requires c κs = stands-midway (c .before .before .before .pre)
@@ -45,4 +46,19 @@ returns-4 : tie.Need-returns-4
 returns-4 c = late-taken _ _ _ _ _ (c .before .before .before .before .before .before .before .before .before .may-follow .ensures) (c .before .before .before .before .before .before .before .before .if1 .left) _ (c .before .before .before .before .before .before .late-count .ensures) (c .before .before .before .before .if3 .left) _ (c .before .before .add-late .ensures)
 
 pub follower-takes-spec : {M : Type 1} → statement M
-follower-takes-spec = tie.close (tie.spec may-follow-requires early-count-requires same-length returns add-early-requires same-length-2 returns-2 late-count-requires same-length-3 returns-3 add-late-requires same-length-4 returns-4)
+follower-takes-spec =
+    tie.close
+    (tie.spec
+    may-follow-requires
+    early-count-requires
+    same-length
+    returns
+    add-early-requires
+    same-length-2
+    returns-2
+    late-count-requires
+    same-length-3
+    returns-3
+    add-late-requires
+    same-length-4
+    returns-4)

@@ -1,12 +1,13 @@
 -- `arrivals::in_late` meets its contract. Assumes nothing.
+-- Made by tools/answers from the file `answers` beside it: change that one.
 use native.Mathlib.Omega.{arith}
-use Rattle.arrivals.proofs.in_late.Statement.{statement}
-use Rattle.arrivals.proofs.in_late.Tie as tie
 use Rattle.entries.proofs.Table.{is-table}
 use Rattle.stamps.proofs.Midway.{late-here, late-among}
+use Rattle.arrivals.proofs.in_late.Statement.{statement}
+use Rattle.arrivals.proofs.in_late.Tie as tie
 
 places-of-requires : tie.Need-places-of-requires
-places-of-requires c κs = (c .before .pre .fits)
+places-of-requires c κs = c .before .pre .fits
 
 sub-is-among : tie.Need-sub-is-among
 sub-is-among c = omega arith
@@ -24,4 +25,12 @@ returns : tie.Need-returns
 returns c = late-among (c .before .before .before .before .pre) (c .before .before .before .before .args .e) _ _ _ (c .before .before .places-of .ensures .late) (c .before .before .places-of .ensures .notes) (c .is-among .ensures)
 
 pub in-late-spec : {M : Type 1} → statement M
-in-late-spec = tie.close (tie.spec places-of-requires sub-is-among part-is-among-start part-is-among-end is-among-requires returns)
+in-late-spec =
+    tie.close
+    (tie.spec
+    places-of-requires
+    sub-is-among
+    part-is-among-start
+    part-is-among-end
+    is-among-requires
+    returns)

@@ -1,15 +1,16 @@
 -- `arrivals::keep_and_lift` meets its contract. Assumes nothing.
+-- Made by tools/answers from the file `answers` beside it: change that one.
+use Rattle.rules.specs.Image.{stateOf}
+use Rattle.stamps.proofs.Midway.{midway-here, still-once, kept-lifted}
 use borrow.Author.Needs.{needs}
 use Rattle.arrivals.proofs.keep_and_lift.Statement.{statement}
 use Rattle.arrivals.proofs.keep_and_lift.Tie as tie
-use Rattle.rules.specs.Image.{stateOf}
-use Rattle.stamps.proofs.Midway.{midway-here, still-once, kept-lifted}
 
 keep-note-requires : tie.Need-keep-note-requires
-keep-note-requires c κs = ((c .before .before .pre .0), (c .before .before .pre .2), (c .before .before .pre .3))
+keep-note-requires c κs = (c .before .before .pre .0, c .before .before .pre .2, c .before .before .pre .3)
 
 lift-requires : tie.Need-lift-requires
-lift-requires c κs = (midway-here (c .before .before .before .keep-note .ensures), still-once (stateOf (c .before .before .before .before .before .before .args .shape) (c .before .before .before .before .before .before .args .state .now)) _ (c .before .before .before .keep-note .ensures) ((c .before .before .before .before .before .before .pre .1)))
+lift-requires c κs = (midway-here (c .before .before .before .keep-note .ensures), still-once (stateOf (c .before .before .before .before .before .before .args .shape) (c .before .before .before .before .before .before .args .state .now)) _ (c .before .before .before .keep-note .ensures) (c .before .before .before .before .before .before .pre .1))
 
 same-length : tie.Need-same-length
 same-length c = search needs

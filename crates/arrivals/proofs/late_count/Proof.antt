@@ -1,12 +1,13 @@
 -- `arrivals::late_count` meets its contract. Assumes nothing.
+-- Made by tools/answers from the file `answers` beside it: change that one.
 use native.Mathlib.Omega.{arith}
-use Rattle.arrivals.proofs.late_count.Statement.{statement}
-use Rattle.arrivals.proofs.late_count.Tie as tie
 use mathlib.Core.Path.{_∙_}
 use Rattle.stamps.proofs.Midway.{late-here}
+use Rattle.arrivals.proofs.late_count.Statement.{statement}
+use Rattle.arrivals.proofs.late_count.Tie as tie
 
 places-of-requires : tie.Need-places-of-requires
-places-of-requires c κs = (c .before .pre .fits)
+places-of-requires c κs = c .before .pre .fits
 
 sub-count : tie.Need-sub-count
 sub-count c = omega arith
@@ -18,12 +19,18 @@ part-count-end : tie.Need-part-count-end
 part-count-end c = omega arith
 
 count-requires : tie.Need-count-requires
-count-requires c κs =
-    let h = late-here (c .before .before .before .pre) _ _ (c .before .places-of .ensures .late) (c .before .places-of .ensures .notes) in
-    omega (arith, h .size)
+count-requires c κs = let h = late-here (c .before .before .before .pre) _ _ (c .before .places-of .ensures .late) (c .before .places-of .ensures .notes) in omega (arith, h .size)
 
 returns : tie.Need-returns
-returns c = (c .count .ensures) ∙ late-here (c .before .before .before .before .pre) _ _ (c .before .before .places-of .ensures .late) (c .before .before .places-of .ensures .notes) .count
+returns c = c .count .ensures ∙ late-here (c .before .before .before .before .pre) _ _ (c .before .before .places-of .ensures .late) (c .before .before .places-of .ensures .notes) .count
 
 pub late-count-spec : {M : Type 1} → statement M
-late-count-spec = tie.close (tie.spec places-of-requires sub-count part-count-start part-count-end count-requires returns)
+late-count-spec =
+    tie.close
+    (tie.spec
+    places-of-requires
+    sub-count
+    part-count-start
+    part-count-end
+    count-requires
+    returns)

@@ -1,14 +1,16 @@
 -- `arrivals::on_transaction` meets its contract. Assumes nothing.
-use borrow.Author.Needs.{needs}
-use Rattle.arrivals.proofs.on_transaction.Statement.{statement}
-use Rattle.arrivals.proofs.on_transaction.Tie as tie
+-- Made by tools/answers from the file `answers` beside it: change that one.
 use mathlib.Core.Path.{refl, _∙_}
 use native.Mathlib.Omega.{arith}
+use Rattle.rules.specs.Kind.{rowOf}
 use Rattle.rules.specs.Step.{onTransaction}
 use Rattle.handler.proofs.Closes.{handled-other}
 use Rattle.handler.proofs.OtherKind.{not-tag}
 use Rattle.stamps.proofs.Midway.{stands-midway}
 use Rattle.arrivals.proofs.TransactionWays.{due-low, known-way, not-early, leader-way, follower-way}
+use borrow.Author.Needs.{needs}
+use Rattle.arrivals.proofs.on_transaction.Statement.{statement}
+use Rattle.arrivals.proofs.on_transaction.Tie as tie
 
 enum-known-m : tie.Need-enum-known-m
 enum-known-m c = search needs
@@ -17,10 +19,11 @@ returns : tie.Need-returns
 returns c = handled-other 1 onTransaction _ _ _ _ _ (not-tag 2 1 (c .before .before .before .before .args .m) refl refl (c .match .keys2) tt)
 
 first-entry-requires : tie.Need-first-entry-requires
+unfolding rowOf
 first-entry-requires c κs = (rw (c .before .before .m .given .1) at (c .before .before .before .before .before .before .before .pre), refl, refl)
 
 known-requires : tie.Need-known-requires
-known-requires c κs = stands-midway ((c .before .before .before .before .before .before .before .before .before .pre .stands))
+known-requires c κs = stands-midway (c .before .before .before .before .before .before .before .before .before .pre .stands)
 
 same-length : tie.Need-same-length
 same-length c = search needs
@@ -28,20 +31,20 @@ same-length c = search needs
 returns-2 : tie.Need-returns-2
 returns-2 c = known-way _ _ _ _ _ _ _ _ (c .before .before .before .before .before .before .before .before .before .before .before .pre) (c .before .before .before .before .before .before .m .given .1) _ (c .before .before .before .first-entry .ensures) _ (c .before .known .ensures) (c .if1 .taken)
 
-add-due : tie.Need-add-due
-add-due c = omega (arith, due-low _ _ _ (c .before .before .before .before .before .before .before .before .before .before .before .args .out .now) _ _ _ _ (c .before .before .before .before .before .before .before .before .before .before .before .pre) (c .before .before .before .before .before .before .m .given .1))
-
-leads-requires : tie.Need-leads-requires
-leads-requires c κs = (c .before .before .before .before .before .before .before .before .before .before .before .before .pre .stands)
-
-leader-stamp-requires : tie.Need-leader-stamp-requires
-leader-stamp-requires c κs = stands-midway ((c .before .before .before .before .before .before .before .before .before .before .before .before .before .before .before .pre .stands))
+add-stamped : tie.Need-add-stamped
+add-stamped c = omega (arith, due-low _ _ _ (c .before .before .before .before .before .before .before .before .before .before .before .args .out .now) _ _ _ _ (c .before .before .before .before .before .before .before .before .before .before .before .pre) (c .before .before .before .before .before .before .m .given .1))
 
 stamped-requires : tie.Need-stamped-requires
 stamped-requires c κs = search needs
 
+leads-requires : tie.Need-leads-requires
+leads-requires c κs = c .before .before .before .before .before .before .before .before .before .before .before .before .before .pre .stands
+
+raised-requires : tie.Need-raised-requires
+raised-requires c κs = stands-midway (c .before .before .before .before .before .before .before .before .before .before .before .before .before .before .before .before .before .pre .stands)
+
 leader-takes-requires : tie.Need-leader-takes-requires
-leader-takes-requires c κs = ((c .before .before .before .before .before .before .before .before .before .before .before .before .before .before .before .before .before .before .before .pre .stands), not-early _ _ _ (c .before .before .before .before .before .before .before .before .before .before .before .before .before .before .before .before .before .before .before .args .out .now) _ _ _ _ (c .before .before .before .before .before .before .before .before .before .before .before .before .before .before .before .before .before .before .before .pre) (c .before .before .before .before .before .before .before .before .before .before .before .before .before .before .m .given .1) _ (c .before .before .before .before .before .before .before .before .before .before .before .first-entry .ensures) _ (c .before .before .before .before .before .before .before .before .before .known .ensures) (c .before .before .before .before .before .before .before .before .if1 .left) _ (c .before .before .before .before .before .before .leads .ensures) _ _ (c .before .stamped .ensures))
+leader-takes-requires c κs = (c .before .before .before .before .before .before .before .before .before .before .before .before .before .before .before .before .before .before .before .pre .stands, not-early _ _ _ (c .before .before .before .before .before .before .before .before .before .before .before .before .before .before .before .before .before .before .before .args .out .now) _ _ _ _ (c .before .before .before .before .before .before .before .before .before .before .before .before .before .before .before .before .before .before .before .pre) (c .before .before .before .before .before .before .before .before .before .before .before .before .before .before .m .given .1) _ (c .before .before .before .before .before .before .before .before .before .before .before .first-entry .ensures) _ (c .before .before .before .before .before .before .before .before .before .known .ensures) (c .before .before .before .before .before .before .before .before .if1 .left) _ (c .before .before .before .before .before .leads .ensures) _ (c .before .before .before .before .before .before .before .stamped .ensures) _ (c .before .raised .ensures))
 
 same-length-2 : tie.Need-same-length-2
 same-length-2 c = search needs
@@ -50,13 +53,10 @@ same-length-3 : tie.Need-same-length-3
 same-length-3 c = search needs
 
 returns-3 : tie.Need-returns-3
-returns-3 c = (c .before .before .before .before .leader-takes .ensures) ∙ leader-way _ _ _ _ _ _ _ _ (c .before .before .before .before .before .before .before .before .before .before .before .before .before .before .before .before .before .before .before .before .before .before .before .before .pre) (c .before .before .before .before .before .before .before .before .before .before .before .before .before .before .before .before .before .before .before .m .given .1) _ (c .before .before .before .before .before .before .before .before .before .before .before .before .before .before .before .before .first-entry .ensures) _ (c .before .before .before .before .before .before .before .before .before .before .before .before .before .before .known .ensures) (c .before .before .before .before .before .before .before .before .before .before .before .before .before .if1 .left) _ (c .before .before .before .before .before .before .before .before .before .before .before .leads .ensures) (c .before .before .before .before .before .before .before .before .before .before .if2 .taken) _ (c .before .before .before .before .before .before .before .before .leader-stamp .ensures) _ (c .before .before .before .before .before .before .stamped .ensures)
-
-stamped-requires-2 : tie.Need-stamped-requires-2
-stamped-requires-2 c κs = search needs
+returns-3 c = c .before .before .before .before .leader-takes .ensures ∙ leader-way _ _ _ _ _ _ _ _ (c .before .before .before .before .before .before .before .before .before .before .before .before .before .before .before .before .before .before .before .before .before .before .before .before .pre) (c .before .before .before .before .before .before .before .before .before .before .before .before .before .before .before .before .before .before .before .m .given .1) _ (c .before .before .before .before .before .before .before .before .before .before .before .before .before .before .before .before .first-entry .ensures) _ (c .before .before .before .before .before .before .before .before .before .before .before .before .before .before .known .ensures) (c .before .before .before .before .before .before .before .before .before .before .before .before .before .if1 .left) _ (c .before .before .before .before .before .before .before .before .before .before .leads .ensures) _ (c .before .before .before .before .before .before .before .before .before .before .before .before .stamped .ensures) (c .before .before .before .before .before .before .before .before .before .if2 .taken) _ (c .before .before .before .before .before .before .raised .ensures)
 
 follower-takes-requires : tie.Need-follower-takes-requires
-follower-takes-requires c κs = (c .before .before .before .before .before .before .before .before .before .before .before .before .before .before .before .before .before .pre .stands)
+follower-takes-requires c κs = c .before .before .before .before .before .before .before .before .before .before .before .before .before .before .before .before .before .pre .stands
 
 same-length-4 : tie.Need-same-length-4
 same-length-4 c = search needs
@@ -65,7 +65,27 @@ same-length-5 : tie.Need-same-length-5
 same-length-5 c = search needs
 
 returns-4 : tie.Need-returns-4
-returns-4 c = (c .before .before .before .before .follower-takes .ensures) ∙ follower-way _ _ _ _ _ _ _ _ (c .before .before .before .before .before .before .before .before .before .before .before .before .before .before .before .before .before .before .before .before .before .before .pre) (c .before .before .before .before .before .before .before .before .before .before .before .before .before .before .before .before .before .m .given .1) _ (c .before .before .before .before .before .before .before .before .before .before .before .before .before .before .first-entry .ensures) _ (c .before .before .before .before .before .before .before .before .before .before .before .before .known .ensures) (c .before .before .before .before .before .before .before .before .before .before .before .if1 .left) _ (c .before .before .before .before .before .before .before .before .before .leads .ensures) (c .before .before .before .before .before .before .before .before .if2 .left) _ (c .before .before .before .before .before .before .stamped2 .ensures)
+returns-4 c = c .before .before .before .before .follower-takes .ensures ∙ follower-way _ _ _ _ _ _ _ _ (c .before .before .before .before .before .before .before .before .before .before .before .before .before .before .before .before .before .before .before .before .before .before .pre) (c .before .before .before .before .before .before .before .before .before .before .before .before .before .before .before .before .before .m .given .1) _ (c .before .before .before .before .before .before .before .before .before .before .before .before .before .before .first-entry .ensures) _ (c .before .before .before .before .before .before .before .before .before .before .before .before .known .ensures) (c .before .before .before .before .before .before .before .before .before .before .before .if1 .left) _ (c .before .before .before .before .before .before .before .before .leads .ensures) _ (c .before .before .before .before .before .before .before .before .before .before .stamped .ensures) (c .before .before .before .before .before .before .before .if2 .left)
 
 pub on-transaction-spec : {M : Type 1} → statement M
-on-transaction-spec = tie.close (tie.spec enum-known-m returns first-entry-requires known-requires same-length returns-2 add-due leads-requires leader-stamp-requires stamped-requires leader-takes-requires same-length-2 same-length-3 returns-3 stamped-requires-2 follower-takes-requires same-length-4 same-length-5 returns-4)
+on-transaction-spec =
+    tie.close
+    (tie.spec
+    enum-known-m
+    returns
+    first-entry-requires
+    known-requires
+    same-length
+    returns-2
+    add-stamped
+    stamped-requires
+    leads-requires
+    raised-requires
+    leader-takes-requires
+    same-length-2
+    same-length-3
+    returns-3
+    follower-takes-requires
+    same-length-4
+    same-length-5
+    returns-4)

@@ -1,7 +1,5 @@
 -- `ballots::top_normal` meets its contract. The invariant: `top` is the greatest last normal gView of the replicas passed. Assumes nothing.
-use Rattle.ballots.proofs.top_normal.Statement.{statement}
-use Rattle.ballots.proofs.top_normal.Tie as tie
-use borrow.Author.Needs.{needs}
+-- Made by tools/answers from the file `answers` beside it: change that one.
 use Prim.Native.Nat.{ℕ, _≤_, _-_}
 use mathlib.Core.Path.{_≡_}
 use mathlib.Core.List.{List}
@@ -11,6 +9,9 @@ use Rattle.rules.specs.Rebuild.{topFrom}
 use Rattle.ballots.specs.Ballots.{votesIn}
 use Rattle.ballots.proofs.Votes.{votes-long}
 use Rattle.ballots.proofs.Counting.{top-start, top-next, top-end}
+use borrow.Author.Needs.{needs}
+use Rattle.ballots.proofs.top_normal.Statement.{statement}
+use Rattle.ballots.proofs.top_normal.Tie as tie
 
 abbrev Inv-loop : tie.InvT-loop
 Inv-loop shape state cast top₀ r₀ top r = (r ≤ shape .n) × ((msg : List ℕ) → top ≡ topFrom 0 (take r (votesIn shape state msg cast)))
@@ -22,7 +23,7 @@ loop-holds : tie.Need-loop-holds Inv-loop μ-loop
 loop-holds c = (omega arith, λ msg. top-start)
 
 ballot-of-requires : tie.Need-ballot-of-requires Inv-loop μ-loop
-ballot-of-requires c κs = ((c .before .before .before .before .pre), (c .if1 .taken))
+ballot-of-requires c κs = (c .before .before .before .before .pre, c .if1 .taken)
 
 raised-requires : tie.Need-raised-requires Inv-loop μ-loop
 raised-requires c κs = search needs
@@ -34,10 +35,10 @@ loop-less : tie.Need-loop-less Inv-loop μ-loop
 loop-less c = omega arith
 
 loop-again : tie.Need-loop-again Inv-loop μ-loop
-loop-again c = (omega arith, λ msg. top-next _ _ _ _ _ _ (votes-long _ _ msg _ ((c .before .before .before .before .before .before .pre))) ((c .before .before .if1 .taken)) ((c .before .before .before .before .loop .inv .1) msg) ((c .before .ballot-of .ensures) msg) ((c .raised .ensures)))
+loop-again c = (omega arith, λ msg. top-next _ _ _ _ _ _ (votes-long _ _ msg _ (c .before .before .before .before .before .before .pre)) (c .before .before .if1 .taken) (c .before .before .before .before .loop .inv .1 msg) (c .before .ballot-of .ensures msg) (c .raised .ensures))
 
 returns : tie.Need-returns Inv-loop μ-loop
-returns c = λ msg. top-end _ _ _ _ (votes-long _ _ msg _ ((c .before .before .before .before .pre))) ((c .if1 .left)) ((c .before .before .loop .inv .1) msg)
+returns c = λ msg. top-end _ _ _ _ (votes-long _ _ msg _ (c .before .before .before .before .pre)) (c .if1 .left) (c .before .before .loop .inv .1 msg)
 
 pub top-normal-spec : {M : Type 1} → statement M
 top-normal-spec =

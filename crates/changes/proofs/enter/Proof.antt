@@ -1,4 +1,5 @@
 -- `changes::enter` meets its contract. Assumes nothing.
+-- Made by tools/answers from the file `answers` beside it: change that one.
 use Rattle.octets.proofs.Laws.{bytes-known}
 use Rattle.changes.proofs.Entered.{entered-follower, entered-own, entered-leader}
 use borrow.Author.Needs.{needs}
@@ -18,19 +19,19 @@ empty-tables-requires : tie.Need-empty-tables-requires
 empty-tables-requires c κs = search needs
 
 keep-own-vote-requires : tie.Need-keep-own-vote-requires
-keep-own-vote-requires c κs = (search needs, entered-own ((c .before .before .before .before .before .before .before .before .before .before .before .before .before .before .before .before .before .before .before .before .pre) .0) _ (c .before .before .before .before .before .before .before .before .before .before .before .before .before .before .before .before .before .before .before .before .args .message .now) (bytes-known (c .before .before .before .before .before .before .before .before .before .before .before .before .before .before .before .before .before .before .before .before .args .message .now) (λ i. (c .before .before .before .before .before .before .before .before .before .before .before .before .before .before .before .before .before .before .shared-slice-known .given) i .fits)) ((c .before .before .before .before .before .before .before .before .before .before .before .before .before .before .before .before .before .before .before .before .pre) .1) (c .before .before .before .before .before .before .before .before .before .before .before .before .before .before .before .before .take-view .ensures) (c .before .before .before .before .before .before .before .before .before .before .before .before .put-status .ensures) (c .before .before .before .before .before .before .before .before .put-boundary .ensures) (c .before .before .before .before .empty-tables .ensures))
+keep-own-vote-requires c κs = (search needs, entered-own (c .before .before .before .before .before .before .before .before .before .before .before .before .before .before .before .before .before .before .before .before .pre .0) _ (c .before .before .before .before .before .before .before .before .before .before .before .before .before .before .before .before .before .before .before .before .args .message .now) (bytes-known (c .before .before .before .before .before .before .before .before .before .before .before .before .before .before .before .before .before .before .before .before .args .message .now) (λ i. (c .before .before .before .before .before .before .before .before .before .before .before .before .before .before .before .before .before .before .shared-slice-known .given) i .fits)) (c .before .before .before .before .before .before .before .before .before .before .before .before .before .before .before .before .before .before .before .before .pre .1) (c .before .before .before .before .before .before .before .before .before .before .before .before .before .before .before .before .take-view .ensures) (c .before .before .before .before .before .before .before .before .before .before .before .before .put-status .ensures) (c .before .before .before .before .before .before .before .before .put-boundary .ensures) (c .before .before .before .before .empty-tables .ensures))
 
 same-length : tie.Need-same-length
 same-length c = search needs
 
 returns : tie.Need-returns
-returns c = entered-leader ((c .before .before .before .before .before .before .before .before .before .before .before .before .before .before .before .before .before .before .before .before .before .before .before .pre) .0) _ (c .before .before .before .before .before .before .before .before .before .before .before .before .before .before .before .before .before .before .before .before .before .before .before .args .message .now) (bytes-known (c .before .before .before .before .before .before .before .before .before .before .before .before .before .before .before .before .before .before .before .before .before .before .before .args .message .now) (λ i. (c .before .before .before .before .before .before .before .before .before .before .before .before .before .before .before .before .before .before .before .before .before .shared-slice-known .given) i .fits)) ((c .before .before .before .before .before .before .before .before .before .before .before .before .before .before .before .before .before .before .before .before .before .before .before .pre) .1) (c .before .before .before .before .before .before .before .before .before .before .before .before .before .before .before .before .before .before .before .take-view .ensures) (c .before .before .before .before .before .before .before .before .before .before .before .before .before .before .before .put-status .ensures) (c .before .before .before .before .before .before .before .before .before .before .before .put-boundary .ensures) (c .before .before .before .before .before .before .before .empty-tables .ensures) _ (c .before .before .before .before .if1 .taken) (c .before .before .keep-own-vote .ensures)
+returns c = entered-leader (c .before .before .before .before .before .before .before .before .before .before .before .before .before .before .before .before .before .before .before .before .before .before .before .pre .0) _ (c .before .before .before .before .before .before .before .before .before .before .before .before .before .before .before .before .before .before .before .before .before .before .before .args .message .now) (bytes-known (c .before .before .before .before .before .before .before .before .before .before .before .before .before .before .before .before .before .before .before .before .before .before .before .args .message .now) (λ i. (c .before .before .before .before .before .before .before .before .before .before .before .before .before .before .before .before .before .before .before .before .before .shared-slice-known .given) i .fits)) (c .before .before .before .before .before .before .before .before .before .before .before .before .before .before .before .before .before .before .before .before .before .before .before .pre .1) (c .before .before .before .before .before .before .before .before .before .before .before .before .before .before .before .before .before .before .before .take-view .ensures) (c .before .before .before .before .before .before .before .before .before .before .before .before .before .before .before .put-status .ensures) (c .before .before .before .before .before .before .before .before .before .before .before .put-boundary .ensures) (c .before .before .before .before .before .before .before .empty-tables .ensures) _ (c .before .before .before .before .if1 .taken) (c .before .before .keep-own-vote .ensures)
 
 same-length-2 : tie.Need-same-length-2
 same-length-2 c = search needs
 
 returns-2 : tie.Need-returns-2
-returns-2 c = entered-follower ((c .before .before .before .before .before .before .before .before .before .before .before .before .before .before .before .before .before .before .before .pre) .0) _ (c .before .before .before .before .before .before .before .before .before .before .before .before .before .before .before .before .before .before .before .args .message .now) (bytes-known (c .before .before .before .before .before .before .before .before .before .before .before .before .before .before .before .before .before .before .before .args .message .now) (λ i. (c .before .before .before .before .before .before .before .before .before .before .before .before .before .before .before .before .before .shared-slice-known .given) i .fits)) ((c .before .before .before .before .before .before .before .before .before .before .before .before .before .before .before .before .before .before .before .pre) .1) (c .before .before .before .before .before .before .before .before .before .before .before .before .before .before .before .take-view .ensures) (c .before .before .before .before .before .before .before .before .before .before .before .put-status .ensures) (c .before .before .before .before .before .before .before .put-boundary .ensures) (c .before .before .before .empty-tables .ensures) _ (c .if1 .left)
+returns-2 c = entered-follower (c .before .before .before .before .before .before .before .before .before .before .before .before .before .before .before .before .before .before .before .pre .0) _ (c .before .before .before .before .before .before .before .before .before .before .before .before .before .before .before .before .before .before .before .args .message .now) (bytes-known (c .before .before .before .before .before .before .before .before .before .before .before .before .before .before .before .before .before .before .before .args .message .now) (λ i. (c .before .before .before .before .before .before .before .before .before .before .before .before .before .before .before .before .before .shared-slice-known .given) i .fits)) (c .before .before .before .before .before .before .before .before .before .before .before .before .before .before .before .before .before .before .before .pre .1) (c .before .before .before .before .before .before .before .before .before .before .before .before .before .before .before .take-view .ensures) (c .before .before .before .before .before .before .before .before .before .before .before .put-status .ensures) (c .before .before .before .before .before .before .before .put-boundary .ensures) (c .before .before .before .empty-tables .ensures) _ (c .if1 .left)
 
 pub enter-spec : {M : Type 1} → statement M
 enter-spec =

@@ -1,10 +1,12 @@
 -- `changes::tell_log` meets its contract. Assumes nothing.
+-- Made by tools/answers from the file `answers` beside it: change that one.
 use Prim.Native.Nat.{_+_, _*_}
 use mathlib.Core.Path.{_≡_, refl}
 use native.Mathlib.Omega.{arith}
 use native.Mathlib.Nat.{zero-add}
 use Rattle.places.specs.Layout.{startOf}
 use Rattle.changes.proofs.Logged.{log-lent}
+use Rattle.rules.specs.Image.{atLog}
 use borrow.Author.Needs.{needs}
 use Rattle.changes.proofs.tell_log.Statement.{statement}
 use Rattle.changes.proofs.tell_log.Tie as tie
@@ -40,13 +42,7 @@ same-length : tie.Need-same-length
 same-length c = search needs
 
 returns : tie.Need-returns
-returns c =
-    let a = (c .before .before .before .before .before .before .before .before .before .before .args) in
-    let p = (c .before .before .before .before .before .before .before .places-of) in
-    let k = (c .before .before .before .before .before .log-count) in
-    let q : p .result .log + 4 ≡ startOf (a .shape) 3 + 4 = omega (arith, p .ensures .log) in
-    let e = log-lent (a .shape) (a .state .now) (p .result .log + 4) (k .result) (p .result .log + 4 + 24 * k .result) q (k .ensures) refl in
-    rw (e, zero-add) at (c .before .before .tell .ensures)
+returns c = let a = c .before .before .before .before .before .before .before .before .before .before .args in let p = c .before .before .before .before .before .before .before .places-of in let k = c .before .before .before .before .before .log-count in let q : p .result .log + 4 ≡ startOf (a .shape) atLog + 4 = omega (arith, p .ensures .log) in let e = log-lent (a .shape) (a .state .now) (p .result .log + 4) (k .result) (p .result .log + 4 + 24 * k .result) q (k .ensures) refl in rw (e, zero-add) at (c .before .before .tell .ensures)
 
 pub tell-log-spec : {M : Type 1} → statement M
 tell-log-spec =

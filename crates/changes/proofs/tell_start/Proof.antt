@@ -1,4 +1,5 @@
 -- `changes::tell_start` meets its contract. Assumes nothing.
+-- Made by tools/answers from the file `answers` beside it: change that one.
 use Rattle.changes.proofs.Logged.{start-case}
 use borrow.Author.Needs.{needs}
 use Rattle.changes.proofs.tell_start.Statement.{statement}
@@ -23,10 +24,7 @@ same-length : tie.Need-same-length
 same-length c = search needs
 
 returns : tie.Need-returns
-returns c =
-    let a = (c .before .before .before .before .before .before .before .before .before .before .args) in
-    let e = start-case (a .shape) (a .state .now) _ _ _ _ (c .before .before .before .before .before .before .before .get8 .ensures) (c .before .before .before .before .before .before .get-replica .ensures) (c .before .before .before .before .before .others .ensures) (c .before .before .before .before .headed .ensures) in
-    rw e at (c .before .before .tell-log .ensures)
+returns c = let a = c .before .before .before .before .before .before .before .before .before .before .args in let e = start-case (a .shape) (a .state .now) _ _ _ _ (c .before .before .before .before .before .before .before .get8 .ensures) (c .before .before .before .before .before .before .get-replica .ensures) (c .before .before .before .before .before .others .ensures) (c .before .before .before .before .headed .ensures) in rw e at (c .before .before .tell-log .ensures)
 
 pub tell-start-spec : {M : Type 1} → statement M
 tell-start-spec =

@@ -1,4 +1,5 @@
 -- `changes::tell_vote` meets its contract. Assumes nothing.
+-- Made by tools/answers from the file `answers` beside it: change that one.
 use Prim.Native.Nat.{_%_, _<_}
 use native.Mathlib.Omega.{arith}
 use native.Mathlib.Nat.{mod-lt}
@@ -23,11 +24,7 @@ rem-leader : tie.Need-rem-leader
 rem-leader c = search needs
 
 only-requires : tie.Need-only-requires
-only-requires c κs =
-    let a = (c .before .before .before .before .before .args) in
-    let h : 0 < a .shape .n = omega arith in
-    let m : (c .before .view-at .result) % a .shape .n < a .shape .n = mod-lt (c .before .view-at .result) h in
-    omega arith
+only-requires c κs = let a = c .before .before .before .before .before .args in let h : 0 < a .shape .n = omega arith in let m : (c .before .view-at .result) % a .shape .n < a .shape .n = mod-lt (c .before .view-at .result) h in omega arith
 
 headed-requires : tie.Need-headed-requires
 headed-requires c κs = search needs
@@ -48,10 +45,7 @@ same-length : tie.Need-same-length
 same-length c = search needs
 
 returns : tie.Need-returns
-returns c =
-    let a = (c .before .before .before .before .before .before .before .before .before .before .before .before .before .args) in
-    let e = vote-case (a .shape) (a .state .now) _ _ _ _ _ _ (c .before .before .before .before .before .before .before .before .before .before .get8 .ensures) (c .before .before .before .before .before .before .before .before .before .view-at .ensures) (c .before .before .before .before .before .before .before .only .ensures) (c .before .before .before .before .before .before .headed .ensures) (c .before .before .before .before .before .get-normal .ensures) (c .before .before .before .before .get-sync .ensures) in
-    rw e at (c .before .before .tell-log .ensures)
+returns c = let a = c .before .before .before .before .before .before .before .before .before .before .before .before .before .args in let e = vote-case (a .shape) (a .state .now) _ _ _ _ _ _ (c .before .before .before .before .before .before .before .before .before .before .get8 .ensures) (c .before .before .before .before .before .before .before .before .before .view-at .ensures) (c .before .before .before .before .before .before .before .only .ensures) (c .before .before .before .before .before .before .headed .ensures) (c .before .before .before .before .before .get-normal .ensures) (c .before .before .before .before .get-sync .ensures) in rw e at (c .before .before .tell-log .ensures)
 
 pub tell-vote-spec : {M : Type 1} → statement M
 tell-vote-spec =

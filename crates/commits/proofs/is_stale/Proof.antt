@@ -1,22 +1,20 @@
 -- `commits::is_stale` meets its contract. Assumes nothing.
+-- Made by tools/answers from the file `answers` beside it: change that one.
 use Rattle.commits.proofs.StatusWays.{stale-read}
-use borrow.Author.Needs.{needs}
-use Rattle.commits.proofs.is_stale.Statement.{statement}
-use Rattle.commits.proofs.is_stale.Tie as tie
 use Rattle.commits.proofs.is_stale.Reads as reads
 use Rattle.commits.proofs.is_stale.Lts as lts
 use Rattle.places.proofs.heard_flag.Reads as heard-flag-reads
 use Rattle.places.proofs.heard_point.Reads as heard-point-reads
+use borrow.Author.Needs.{needs}
+use Rattle.commits.proofs.is_stale.Statement.{statement}
+use Rattle.commits.proofs.is_stale.Tie as tie
 
--- src/lib.rt:67:9
 heard-flag-requires : tie.Need-heard-flag-requires
 heard-flag-requires c κs = search needs
 
--- src/lib.rt:68:9
 heard-point-requires : tie.Need-heard-point-requires
 heard-point-requires c κs = search needs
 
--- src/lib.rt:63:1
 returns : tie.Need-returns
 returns c = stale-read _ _ _ _ _ (c .before .heard-flag .ensures) (c .heard-point .ensures)
 

@@ -1,4 +1,5 @@
 -- `commits::keep_status` meets its contract: the point heard is written, then the commit point over the points heard. Assumes nothing.
+-- Made by tools/answers from the file `answers` beside it: change that one.
 use Prim.Native.Nat.{_*_, _-_, _^_, _<_}
 use mathlib.Core.Path.{_≡_}
 use native.Mathlib.Omega.{arith}
@@ -38,10 +39,7 @@ same-length : tie.Need-same-length
 same-length c = search needs
 
 returns : tie.Need-returns
-returns c =
-    let f : c .before .before .before .before .before .before .before .before .before .before .before .before .before .before .before .before .before .args .point < 256 ^ 8 = omega arith in
-    let n : c .before .before .before .before .before .before .before .before .before .before .before .places-of .result .log - c .before .before .before .before .before .before .before .before .before .before .before .places-of .result .heard ≡ 9 * (c .before .before .before .before .before .before .before .before .before .before .before .before .before .before .before .before .before .args .shape .n) = omega (arith, c .before .before .before .before .before .before .before .before .before .before .before .places-of .ensures .heard, c .before .before .before .before .before .before .before .before .before .before .before .places-of .ensures .log) in
-    status-kept (c .before .before .before .before .before .before .before .before .before .before .before .before .before .before .before .before .before .pre .0) _ _ (c .before .before .before .before .before .before .before .before .before .before .before .before .before .before .before .before .before .pre .1) f (c .before .before .before .before .before .before .before .before .before .before .before .before .before .before .put-heard .ensures) _ _ _ _ _ _ _ (c .before .before .before .before .before .before .before .before .before .get-replica .ensures) (c .before .before .before .before .before .before .before .get-commit .ensures) (c .before .before .before .before .before .before .before .before .before .before .before .places-of .ensures .heard) n (c .before .before .before .before .commit-point .ensures) (c .before .before .put-commit .ensures)
+returns c = let f : (c .before .before .before .before .before .before .before .before .before .before .before .before .before .before .before .before .before .args .point) < 256 ^ 8 = omega arith in let n : (c .before .before .before .before .before .before .before .before .before .before .before .places-of .result .log) - (c .before .before .before .before .before .before .before .before .before .before .before .places-of .result .heard) ≡ 9 * (c .before .before .before .before .before .before .before .before .before .before .before .before .before .before .before .before .before .args .shape .n) = omega (arith, c .before .before .before .before .before .before .before .before .before .before .before .places-of .ensures .heard, c .before .before .before .before .before .before .before .before .before .before .before .places-of .ensures .log) in status-kept (c .before .before .before .before .before .before .before .before .before .before .before .before .before .before .before .before .before .pre .0) _ _ (c .before .before .before .before .before .before .before .before .before .before .before .before .before .before .before .before .before .pre .1) f (c .before .before .before .before .before .before .before .before .before .before .before .before .before .before .put-heard .ensures) _ _ _ _ _ _ _ (c .before .before .before .before .before .before .before .before .before .get-replica .ensures) (c .before .before .before .before .before .before .before .get-commit .ensures) (c .before .before .before .before .before .before .before .before .before .before .before .places-of .ensures .heard) n (c .before .before .before .before .commit-point .ensures) (c .before .before .put-commit .ensures)
 
 pub keep-status-spec : {M : Type 1} → statement M
 keep-status-spec =

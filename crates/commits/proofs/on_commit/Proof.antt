@@ -1,4 +1,5 @@
 -- `commits::on_commit` meets its contract: one law for each way through it. Assumes nothing.
+-- Made by tools/answers from the file `answers` beside it: change that one.
 use mathlib.Core.Path.{refl}
 use Rattle.rules.specs.Step.{onCommit}
 use Rattle.handler.proofs.Closes.{handled-other}

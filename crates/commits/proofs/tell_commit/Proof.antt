@@ -1,61 +1,50 @@
 -- `commits::tell_commit` meets its contract. Assumes nothing.
+-- Made by tools/answers from the file `answers` beside it: change that one.
 use mathlib.Core.Path.{_≡_, refl, _∙_}
 use native.Mathlib.Omega.{arith}
 use native.Mathlib.Nat.{zero-add}
 use Rattle.octets.specs.Bytes.{num}
+use Rattle.rules.specs.Kind.{rowOf}
 use Rattle.rules.specs.Choice.{pick}
 use Rattle.rules.specs.Group.{only}
 use Rattle.handler.specs.Sending.{headedIn}
-use borrow.Author.Needs.{needs}
-use Rattle.commits.proofs.tell_commit.Statement.{statement}
-use Rattle.commits.proofs.tell_commit.Tie as tie
 use Rattle.commits.proofs.tell_commit.Reads as reads
 use Rattle.commits.proofs.tell_commit.Lts as lts
 use Rattle.group.proofs.only.Reads as only-reads
 use Rattle.handler.proofs.headed.Reads as headed-reads
 use Rattle.handler.proofs.tell.Reads as tell-reads
 use Rattle.octets.proofs.get8.Reads as get8-reads
+use borrow.Author.Needs.{needs}
+use Rattle.commits.proofs.tell_commit.Statement.{statement}
+use Rattle.commits.proofs.tell_commit.Tie as tie
 
--- src/lib.rt:86:9
 get8-requires : tie.Need-get8-requires
 get8-requires c κs = search needs
 
--- src/lib.rt:87:9
 only-requires : tie.Need-only-requires
 only-requires c κs = search needs
 
--- src/lib.rt:88:9
 headed-requires : tie.Need-headed-requires
 headed-requires c κs = search needs
 
--- src/lib.rt:90:44
 sub-tell : tie.Need-sub-tell
 sub-tell c = search needs
 
--- src/lib.rt:90:44
 part-tell-start : tie.Need-part-tell-start
 part-tell-start c = search needs
 
--- src/lib.rt:90:44
 part-tell-end : tie.Need-part-tell-end
 part-tell-end c = search needs
 
--- src/lib.rt:90:5
 tell-requires : tie.Need-tell-requires
-unfolding pick
+unfolding pick rowOf
 tell-requires c κs = (c .before .before .before .before .before .before .before .pre .0, refl, omega arith, omega arith)
 
--- src/lib.rt:82:1
 same-length : tie.Need-same-length
 same-length c = search needs
 
--- src/lib.rt:82:1
 returns : tie.Need-returns
-returns c =
-    let a = c .before .before .before .before .before .before .before .before .before .before .args in
-    let e : c .before .before .before .before .before .headed .result ≡ headedIn (a .state .now) 11 (num (a .state .now) 0 1) (only (a .to)) = c .before .before .before .before .before .headed .ensures ∙ rw (c .before .before .before .before .before .before .before .get8 .ensures, c .before .before .before .before .before .before .only .ensures) in
-    let t = rw e at (c .before .before .tell .ensures) in
-    (t .0 ∙ zero-add _, t .1)
+returns c = let a = c .before .before .before .before .before .before .before .before .before .before .args in let e : (c .before .before .before .before .before .headed .result) ≡ headedIn (a .state .now) 11 (num (a .state .now) 0 1) (only (a .to)) = c .before .before .before .before .before .headed .ensures ∙ rw (c .before .before .before .before .before .before .before .get8 .ensures, c .before .before .before .before .before .before .only .ensures) in let t = rw e at (c .before .before .tell .ensures) in (t .0 ∙ zero-add _, t .1)
 
 pub tell-commit-spec : {M : Type 1} → statement M
 tell-commit-spec =

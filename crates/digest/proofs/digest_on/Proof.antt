@@ -1,11 +1,12 @@
 -- `digest::digest_on` meets its contract: what is left to run over, run on from the sum, gives the whole.
+-- Made by tools/answers from the file `answers` beside it: change that one.
 use mathlib.Core.Path.{_≡_, _∙_, sym, refl}
 use Prim.Native.Nat.{_≤_, _-_}
 use native.Mathlib.Omega.{arith}
-use borrow.Author.Needs.{needs}
 use lib.ListN.{length, drop}
 use Rattle.rules.specs.Digest.{digestFrom}
 use Rattle.digest.proofs.Laws.{digest-more, digest-done}
+use borrow.Author.Needs.{needs}
 use Rattle.digest.proofs.digest_on.Statement.{statement}
 use Rattle.digest.proofs.digest_on.Tie as tie
 
@@ -34,14 +35,10 @@ loop-less : tie.Need-loop-less Inv-loop μ-loop
 loop-less c = search needs
 
 loop-again : tie.Need-loop-again Inv-loop μ-loop
-loop-again c =
-    let l = c .before .before .before .loop in
-    (search needs, l .inv .1 ∙ digest-more (l .sum) _ _ (l .i) (omega arith) (c .times-prime .ensures))
+loop-again c = let l = c .before .before .before .loop in (search needs, l .inv .1 ∙ digest-more (l .sum) _ _ (l .i) (omega arith) (c .times-prime .ensures))
 
 returns : tie.Need-returns Inv-loop μ-loop
-returns c =
-    let l = c .before .loop in
-    sym (l .inv .1 ∙ digest-done (l .sum) _ (l .i) (c .loop-test .left))
+returns c = let l = c .before .loop in sym (l .inv .1 ∙ digest-done (l .sum) _ (l .i) (c .loop-test .left))
 
 pub digest-on-spec : {M : Type 1} → statement M
 digest-on-spec =

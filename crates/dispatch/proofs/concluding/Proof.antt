@@ -1,9 +1,10 @@
 -- `dispatch::concluding` meets its contract: a verify reply, or else the handler of votes. Assumes nothing.
-use borrow.Author.Needs.{needs}
+-- Made by tools/answers from the file `answers` beside it: change that one.
 use mathlib.Core.Path.{ap, refl}
 use Rattle.rules.specs.Wire.{tagOf}
 use Rattle.handler.proofs.OtherKind.{not-tag}
 use Rattle.dispatch.proofs.Handled.{other-vote, own-reply}
+use borrow.Author.Needs.{needs}
 use Rattle.dispatch.proofs.concluding.Statement.{statement}
 use Rattle.dispatch.proofs.concluding.Tie as tie
 

@@ -1,4 +1,5 @@
 -- `dispatch::handle` meets its contract: the handler of each kind. Assumes nothing.
+-- Made by tools/answers from the file `answers` beside it: change that one.
 use mathlib.Core.Path.{ap}
 use Rattle.rules.specs.Wire.{tagOf}
 use Rattle.rules.specs.Step.{onTransaction, onNote, onReplicaSync, onChangeView, onStartView, onSyncStatus, onCommit, onVerifyRequest, onTick}

@@ -1,7 +1,5 @@
 -- `due::due_at` meets its contract. The invariant: `best` is the place of the least of the entries passed that is next, `n` where none is. Assumes nothing.
-use borrow.Author.Needs.{needs}
-use Rattle.due.proofs.due_at.Statement.{statement}
-use Rattle.due.proofs.due_at.Tie as tie
+-- Made by tools/answers from the file `answers` beside it: change that one.
 use Prim.Native.Nat.{_≤_, _-_}
 use mathlib.Core.Path.{_≡_, refl, _∙_}
 use native.Mathlib.Omega.{arith}
@@ -10,6 +8,9 @@ use Rattle.rules.specs.Image.{tableAt}
 use Rattle.rules.specs.Entry.{entryOf}
 use Rattle.due.specs.Due.{isNext}
 use Rattle.due.proofs.Search.{Least, least-start, least-next, due-found}
+use borrow.Author.Needs.{needs}
+use Rattle.due.proofs.due_at.Statement.{statement}
+use Rattle.due.proofs.due_at.Tie as tie
 
 abbrev Inv-loop : tie.InvT-loop
 Inv-loop t c time i last n best₀ k₀ best k = (k ≤ n) × (n ≡ length (tableAt c t 0)) × Least (isNext time i last) (entryOf (tableAt c t 0)) n k best
@@ -21,10 +22,10 @@ count-requires : tie.Need-count-requires Inv-loop μ-loop
 count-requires c κs = search needs
 
 loop-holds : tie.Need-loop-holds Inv-loop μ-loop
-loop-holds c = (omega arith, (c .count .ensures) ∙ (c .before .before .pre .0 .count), least-start _ _ _ _ refl)
+loop-holds c = (omega arith, c .count .ensures ∙ c .before .before .pre .0 .count, least-start _ _ _ _ refl)
 
 nearer-requires : tie.Need-nearer-requires Inv-loop μ-loop
-nearer-requires c κs = ((c .before .before .before .before .pre .0), (c .before .loop .inv .1), (c .before .loop .inv .2 .within), (c .loop-test .taken))
+nearer-requires c κs = (c .before .before .before .before .pre .0, c .before .loop .inv .1, c .before .loop .inv .2 .within, c .loop-test .taken)
 
 add-k : tie.Need-add-k Inv-loop μ-loop
 add-k c = omega arith
@@ -33,7 +34,7 @@ loop-less : tie.Need-loop-less Inv-loop μ-loop
 loop-less c = omega arith
 
 loop-again : tie.Need-loop-again Inv-loop μ-loop
-loop-again c = (omega arith, (c .before .before .loop .inv .1), least-next _ _ _ _ _ _ (c .before .loop-test .taken) (c .before .before .loop .inv .2) (c .nearer .ensures))
+loop-again c = (omega arith, c .before .before .loop .inv .1, least-next _ _ _ _ _ _ (c .before .loop-test .taken) (c .before .before .loop .inv .2) (c .nearer .ensures))
 
 returns : tie.Need-returns Inv-loop μ-loop
 returns c = due-found _ _ (c .before .before .before .before .pre .1) _ _ (c .before .before .before .before .pre .2) _ _ _ (c .before .loop .inv .1) (c .loop-test .left) (c .before .loop .inv .2)

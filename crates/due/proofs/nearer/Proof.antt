@@ -1,8 +1,9 @@
 -- `due::nearer` meets its contract: one law for each way out. Assumes nothing.
+-- Made by tools/answers from the file `answers` beside it: change that one.
+use Rattle.due.proofs.Search.{near-skips, near-first, near-before, near-stays}
 use borrow.Author.Needs.{needs}
 use Rattle.due.proofs.nearer.Statement.{statement}
 use Rattle.due.proofs.nearer.Tie as tie
-use Rattle.due.proofs.Search.{near-skips, near-first, near-before, near-stays}
 
 entry-of-requires : tie.Need-entry-of-requires
 entry-of-requires c κs = search needs

@@ -1,12 +1,13 @@
 -- `fields::below` meets its contract. Assumes nothing.
-use borrow.Author.Needs.{needs}
-use Rattle.fields.proofs.below.Statement.{statement}
-use Rattle.fields.proofs.below.Tie as tie
+-- Made by tools/answers from the file `answers` beside it: change that one.
 use mathlib.Core.Path.{ap}
 use Prim.Native.Nat.{ℕ}
 use native.Mathlib.Omega.{arith}
 use lib.Dec.{ltb}
 use Rattle.group.proofs.Masks.{shifted}
+use borrow.Author.Needs.{needs}
+use Rattle.fields.proofs.below.Statement.{statement}
+use Rattle.fields.proofs.below.Tie as tie
 
 shl-result : tie.Need-shl-result
 shl-result c = search needs

@@ -1,8 +1,9 @@
 -- `fields::entry_wrong` meets its contract. Assumes nothing.
+-- Made by tools/answers from the file `answers` beside it: change that one.
+use Rattle.rules.specs.Read.{firstWrong}
 use borrow.Author.Needs.{needs}
 use Rattle.fields.proofs.entry_wrong.Statement.{statement}
 use Rattle.fields.proofs.entry_wrong.Tie as tie
-use Rattle.rules.specs.Read.{firstWrong}
 
 stamp-right-requires : tie.Need-stamp-right-requires
 stamp-right-requires c κs = search needs

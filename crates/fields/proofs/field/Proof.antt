@@ -1,7 +1,8 @@
 -- `fields::field` meets its contract. Assumes nothing.
+-- Made by tools/answers from the file `answers` beside it: change that one.
+use Rattle.rules.specs.Choice.{pick}
 use Rattle.fields.proofs.field.Statement.{statement}
 use Rattle.fields.proofs.field.Tie as tie
-use Rattle.rules.specs.Choice.{pick}
 
 returns : tie.Need-returns
 unfolding pick

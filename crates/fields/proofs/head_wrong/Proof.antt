@@ -1,8 +1,9 @@
 -- `fields::head_wrong` meets its contract. Assumes nothing.
+-- Made by tools/answers from the file `answers` beside it: change that one.
+use Rattle.rules.specs.Read.{firstWrong}
 use borrow.Author.Needs.{needs}
 use Rattle.fields.proofs.head_wrong.Statement.{statement}
 use Rattle.fields.proofs.head_wrong.Tie as tie
-use Rattle.rules.specs.Read.{firstWrong}
 
 to-outside-requires : tie.Need-to-outside-requires
 to-outside-requires c κs = search needs

@@ -1,8 +1,9 @@
 -- `fields::mask_right` meets its contract. Assumes nothing.
+-- Made by tools/answers from the file `answers` beside it: change that one.
+use Rattle.fields.proofs.Rows.{all-three}
 use borrow.Author.Needs.{needs}
 use Rattle.fields.proofs.mask_right.Statement.{statement}
 use Rattle.fields.proofs.mask_right.Tie as tie
-use Rattle.fields.proofs.Rows.{all-three}
 
 cast-holds : tie.Need-cast-holds
 cast-holds c = search needs
@@ -25,4 +26,10 @@ returns c = simp (all-three, c .some-of .ensures, c .before .holds2 .ensures, c 
 pub mask-right-spec : {M : Type 1} → statement M
 mask-right-spec =
     tie.close
-    (tie.spec cast-holds holds-requires cast-holds-2 holds-requires-2 some-of-requires returns)
+    (tie.spec
+    cast-holds
+    holds-requires
+    cast-holds-2
+    holds-requires-2
+    some-of-requires
+    returns)

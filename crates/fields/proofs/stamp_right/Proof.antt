@@ -1,4 +1,5 @@
 -- `fields::stamp_right` meets its contract. Assumes nothing.
+-- Made by tools/answers from the file `answers` beside it: change that one.
 use borrow.Author.Needs.{needs}
 use Rattle.fields.proofs.stamp_right.Statement.{statement}
 use Rattle.fields.proofs.stamp_right.Tie as tie

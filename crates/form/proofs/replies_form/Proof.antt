@@ -1,4 +1,5 @@
 -- `form::replies_form` meets its contract. The invariant: the replies passed have their form where `fine` holds. Assumes nothing.
+-- Made by tools/answers from the file `answers` beside it: change that one.
 use Prim.Native.Nat.{_+_, _-_, _*_, _≤_}
 use mathlib.Core.Path.{_≡_}
 use native.Mathlib.Omega.{arith}

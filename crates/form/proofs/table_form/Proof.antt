@@ -1,4 +1,5 @@
 -- `form::table_form` meets its contract: the table is lent as a slice of its own. Assumes nothing.
+-- Made by tools/answers from the file `answers` beside it: change that one.
 use Prim.Native.Nat.{_+_, _-_, _*_}
 use native.Mathlib.Omega.{arith}
 use Rattle.form.proofs.Parts.{table-lent}
@@ -28,7 +29,7 @@ table-good-requires : tie.Need-table-good-requires
 table-good-requires c κs = search needs
 
 returns : tie.Need-returns
-returns c = table-lent _ _ _ (c .before .before .before .pre .0) (c .before .before .before .args .at + (4 + 24 * c .before .before .before .args .c) - c .before .before .before .args .at) _ (omega arith) (c .table-good .ensures)
+returns c = table-lent _ _ _ (c .before .before .before .pre .0) (c .before .before .before .args .at + (4 + 24 * (c .before .before .before .args .c)) - (c .before .before .before .args .at)) _ (omega arith) (c .table-good .ensures)
 
 pub table-form-spec : {M : Type 1} → statement M
 table-form-spec =

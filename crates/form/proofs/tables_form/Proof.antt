@@ -1,4 +1,5 @@
 -- `form::tables_form` meets its contract: each section where it begins, and all of them together. Assumes nothing.
+-- Made by tools/answers from the file `answers` beside it: change that one.
 use mathlib.Core.Path.{refl, sym, _∙_}
 use lib.ListN.{length}
 use lib.Dec.{lit<}
@@ -56,23 +57,7 @@ replies-form-requires : tie.Need-replies-form-requires
 replies-form-requires c κs = (c .replies-form-arg .given .2 ∙ bound (c .before .before .before .before .before .before .before .before) .repliesWide, c .before .before .before .before .before .before .before .before .before .before .pre .fits .small)
 
 returns : tie.Need-returns
-returns c =
-    let q = c .before .before .before .before .before .before .before .before .before .before .before .pre in
-    let p = c .before .before .before .before .before .before .before .before .before .places-of .ensures in
-    let w = bound (c .before .before .before .before .before .before .before .before .before) in
-    let sh = c .before .before .before .before .before .before .before .before .before .before .before .args .shape in
-    let b = c .before .before .before .before .before .before .before .before .before .before .before .args .state .now in
-    let bs = bytes-known b (λ i. c .before .before .before .before .before .before .before .before .before .before .shared-slice-known .given i .fits) in
-    let lent = lent-section sh b (q .size) in
-    let table = table-section sh b (q .size) in
-    tables-whole sh b (q .size) bs _ _ _ _ _ _ _
-    (head-section sh b (q .size) bs _ (c .before .before .before .before .before .before .before .before .head-form .ensures))
-    (table 3 _ _ (lit< tt) (p .log) refl (w .log) (c .before .before .before .before .before .before .before .table-form .ensures) ∙ sym (form-is sh b 3))
-    (table 4 _ _ (lit< tt) (p .early) refl (w .early) (c .before .before .before .before .before .before .table-form2 .ensures) ∙ sym (form-is sh b 4))
-    (table 5 _ _ (lit< tt) (p .late) refl (w .late) (c .before .before .before .before .before .table-form3 .ensures) ∙ sym (form-is sh b 5))
-    (lent (λ x. flat (voteBytes (sh .c)) (items (voteAt (sh .c) x) (voteLength (sh .c)) 0 (sh .n))) 7 _ _ _ (lit< tt) (p .votes) (w .votesWide) (c .before .before .before .votes-form .ensures) ∙ sym (form-is sh b 7))
-    (table 8 _ _ (lit< tt) (p .draft) refl (w .draft) (c .before .before .table-form4 .ensures) ∙ sym (form-is sh b 8))
-    (lent (λ x. flat (replyBytes (sh .c)) (items (replyAt (sh .c) x) (replyLength (sh .c)) 0 (sh .s))) 9 _ _ _ (lit< tt) (p .replies) (w .repliesWide) (c .replies-form .ensures) ∙ sym (form-is sh b 9))
+returns c = let q = c .before .before .before .before .before .before .before .before .before .before .before .pre in let p = c .before .before .before .before .before .before .before .before .before .places-of .ensures in let w = bound (c .before .before .before .before .before .before .before .before .before) in let sh = c .before .before .before .before .before .before .before .before .before .before .before .args .shape in let b = c .before .before .before .before .before .before .before .before .before .before .before .args .state .now in let bs = bytes-known b (λ i. (c .before .before .before .before .before .before .before .before .before .before .shared-slice-known .given) i .fits) in let lent = lent-section sh b (q .size) in let table = table-section sh b (q .size) in tables-whole sh b (q .size) bs _ _ _ _ _ _ _ (head-section sh b (q .size) bs _ (c .before .before .before .before .before .before .before .before .head-form .ensures)) (table 3 _ _ (lit< tt) (p .log) refl (w .log) (c .before .before .before .before .before .before .before .table-form .ensures) ∙ sym (form-is sh b 3)) (table 4 _ _ (lit< tt) (p .early) refl (w .early) (c .before .before .before .before .before .before .table-form2 .ensures) ∙ sym (form-is sh b 4)) (table 5 _ _ (lit< tt) (p .late) refl (w .late) (c .before .before .before .before .before .table-form3 .ensures) ∙ sym (form-is sh b 5)) (lent (λ x. flat (voteBytes (sh .c)) (items (voteAt (sh .c) x) (voteLength (sh .c)) 0 (sh .n))) 7 _ _ _ (lit< tt) (p .votes) (w .votesWide) (c .before .before .before .votes-form .ensures) ∙ sym (form-is sh b 7)) (table 8 _ _ (lit< tt) (p .draft) refl (w .draft) (c .before .before .table-form4 .ensures) ∙ sym (form-is sh b 8)) (lent (λ x. flat (replyBytes (sh .c)) (items (replyAt (sh .c) x) (replyLength (sh .c)) 0 (sh .s))) 9 _ _ _ (lit< tt) (p .replies) (w .repliesWide) (c .replies-form .ensures) ∙ sym (form-is sh b 9))
 
 pub tables-form-spec : {M : Type 1} → statement M
 tables-form-spec =

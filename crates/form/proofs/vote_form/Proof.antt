@@ -1,4 +1,5 @@
 -- `form::vote_form` meets its contract: zeros behind an unset flag; behind a set one two numbers and a table, which decides. Assumes nothing.
+-- Made by tools/answers from the file `answers` beside it: change that one.
 use Rattle.octets.proofs.Laws.{bytes-known}
 use mathlib.Core.Path.{_∙_}
 use Rattle.form.proofs.Same.{flag-zero, flag-wrong, flag-one}
@@ -32,7 +33,7 @@ returns : tie.Need-returns
 returns c = flag-zero (vote-place _) _ _ _ (c .before .before .before .before .pre .0) (c .before .before .get8 .ensures) (c .before .if1 .taken) _ (c .all-zero .ensures)
 
 returns-2 : tie.Need-returns-2
-returns-2 c = flag-wrong (vote-place _) _ _ _ (c .before .before .before .before .pre .0) (c .before .before .get8 .ensures) (bytes-known (c .before .before .before .before .args .b .now) (λ i. c .before .before .before .shared-slice-known .given i .fits)) (c .before .if1 .left) (c .if2 .taken)
+returns-2 c = flag-wrong (vote-place _) _ _ _ (c .before .before .before .before .pre .0) (c .before .before .get8 .ensures) (bytes-known (c .before .before .before .before .args .b .now) (λ i. (c .before .before .before .shared-slice-known .given) i .fits)) (c .before .if1 .left) (c .if2 .taken)
 
 add-table-form : tie.Need-add-table-form
 add-table-form c = search needs
@@ -41,7 +42,7 @@ table-form-requires : tie.Need-table-form-requires
 table-form-requires c κs = search needs
 
 returns-3 : tie.Need-returns-3
-returns-3 c = flag-one (vote-place _) _ _ _ (c .before .before .before .before .before .pre .0) (c .before .before .before .get8 .ensures) (bytes-known (c .before .before .before .before .before .args .b .now) (λ i. c .before .before .before .before .shared-slice-known .given i .fits)) (c .before .if2 .left) _ (c .table-form .ensures ∙ vote-body _ _ _ (bytes-known (c .before .before .before .before .before .args .b .now) (λ i. c .before .before .before .before .shared-slice-known .given i .fits)) (c .before .before .before .before .before .pre .0))
+returns-3 c = flag-one (vote-place _) _ _ _ (c .before .before .before .before .before .pre .0) (c .before .before .before .get8 .ensures) (bytes-known (c .before .before .before .before .before .args .b .now) (λ i. (c .before .before .before .before .shared-slice-known .given) i .fits)) (c .before .if2 .left) _ (c .table-form .ensures ∙ vote-body _ _ _ (bytes-known (c .before .before .before .before .before .args .b .now) (λ i. (c .before .before .before .before .shared-slice-known .given) i .fits)) (c .before .before .before .before .before .pre .0))
 
 pub vote-form-spec : {M : Type 1} → statement M
 vote-form-spec =

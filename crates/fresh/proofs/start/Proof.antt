@@ -1,16 +1,17 @@
 -- `fresh::start` meets its contract: the fresh state is zeros but for three bytes of the head. Assumes nothing.
+-- Made by tools/answers from the file `answers` beside it: change that one.
 use mathlib.Core.Path.{_≡_, sym, _∙_}
 use mathlib.Core.Bool.{true}
 use Prim.Native.Nat.{_<_}
 use native.Mathlib.Omega.{arith}
 use lib.ListN.{length}
-use borrow.Author.Needs.{needs}
 use borrow.Author.Tests.{not-true, not-false}
 use Rattle.rules.specs.Group.{shapeFits}
 use Rattle.rules.specs.Image.{stateLength}
 use Rattle.places.specs.Layout.{Fits}
 use Rattle.places.proofs.Sections.{fits}
 use Rattle.fresh.proofs.Fresh.{fresh-laid, started, wrong-shape, wrong-group, wrong-replica, wrong-size}
+use borrow.Author.Needs.{needs}
 use Rattle.fresh.proofs.start.Statement.{statement}
 use Rattle.fresh.proofs.start.Tie as tie
 
@@ -41,7 +42,7 @@ places-of-requires : tie.Need-places-of-requires
 places-of-requires c κs = fits _ (shaped (c .before .before .before .before))
 
 returns-4 : tie.Need-returns-4
-returns-4 c = wrong-size _ _ _ _ (λ e. c .if4 .taken (e ∙ sym (c .before .before .places-of .ensures .end)))
+returns-4 c = wrong-size _ _ _ _ (λ e. (c .if4 .taken) (e ∙ sym (c .before .before .places-of .ensures .end)))
 
 fill-zero-requires : tie.Need-fill-zero-requires
 fill-zero-requires c κs = search needs
@@ -65,10 +66,7 @@ same-length : tie.Need-same-length
 same-length c = search needs
 
 returns-5 : tie.Need-returns-5
-returns-5 c =
-    let l = sized (c .before .before .before .before .before .before .before .before .before .before .before .before .before .before .before .before) in
-    started _ _ _ _ _ (shaped (c .before .before .before .before .before .before .before .before .before .before .before .before .before .before .before .before .before .before .before .before .before .before .before)) (c .before .before .before .before .before .before .before .before .before .before .before .before .before .before .before .before .before .before .before .before .before .if2 .left) (c .before .before .before .before .before .before .before .before .before .before .before .before .before .before .before .before .before .before .before .if3 .left) l
-    (fresh-laid _ _ _ _ _ _ _ _ l (c .before .before .before .before .before .before .before .before .before .before .before .before .before .before .fill-zero .ensures) (c .before .before .before .before .before .before .before .before .before .before .put8 .ensures) (c .before .before .before .before .before .before .put82 .ensures) (c .before .before .put83 .ensures))
+returns-5 c = let l = sized (c .before .before .before .before .before .before .before .before .before .before .before .before .before .before .before .before) in started _ _ _ _ _ (shaped (c .before .before .before .before .before .before .before .before .before .before .before .before .before .before .before .before .before .before .before .before .before .before .before)) (c .before .before .before .before .before .before .before .before .before .before .before .before .before .before .before .before .before .before .before .before .before .if2 .left) (c .before .before .before .before .before .before .before .before .before .before .before .before .before .before .before .before .before .before .before .if3 .left) l (fresh-laid _ _ _ _ _ _ _ _ l (c .before .before .before .before .before .before .before .before .before .before .before .before .before .before .fill-zero .ensures) (c .before .before .before .before .before .before .before .before .before .before .put8 .ensures) (c .before .before .before .before .before .before .put82 .ensures) (c .before .before .put83 .ensures))
 
 pub start-spec : {M : Type 1} → statement M
 start-spec =

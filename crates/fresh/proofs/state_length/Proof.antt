@@ -1,11 +1,12 @@
 -- `fresh::state_length` meets its contract. Assumes nothing.
+-- Made by tools/answers from the file `answers` beside it: change that one.
 use mathlib.Core.Path.{_≡_, sym, _∙_}
 use mathlib.Core.Bool.{true}
-use borrow.Author.Needs.{needs}
 use borrow.Author.Tests.{not-true, not-false}
 use Rattle.rules.specs.Group.{shapeFits}
 use Rattle.places.proofs.Sections.{fits}
 use Rattle.fresh.proofs.Fresh.{length-none, length-some}
+use borrow.Author.Needs.{needs}
 use Rattle.fresh.proofs.state_length.Statement.{statement}
 use Rattle.fresh.proofs.state_length.Tie as tie
 

@@ -1,6 +1,7 @@
 -- `good::all_fit` meets its contract: the entries that are looked at are the table's. Assumes nothing.
-use borrow.Author.Needs.{needs}
+-- Made by tools/answers from the file `answers` beside it: change that one.
 use Rattle.good.proofs.Tables.{each-is}
+use borrow.Author.Needs.{needs}
 use Rattle.good.proofs.all_fit.Statement.{statement}
 use Rattle.good.proofs.all_fit.Tie as tie
 

@@ -1,5 +1,5 @@
 -- `good::all_noted` meets its contract. The invariant: every entry passed has its note. Assumes nothing.
-use borrow.Author.Needs.{needs}
+-- Made by tools/answers from the file `answers` beside it: change that one.
 use Prim.Native.Nat.{_+_, _-_, _≤_, min}
 use mathlib.Core.Path.{_≡_, sym, ap, _∙_}
 use mathlib.Core.Bool.{true}
@@ -11,6 +11,7 @@ use Rattle.notes.specs.Notes.{notesAt}
 use Rattle.logs.proofs.Every.{when-not, unless-not, every-start, every-next, every-stop, every-end}
 use Rattle.good.specs.Known.{notedRight}
 use Rattle.good.proofs.Tables.{each-is}
+use borrow.Author.Needs.{needs}
 use Rattle.good.proofs.all_noted.Statement.{statement}
 use Rattle.good.proofs.all_noted.Tie as tie
 
@@ -24,7 +25,7 @@ count-at-requires : tie.Need-count-at-requires Inv-loop μ-loop
 count-at-requires c κs = search needs
 
 loop-holds : tie.Need-loop-holds Inv-loop μ-loop
-loop-holds c = (omega arith, (c .count-at .ensures), every-start _ _ _ _)
+loop-holds c = (omega arith, c .count-at .ensures, every-start _ _ _ _)
 
 add-entry-at : tie.Need-add-entry-at Inv-loop μ-loop
 add-entry-at c = search needs
@@ -45,7 +46,7 @@ noted-right-requires : tie.Need-noted-right-requires Inv-loop μ-loop
 noted-right-requires c κs = search needs
 
 returns : tie.Need-returns Inv-loop μ-loop
-returns c = each-is _ _ _ _ (c .before .before .before .before .before .loop .inv .1) _ _ (every-stop _ _ _ _ (c .before .before .before .before .before .loop .i) _ (c .before .before .before .before .loop-test .taken) (sym ((c .before .noted-right .ensures) ∙ ap (notedRight _ _ _) (c .before .before .before .entry-at .ensures)) ∙ when-not _ (c .if1 .taken)))
+returns c = each-is _ _ _ _ (c .before .before .before .before .before .loop .inv .1) _ _ (every-stop _ _ _ _ (c .before .before .before .before .before .loop .i) _ (c .before .before .before .before .loop-test .taken) (sym (c .before .noted-right .ensures ∙ ap (notedRight _ _ _) (c .before .before .before .entry-at .ensures)) ∙ when-not _ (c .if1 .taken)))
 
 add-i : tie.Need-add-i Inv-loop μ-loop
 add-i c = search needs
@@ -54,7 +55,7 @@ loop-less : tie.Need-loop-less Inv-loop μ-loop
 loop-less c = search needs
 
 loop-again : tie.Need-loop-again Inv-loop μ-loop
-loop-again c = (omega arith, (c .before .before .before .before .before .loop .inv .1), every-next _ _ _ _ (c .before .before .before .before .before .loop .i) (c .before .before .before .before .before .loop .inv .2) (sym ((c .before .noted-right .ensures) ∙ ap (notedRight _ _ _) (c .before .before .before .entry-at .ensures)) ∙ unless-not _ (c .if1 .left)))
+loop-again c = (omega arith, c .before .before .before .before .before .loop .inv .1, every-next _ _ _ _ (c .before .before .before .before .before .loop .i) (c .before .before .before .before .before .loop .inv .2) (sym (c .before .noted-right .ensures ∙ ap (notedRight _ _ _) (c .before .before .before .entry-at .ensures)) ∙ unless-not _ (c .if1 .left)))
 
 returns-2 : tie.Need-returns-2 Inv-loop μ-loop
 returns-2 c = each-is _ _ _ _ (c .before .loop .inv .1) _ _ (every-end _ _ _ _ (c .before .loop .i) _ (c .before .loop .inv .2) (c .before .loop .inv .0) (c .loop-test .left))

@@ -1,6 +1,7 @@
 -- `good::entries_good` meets its contract: the three tables are the state's. Assumes nothing.
-use borrow.Author.Needs.{needs}
+-- Made by tools/answers from the file `answers` beside it: change that one.
 use Rattle.good.proofs.Apart.{within-at, entries-are}
+use borrow.Author.Needs.{needs}
 use Rattle.good.proofs.entries_good.Statement.{statement}
 use Rattle.good.proofs.entries_good.Tie as tie
 

@@ -1,6 +1,7 @@
 -- `good::head_fits` meets its contract: each number is the state's. Assumes nothing.
-use borrow.Author.Needs.{needs}
+-- Made by tools/answers from the file `answers` beside it: change that one.
 use Rattle.good.proofs.Heads.{head-is}
+use borrow.Author.Needs.{needs}
 use Rattle.good.proofs.head_fits.Statement.{statement}
 use Rattle.good.proofs.head_fits.Tie as tie
 

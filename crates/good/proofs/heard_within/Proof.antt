@@ -1,5 +1,5 @@
 -- `good::heard_within` meets its contract. The invariant: `formed` and `within` say so of the points passed. Assumes nothing.
-use borrow.Author.Needs.{needs}
+-- Made by tools/answers from the file `answers` beside it: change that one.
 use Prim.Native.Nat.{_-_, _≤_}
 use mathlib.Core.Path.{_≡_}
 use mathlib.Core.Bool.{_&&_, _||_, not}
@@ -7,15 +7,16 @@ use native.Mathlib.Omega.{arith}
 use lib.Dec.{leb}
 use Rattle.octets.specs.Bytes.{items}
 use Rattle.rules.specs.Choice.{every, passes}
-use Rattle.rules.specs.Image.{pointAt}
+use Rattle.rules.specs.Image.{pointAt, atHeard}
 use Rattle.places.specs.Layout.{startOf}
 use Rattle.good.proofs.Tables.{row-none}
 use Rattle.good.proofs.Heads.{heard-turn, pointsForm, form-none, form-turn, points-end}
+use borrow.Author.Needs.{needs}
 use Rattle.good.proofs.heard_within.Statement.{statement}
 use Rattle.good.proofs.heard_within.Tie as tie
 
 abbrev Inv-loop : tie.InvT-loop
-Inv-loop shape state asked leading most at formed₀ within₀ i₀ formed within i = (i ≤ shape .n) × (formed ≡ pointsForm state (startOf shape 2) i) × (within ≡ every (passes (λ p. not asked || (leading && leb p most))) (items (pointAt state) 9 (startOf shape 2) i))
+Inv-loop shape state asked leading most at formed₀ within₀ i₀ formed within i = (i ≤ shape .n) × (formed ≡ pointsForm state (startOf shape atHeard) i) × (within ≡ every (passes (λ p. not asked || (leading && leb p most))) (items (pointAt state) 9 (startOf shape atHeard) i))
 
 abbrev μ-loop : tie.MeasureT-loop
 μ-loop shape state asked leading most at formed₀ within₀ i₀ formed within i = shape .n - i

@@ -1,6 +1,7 @@
 -- `good::kept_good` meets its contract. Assumes nothing.
-use borrow.Author.Needs.{needs}
+-- Made by tools/answers from the file `answers` beside it: change that one.
 use Rattle.good.proofs.Heads.{kept-is}
+use borrow.Author.Needs.{needs}
 use Rattle.good.proofs.kept_good.Statement.{statement}
 use Rattle.good.proofs.kept_good.Tie as tie
 

@@ -1,6 +1,7 @@
 -- `good::last_stamp` meets its contract. Assumes nothing.
-use borrow.Author.Needs.{needs}
+-- Made by tools/answers from the file `answers` beside it: change that one.
 use Rattle.good.proofs.Tables.{last-none, last-is}
+use borrow.Author.Needs.{needs}
 use Rattle.good.proofs.last_stamp.Statement.{statement}
 use Rattle.good.proofs.last_stamp.Tie as tie
 

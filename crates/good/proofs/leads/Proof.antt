@@ -1,6 +1,7 @@
 -- `good::leads` meets its contract: the view is the own group's. Assumes nothing.
-use borrow.Author.Needs.{needs}
+-- Made by tools/answers from the file `answers` beside it: change that one.
 use Rattle.good.proofs.Heads.{leads-is}
+use borrow.Author.Needs.{needs}
 use Rattle.good.proofs.leads.Statement.{statement}
 use Rattle.good.proofs.leads.Tie as tie
 
@@ -22,4 +23,9 @@ returns c = leads-is _ _ (c .before .before .before .before .before .pre .sized 
 pub leads-spec : {M : Type 1} → statement M
 leads-spec =
     tie.close
-    (tie.spec get-group-requires view-at-requires get-replica-requires leads-requires returns)
+    (tie.spec
+    get-group-requires
+    view-at-requires
+    get-replica-requires
+    leads-requires
+    returns)

@@ -1,6 +1,7 @@
 -- `good::log_good` meets its contract: the log is good where the place is its end. Assumes nothing.
-use borrow.Author.Needs.{needs}
+-- Made by tools/answers from the file `answers` beside it: change that one.
 use Rattle.good.proofs.Tables.{good-is}
+use borrow.Author.Needs.{needs}
 use Rattle.good.proofs.log_good.Statement.{statement}
 use Rattle.good.proofs.log_good.Tie as tie
 

@@ -1,6 +1,7 @@
 -- `good::noted_right` meets its contract: with no note of the own group it is not right. Assumes nothing.
-use borrow.Author.Needs.{needs}
+-- Made by tools/answers from the file `answers` beside it: change that one.
 use Rattle.good.proofs.Apart.{no-note, not-noted, was-noted}
+use borrow.Author.Needs.{needs}
 use Rattle.good.proofs.noted_right.Statement.{statement}
 use Rattle.good.proofs.noted_right.Tie as tie
 

@@ -1,6 +1,7 @@
 -- `good::notes_fit` meets its contract. Assumes nothing.
-use borrow.Author.Needs.{needs}
+-- Made by tools/answers from the file `answers` beside it: change that one.
 use Rattle.good.proofs.Whole.{section-fits}
+use borrow.Author.Needs.{needs}
 use Rattle.good.proofs.notes_fit.Statement.{statement}
 use Rattle.good.proofs.notes_fit.Tie as tie
 

@@ -1,8 +1,9 @@
 -- `good::notes_right` meets its contract: by the table where it has every note, and else by the search. Assumes nothing.
-use borrow.Author.Needs.{needs}
+-- Made by tools/answers from the file `answers` beside it: change that one.
 use mathlib.Core.Path.{sym}
 use mathlib.Core.Bool.{true≢false}
 use Rattle.good.proofs.Apart.{right-rows, notes-twice, right-search}
+use borrow.Author.Needs.{needs}
 use Rattle.good.proofs.notes_right.Statement.{statement}
 use Rattle.good.proofs.notes_right.Tie as tie
 
@@ -10,7 +11,7 @@ fill-notes-requires : tie.Need-fill-notes-requires
 fill-notes-requires c κs = search needs
 
 early-good-requires : tie.Need-early-good-requires
-early-good-requires c κs = (c .before .before .before .before .before .before .before .before .before .pre .0, c .before .before .before .before .before .before .before .before .before .pre .1, λ _. c .before .before .before .before .fill-notes .ensures (c .before .if1 .taken))
+early-good-requires c κs = (c .before .before .before .before .before .before .before .before .before .pre .0, c .before .before .before .before .before .before .before .before .before .pre .1, λ _. (c .before .before .before .before .fill-notes .ensures) (c .before .if1 .taken))
 
 same-length : tie.Need-same-length
 same-length c = search needs

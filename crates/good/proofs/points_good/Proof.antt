@@ -1,6 +1,7 @@
 -- `good::points_good` meets its contract. Assumes nothing.
-use borrow.Author.Needs.{needs}
+-- Made by tools/answers from the file `answers` beside it: change that one.
 use Rattle.good.proofs.Heads.{points-is}
+use borrow.Author.Needs.{needs}
 use Rattle.good.proofs.points_good.Statement.{statement}
 use Rattle.good.proofs.points_good.Tie as tie
 
@@ -22,4 +23,9 @@ returns c = points-is _ _ (c .before .before .before .before .before .pre .size)
 pub points-good-spec : {M : Type 1} → statement M
 points-good-spec =
     tie.close
-    (tie.spec places-of-requires count-at-requires get-sync-requires get-commit-requires returns)
+    (tie.spec
+    places-of-requires
+    count-at-requires
+    get-sync-requires
+    get-commit-requires
+    returns)

@@ -1,18 +1,19 @@
 -- `good::replies_good` meets its contract. The invariant: `fine` says so of the replies passed. Assumes nothing.
-use borrow.Author.Needs.{needs}
+-- Made by tools/answers from the file `answers` beside it: change that one.
 use Prim.Native.Nat.{_+_, _-_, _*_, _≤_}
 use mathlib.Core.Path.{_≡_}
 use native.Mathlib.Omega.{arith}
 use Rattle.rules.specs.Choice.{every, passes, below}
 use Rattle.rules.specs.State.{replyGood}
-use Rattle.rules.specs.Image.{replyLength, replyAt, stateOf}
+use Rattle.rules.specs.Image.{replyLength, replyAt, stateOf, atReplies}
 use Rattle.places.specs.Layout.{startOf}
 use Rattle.good.proofs.Tables.{below-none, below-next, below-end}
+use borrow.Author.Needs.{needs}
 use Rattle.good.proofs.replies_good.Statement.{statement}
 use Rattle.good.proofs.replies_good.Tie as tie
 
 abbrev Inv-loop : tie.InvT-loop
-Inv-loop shape state fine₀ j₀ fine j = (j ≤ shape .s) × (fine ≡ every (λ j. passes (replyGood shape (stateOf shape state) j) (replyAt (shape .c) state (startOf shape 9 + replyLength (shape .c) * j))) (below j))
+Inv-loop shape state fine₀ j₀ fine j = (j ≤ shape .s) × (fine ≡ every (λ j. passes (replyGood shape (stateOf shape state) j) (replyAt (shape .c) state (startOf shape atReplies + replyLength (shape .c) * j))) (below j))
 
 abbrev μ-loop : tie.MeasureT-loop
 μ-loop shape state fine₀ j₀ fine j = shape .s - j
@@ -38,4 +39,12 @@ returns c = below-end _ (c .before .before .loop .j) _ _ (c .before .before .loo
 pub replies-good-spec : {M : Type 1} → statement M
 replies-good-spec =
     tie.close
-    (tie.spec Inv-loop μ-loop loop-holds reply-good-requires add-j loop-less loop-again returns)
+    (tie.spec
+    Inv-loop
+    μ-loop
+    loop-holds
+    reply-good-requires
+    add-j
+    loop-less
+    loop-again
+    returns)

@@ -1,6 +1,7 @@
 -- `good::rest_good` meets its contract: each test is the rules'. Assumes nothing.
-use borrow.Author.Needs.{needs}
+-- Made by tools/answers from the file `answers` beside it: change that one.
 use Rattle.good.proofs.Whole.{lent-notes, rest-is}
+use borrow.Author.Needs.{needs}
 use Rattle.good.proofs.rest_good.Statement.{statement}
 use Rattle.good.proofs.rest_good.Tie as tie
 

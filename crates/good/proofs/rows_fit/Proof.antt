@@ -1,7 +1,8 @@
 -- `good::rows_fit` meets its contract: the entries that are looked at are the table's. Assumes nothing.
-use borrow.Author.Needs.{needs}
+-- Made by tools/answers from the file `answers` beside it: change that one.
 use native.Mathlib.Omega.{arith}
 use Rattle.good.proofs.Tables.{rows-are}
+use borrow.Author.Needs.{needs}
 use Rattle.good.proofs.rows_fit.Statement.{statement}
 use Rattle.good.proofs.rows_fit.Tie as tie
 

@@ -1,6 +1,7 @@
 -- `good::stamp_right` meets its contract. Assumes nothing.
-use borrow.Author.Needs.{needs}
+-- Made by tools/answers from the file `answers` beside it: change that one.
 use Rattle.good.proofs.Apart.{agreed-stamp, own-stamp}
+use borrow.Author.Needs.{needs}
 use Rattle.good.proofs.stamp_right.Statement.{statement}
 use Rattle.good.proofs.stamp_right.Tie as tie
 

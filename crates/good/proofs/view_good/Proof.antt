@@ -1,6 +1,7 @@
 -- `good::view_good` meets its contract. Assumes nothing.
-use borrow.Author.Needs.{needs}
+-- Made by tools/answers from the file `answers` beside it: change that one.
 use Rattle.good.proofs.Heads.{view-is}
+use borrow.Author.Needs.{needs}
 use Rattle.good.proofs.view_good.Statement.{statement}
 use Rattle.good.proofs.view_good.Tie as tie
 
@@ -22,4 +23,9 @@ returns c = view-is _ _ (c .before .before .before .before .before .pre .sized .
 pub view-good-spec : {M : Type 1} → statement M
 view-good-spec =
     tie.close
-    (tie.spec get-status-requires get-normal-requires get-view-requires leads-requires returns)
+    (tie.spec
+    get-status-requires
+    get-normal-requires
+    get-view-requires
+    leads-requires
+    returns)

@@ -1,6 +1,7 @@
 -- `good::vote_good` meets its contract. Assumes nothing.
-use borrow.Author.Needs.{needs}
+-- Made by tools/answers from the file `answers` beside it: change that one.
 use Rattle.good.proofs.Heads.{vote-unset, vote-is}
+use borrow.Author.Needs.{needs}
 use Rattle.good.proofs.vote_good.Statement.{statement}
 use Rattle.good.proofs.vote_good.Tie as tie
 

@@ -1,19 +1,20 @@
 -- `good::votes_good` meets its contract. The invariant: `fine` says so of the votes passed. Assumes nothing.
-use borrow.Author.Needs.{needs}
+-- Made by tools/answers from the file `answers` beside it: change that one.
 use Prim.Native.Nat.{_-_, _≤_}
 use mathlib.Core.Path.{_≡_}
 use native.Mathlib.Omega.{arith}
 use Rattle.octets.specs.Bytes.{items}
 use Rattle.rules.specs.Choice.{every, passes}
 use Rattle.rules.specs.State.{voteGood}
-use Rattle.rules.specs.Image.{voteLength, voteAt, stateOf}
+use Rattle.rules.specs.Image.{voteLength, voteAt, stateOf, atVotes}
 use Rattle.places.specs.Layout.{startOf}
 use Rattle.good.proofs.Tables.{row-none, row-next, row-end}
+use borrow.Author.Needs.{needs}
 use Rattle.good.proofs.votes_good.Statement.{statement}
 use Rattle.good.proofs.votes_good.Tie as tie
 
 abbrev Inv-loop : tie.InvT-loop
-Inv-loop shape state fine₀ r₀ fine r = (r ≤ shape .n) × (fine ≡ every (passes (voteGood shape (stateOf shape state))) (items (voteAt (shape .c) state) (voteLength (shape .c)) (startOf shape 7) r))
+Inv-loop shape state fine₀ r₀ fine r = (r ≤ shape .n) × (fine ≡ every (passes (voteGood shape (stateOf shape state))) (items (voteAt (shape .c) state) (voteLength (shape .c)) (startOf shape atVotes) r))
 
 abbrev μ-loop : tie.MeasureT-loop
 μ-loop shape state fine₀ r₀ fine r = shape .n - r
@@ -39,4 +40,12 @@ returns c = row-end _ _ _ _ (c .before .before .loop .r) _ _ (c .before .before 
 pub votes-good-spec : {M : Type 1} → statement M
 votes-good-spec =
     tie.close
-    (tie.spec Inv-loop μ-loop loop-holds vote-good-requires add-r loop-less loop-again returns)
+    (tie.spec
+    Inv-loop
+    μ-loop
+    loop-holds
+    vote-good-requires
+    add-r
+    loop-less
+    loop-again
+    returns)

@@ -1,4 +1,5 @@
 -- `group::commit_point` meets its contract: it lies between low and high, and every turn halves what lies between.
+-- Made by tools/answers from the file `answers` beside it: change that one.
 use mathlib.Core.Path.{_∙_, sym}
 use Prim.Native.Nat.{_-_}
 use native.Mathlib.Omega.{arith}

@@ -1,4 +1,5 @@
 -- `group::has_reached` meets its contract: one law for each way.
+-- Made by tools/answers from the file `answers` beside it: change that one.
 use Rattle.group.proofs.Commit.{own-reached, unheard, heard-reached}
 use borrow.Author.Needs.{needs}
 use Rattle.group.proofs.has_reached.Statement.{statement}
@@ -27,4 +28,12 @@ returns-3 c = search heard-reached
 
 pub has-reached-spec : {M : Type 1} → statement M
 has-reached-spec =
-    tie.close (tie.spec returns mul-at get8-requires returns-2 add-get64 get64-requires returns-3)
+    tie.close
+    (tie.spec
+    returns
+    mul-at
+    get8-requires
+    returns-2
+    add-get64
+    get64-requires
+    returns-3)

@@ -1,4 +1,5 @@
 -- `group::holds` meets its contract: a mask of 16 bits holds nothing past them.
+-- Made by tools/answers from the file `answers` beside it: change that one.
 use native.Mathlib.Omega.{arith}
 use Rattle.group.proofs.Masks.{none-past}
 use borrow.Author.Needs.{needs}

@@ -1,6 +1,7 @@
 -- `group::majority_reached` meets its contract.
-use borrow.Author.Needs.{needs}
+-- Made by tools/answers from the file `answers` beside it: change that one.
 use Rattle.group.specs.Points.{held}
+use borrow.Author.Needs.{needs}
 use Rattle.group.proofs.majority_reached.Statement.{statement}
 use Rattle.group.proofs.majority_reached.Tie as tie
 

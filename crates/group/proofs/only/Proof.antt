@@ -1,4 +1,5 @@
 -- `group::only` meets its contract: the shift stays within the mask.
+-- Made by tools/answers from the file `answers` beside it: change that one.
 use Rattle.group.proofs.Masks.{shifted}
 use borrow.Author.Needs.{needs}
 use Rattle.group.proofs.only.Statement.{statement}

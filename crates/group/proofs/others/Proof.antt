@@ -1,4 +1,5 @@
 -- `group::others` meets its contract: the mask of all n is 2 ^ n - 1, and that of r is among it.
+-- Made by tools/answers from the file `answers` beside it: change that one.
 use native.Mathlib.Omega.{arith}
 use Rattle.group.proofs.Masks.{positive, rises-more}
 use borrow.Author.Needs.{needs}

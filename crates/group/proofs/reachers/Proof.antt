@@ -1,4 +1,5 @@
 -- `group::reachers` meets its contract: the sum is the count of the replicas passed.
+-- Made by tools/answers from the file `answers` beside it: change that one.
 use mathlib.Core.Path.{_≡_, _∙_, ap}
 use mathlib.Core.Logic.{⊎-elim}
 use Prim.Native.Nat.{_≤_, _-_}
@@ -33,21 +34,10 @@ loop-less : tie.Need-loop-less Inv-loop μ-loop
 loop-less c = search needs
 
 loop-again : tie.Need-loop-again Inv-loop μ-loop
-loop-again c =
-    let l = c .before .before .before .loop in
-    let a = c .before .before .before .before .before .args in
-    let h : reached (a .own) (a .len) (points (a .n) (a .heard .now)) (a .c) (l .i) ≡ c .before .has-reached .result = reached-told _ _ _ _ _ _ _ (omega arith) (c .before .has-reached .ensures) in (
-      omega arith,
-      ⊎-elim (λ w. omega arith) (λ w. omega arith) (c .if1 .came),
-      ⊎-elim (λ w. w .1 ∙ count-more _ (l .i) _ (h ∙ w .0 .taken) (l .inv .2)) (λ w. w .1 ∙ count-same _ (l .i) _ (h ∙ w .0 .left) (l .inv .2)) (c .if1 .came),
-    )
+loop-again c = let l = c .before .before .before .loop in let a = c .before .before .before .before .before .args in let h : reached (a .own) (a .len) (points (a .n) (a .heard .now)) (a .c) (l .i) ≡ (c .before .has-reached .result) = reached-told _ _ _ _ _ _ _ (omega arith) (c .before .has-reached .ensures) in (omega arith, ⊎-elim (λ w. omega arith) (λ w. omega arith) (c .if1 .came), ⊎-elim (λ w. w .1 ∙ count-more _ (l .i) _ (h ∙ w .0 .taken) (l .inv .2)) (λ w. w .1 ∙ count-same _ (l .i) _ (h ∙ w .0 .left) (l .inv .2)) (c .if1 .came))
 
 returns : tie.Need-returns Inv-loop μ-loop
-returns c =
-    let l = c .before .loop in
-    let a = c .before .before .before .args in
-    let e : l .i ≡ a .n = omega arith in
-    l .inv .2 ∙ ap (count (reached (a .own) (a .len) (points (a .n) (a .heard .now)) (a .c))) e
+returns c = let l = c .before .loop in let a = c .before .before .before .args in let e : l .i ≡ a .n = omega arith in l .inv .2 ∙ ap (count (reached (a .own) (a .len) (points (a .n) (a .heard .now)) (a .c))) e
 
 pub reachers-spec : {M : Type 1} → statement M
 reachers-spec =

@@ -1,4 +1,5 @@
 -- `group::shape_fits` meets its contract.
+-- Made by tools/answers from the file `answers` beside it: change that one.
 use borrow.Author.Needs.{needs}
 use Rattle.group.proofs.shape_fits.Statement.{statement}
 use Rattle.group.proofs.shape_fits.Tie as tie

@@ -1,4 +1,5 @@
 -- `group::sizes_fit` meets its contract.
+-- Made by tools/answers from the file `answers` beside it: change that one.
 use borrow.Author.Needs.{needs}
 use Rattle.group.proofs.sizes_fit.Statement.{statement}
 use Rattle.group.proofs.sizes_fit.Tie as tie

@@ -1,4 +1,5 @@
 -- `group::some_of` meets its contract: a mask of 16 bits names nothing past them.
+-- Made by tools/answers from the file `answers` beside it: change that one.
 use mathlib.Core.Path.{_≡_, ap}
 use mathlib.Core.Bool.{_&&_}
 use Prim.Native.Nat.{ℕ}

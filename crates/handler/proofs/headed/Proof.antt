@@ -1,25 +1,22 @@
 -- `handler::headed` meets its contract. Assumes nothing.
-use borrow.Author.Needs.{needs}
-use Rattle.handler.proofs.headed.Statement.{statement}
-use Rattle.handler.proofs.headed.Tie as tie
+-- Made by tools/answers from the file `answers` beside it: change that one.
 use Rattle.handler.proofs.headed.Reads as reads
 use Rattle.handler.proofs.headed.Lts as lts
 use Rattle.octets.proofs.get8.Reads as get8-reads
 use Rattle.places.proofs.get_view.Reads as get-view-reads
+use borrow.Author.Needs.{needs}
+use Rattle.handler.proofs.headed.Statement.{statement}
+use Rattle.handler.proofs.headed.Tie as tie
 
--- src/lib.rt:49:21
 get8-requires : tie.Need-get8-requires
 get8-requires c κs = search needs
 
--- src/lib.rt:50:23
 get8-requires-2 : tie.Need-get8-requires-2
 get8-requires-2 c κs = search needs
 
--- src/lib.rt:51:15
 get-view-requires : tie.Need-get-view-requires
 get-view-requires c κs = search needs
 
--- src/lib.rt:41:1
 returns : tie.Need-returns
 returns c = rw (c .before .before .get8 .ensures, c .before .get82 .ensures, c .get-view .ensures)
 

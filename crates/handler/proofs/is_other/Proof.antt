@@ -1,17 +1,16 @@
 -- `handler::is_other` meets its contract. Assumes nothing.
+-- Made by tools/answers from the file `answers` beside it: change that one.
 use mathlib.Core.Path.{_≡_}
-use borrow.Author.Needs.{needs}
-use Rattle.handler.proofs.is_other.Statement.{statement}
-use Rattle.handler.proofs.is_other.Tie as tie
 use Rattle.handler.proofs.is_other.Reads as reads
 use Rattle.handler.proofs.is_other.Lts as lts
 use Rattle.group.proofs.holds.Reads as holds-reads
+use borrow.Author.Needs.{needs}
+use Rattle.handler.proofs.is_other.Statement.{statement}
+use Rattle.handler.proofs.is_other.Tie as tie
 
--- src/lib.rt:70:18
 holds-requires : tie.Need-holds-requires
 holds-requires c κs = search needs
 
--- src/lib.rt:67:1
 returns : tie.Need-returns
 returns c = rw (c .holds .ensures)
 

@@ -1,49 +1,37 @@
 -- `handler::tell` meets its contract. Assumes nothing.
+-- Made by tools/answers from the file `answers` beside it: change that one.
 use Prim.Native.Nat.{_-_, _*_}
 use mathlib.Core.Path.{_≡_}
 use native.Mathlib.Omega.{arith}
 use Rattle.handler.proofs.Sends.{message-is}
-use borrow.Author.Needs.{needs}
-use Rattle.handler.proofs.tell.Statement.{statement}
-use Rattle.handler.proofs.tell.Tie as tie
 use Rattle.handler.proofs.tell.Reads as reads
 use Rattle.handler.proofs.tell.Lts as lts
 use Rattle.places.proofs.places_of.Reads as places-of-reads
 use Rattle.writer.proofs.put_message.Reads as put-message-reads
+use borrow.Author.Needs.{needs}
+use Rattle.handler.proofs.tell.Statement.{statement}
+use Rattle.handler.proofs.tell.Tie as tie
 
--- src/lib.rt:60:9
 places-of-requires : tie.Need-places-of-requires
 places-of-requires c κs = search needs
 
--- src/lib.rt:63:40
 sub-put-message : tie.Need-sub-put-message
 sub-put-message c = search needs
 
--- src/lib.rt:63:40
 part-put-message-start : tie.Need-part-put-message-start
 part-put-message-start c = search needs
 
--- src/lib.rt:63:40
 part-put-message-end : tie.Need-part-put-message-end
 part-put-message-end c = search needs
 
--- src/lib.rt:63:5
 put-message-requires : tie.Need-put-message-requires
 put-message-requires c κs = search needs
 
--- src/lib.rt:56:1
 same-length : tie.Need-same-length
 same-length c = search needs
 
--- src/lib.rt:56:1
 returns : tie.Need-returns
-returns c =
-    let p = c .before .before .before .before .before .places-of .result in
-    let q = c .before .before .before .before .before .places-of .ensures in
-    let a = c .before .before .before .before .before .before .before .before .before .args in
-    let n : p .heard - p .views ≡ 4 * a .shape .s = omega (arith, q .views, q .heard) in
-    let e = message-is (a .shape) (a .state .now) (a .m) (a .entries .now) (p .views) (p .heard - p .views) (q .views) n in
-    rw e at (c .before .before .put-message .ensures)
+returns c = let p = c .before .before .before .before .before .places-of .result in let q = c .before .before .before .before .before .places-of .ensures in let a = c .before .before .before .before .before .before .before .before .before .args in let n : p .heard - p .views ≡ 4 * a .shape .s = omega (arith, q .views, q .heard) in let e = message-is (a .shape) (a .state .now) (a .m) (a .entries .now) (p .views) (p .heard - p .views) (q .views) n in rw e at (c .before .before .put-message .ensures)
 
 pub tell-spec : {M : Type 1} → statement M
 tell-spec =

@@ -1,4 +1,5 @@
 -- `keeping::begin_vote` meets its contract: three writes in a row. Assumes nothing.
+-- Made by tools/answers from the file `answers` beside it: change that one.
 use Rattle.keeping.proofs.Writes.{vote-begun}
 use borrow.Author.Needs.{needs}
 use Rattle.keeping.proofs.begin_vote.Statement.{statement}
@@ -28,4 +29,11 @@ returns c = vote-begun _ _ _ _ _ _ _ (c .before .before .before .before .before 
 pub begin-vote-spec : {M : Type 1} → statement M
 begin-vote-spec =
     tie.close
-    (tie.spec put8-requires add-put32 put32-requires add-put64 put64-requires same-length returns)
+    (tie.spec
+    put8-requires
+    add-put32
+    put32-requires
+    add-put64
+    put64-requires
+    same-length
+    returns)

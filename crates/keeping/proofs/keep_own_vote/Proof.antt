@@ -1,4 +1,5 @@
 -- `keeping::keep_own_vote` meets its contract. Assumes nothing.
+-- Made by tools/answers from the file `answers` beside it: change that one.
 use native.Mathlib.Omega.{arith}
 use Rattle.keeping.proofs.Writes.{own-kept}
 use borrow.Author.Needs.{needs}
@@ -27,11 +28,7 @@ add-move-up : tie.Need-add-move-up
 add-move-up c = search needs
 
 move-up-requires : tie.Need-move-up-requires
-move-up-requires c κs =
-    let l = c .before .before .before .before .before .places-of .ensures .log in
-    let t = c .before .before .before .before .before .places-of .ensures .table in
-    let q = c .before .before .before .before .before .before .vote-place .ensures in
-    (omega (arith, q .at), search needs)
+move-up-requires c κs = let l = c .before .before .before .before .before .places-of .ensures .log in let t = c .before .before .before .before .before .places-of .ensures .table in let q = c .before .before .before .before .before .before .vote-place .ensures in (omega (arith, q .at), search needs)
 
 same-length : tie.Need-same-length
 same-length c = search needs

@@ -1,4 +1,5 @@
 -- `keeping::keep_vote` meets its contract. Assumes nothing.
+-- Made by tools/answers from the file `answers` beside it: change that one.
 use Prim.Native.Nat.{_+_, _≤_}
 use native.Mathlib.Omega.{arith}
 use lib.ListN.{length}
@@ -23,9 +24,7 @@ same-length : tie.Need-same-length
 same-length c = search needs
 
 returns : tie.Need-returns
-returns c =
-    let h : c .before .before .before .before .before .before .before .before .vote-place .result + 13 ≤ length (c .before .before .before .before .before .before .before .before .before .before .before .args .state .now) = omega (arith, c .before .before .before .before .before .before .before .before .vote-place .ensures .within, c .before .before .before .before .before .before .before .before .before .before .before .pre .0 .size) in
-    vote-kept _ _ _ _ _ _ _ _ _ h (c .before .before .before .before .before .before .before .before .vote-place .ensures .at) (c .before .before .before .before .before .before .begin-vote .ensures) (c .before .before .put-table .ensures)
+returns c = let h : (c .before .before .before .before .before .before .before .before .vote-place .result) + 13 ≤ length (c .before .before .before .before .before .before .before .before .before .before .before .args .state .now) = omega (arith, c .before .before .before .before .before .before .before .before .vote-place .ensures .within, c .before .before .before .before .before .before .before .before .before .before .before .pre .0 .size) in vote-kept _ _ _ _ _ _ _ _ _ h (c .before .before .before .before .before .before .before .before .vote-place .ensures .at) (c .before .before .before .before .before .before .begin-vote .ensures) (c .before .before .put-table .ensures)
 
 pub keep-vote-spec : {M : Type 1} → statement M
 keep-vote-spec =

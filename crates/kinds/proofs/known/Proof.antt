@@ -1,16 +1,16 @@
 -- `kinds::known` meets its contract. Assumes nothing.
+-- Made by tools/answers from the file `answers` beside it: change that one.
+use mathlib.Core.Path.{ap}
+use Rattle.kinds.specs.declared.Row.{Row}
 use borrow.Author.Needs.{needs}
 use Rattle.kinds.proofs.known.Statement.{statement}
 use Rattle.kinds.proofs.known.Tie as tie
 
-with-one-requires : tie.Need-with-one-requires
-with-one-requires c κs = search needs
-
-with-log-requires : tie.Need-with-log-requires
-with-log-requires c κs = search needs
+row-of-requires : tie.Need-row-of-requires
+row-of-requires c κs = search needs
 
 returns : tie.Need-returns
-returns c = simp (c .with-log .ensures, c .before .with-one .ensures)
+returns c = ap (λ (r : Row). r .known) (c .row-of .ensures)
 
 pub known-spec : {M : Type 1} → statement M
-known-spec = tie.close (tie.spec with-one-requires with-log-requires returns)
+known-spec = tie.close (tie.spec row-of-requires returns)

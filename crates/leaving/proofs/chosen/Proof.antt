@@ -1,4 +1,5 @@
 -- `leaving::chosen` meets its contract. Assumes nothing.
+-- Made by tools/answers from the file `answers` beside it: change that one.
 use Rattle.leaving.proofs.Entries.{not-placed, when-placed}
 use borrow.Author.Needs.{needs}
 use Rattle.leaving.proofs.chosen.Statement.{statement}

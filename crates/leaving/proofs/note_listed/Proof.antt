@@ -1,4 +1,5 @@
 -- `leaving::note_listed` meets its contract. Assumes nothing.
+-- Made by tools/answers from the file `answers` beside it: change that one.
 use native.Mathlib.Omega.{arith}
 use Rattle.leaving.proofs.Noted.{note-within, note-looked}
 use borrow.Author.Needs.{needs}

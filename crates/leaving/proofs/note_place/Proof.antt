@@ -1,4 +1,5 @@
 -- `leaving::note_place` meets its contract: a note stands after the count and the notes before it, and no product of the sizes wraps. Assumes nothing.
+-- Made by tools/answers from the file `answers` beside it: change that one.
 use native.Mathlib.Omega.{arith}
 use Rattle.notes.proofs.Notes.{below-room}
 use borrow.Author.Needs.{needs}

@@ -1,4 +1,5 @@
 -- `leaving::sift_note` meets its contract: one law for each way out. Assumes nothing.
+-- Made by tools/answers from the file `answers` beside it: change that one.
 use mathlib.Core.Path.{refl, ap}
 use mathlib.Core.Bool.{not}
 use mathlib.Core.List.{List}

@@ -1,4 +1,5 @@
 -- `leaving::truncate_notes` meets its contract. Assumes nothing.
+-- Made by tools/answers from the file `answers` beside it: change that one.
 use native.Mathlib.Omega.{arith}
 use Rattle.leaving.proofs.Noted.{end-within, truncate-law, end-at}
 use borrow.Author.Needs.{needs}

@@ -1,7 +1,8 @@
 -- `logs::distinct3` meets its contract: the three runs of keys are those of the three tables. Assumes nothing.
+-- Made by tools/answers from the file `answers` beside it: change that one.
 use mathlib.Core.Path.{_∙_, refl}
-use borrow.Author.Needs.{needs}
 use Rattle.logs.proofs.Apart.{three-distinct}
+use borrow.Author.Needs.{needs}
 use Rattle.logs.proofs.distinct3.Statement.{statement}
 use Rattle.logs.proofs.distinct3.Tie as tie
 
@@ -36,7 +37,7 @@ none-repeats-requires : tie.Need-none-repeats-requires
 none-repeats-requires c κs = search needs
 
 returns : tie.Need-returns
-returns c = (c .none-repeats .ensures) ∙ three-distinct (c .before .before .before .before .before .args .b .now) (c .before .before .before .before .before .args .c) (λ i. (c .before .before .before .before .shared-slice-known .given) i .fits) _ _ _ _ _ _ (c .before .before .before .before .before .pre .0) (c .before .before .before .before .before .pre .1) (c .before .before .before .before .before .pre .2) (c .before .before .before .get32 .ensures) (c .before .before .get322 .ensures) (c .before .get323 .ensures) _ refl
+returns c = c .none-repeats .ensures ∙ three-distinct (c .before .before .before .before .before .args .b .now) (c .before .before .before .before .before .args .c) (λ i. (c .before .before .before .before .shared-slice-known .given) i .fits) _ _ _ _ _ _ (c .before .before .before .before .before .pre .0) (c .before .before .before .before .before .pre .1) (c .before .before .before .before .before .pre .2) (c .before .before .before .get32 .ensures) (c .before .before .get322 .ensures) (c .before .get323 .ensures) _ refl
 
 pub distinct3-spec : {M : Type 1} → statement M
 distinct3-spec =

@@ -1,6 +1,7 @@
 -- `logs::entry_fits` meets its contract: the tests are those of the definition. Assumes nothing.
-use borrow.Author.Needs.{needs}
+-- Made by tools/answers from the file `answers` beside it: change that one.
 use Rattle.logs.proofs.Place.{fits-by}
+use borrow.Author.Needs.{needs}
 use Rattle.logs.proofs.entry_fits.Statement.{statement}
 use Rattle.logs.proofs.entry_fits.Tie as tie
 

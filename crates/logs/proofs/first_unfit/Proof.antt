@@ -1,18 +1,19 @@
 -- `logs::first_unfit` meets its contract. The invariant: every entry passed fits, and `last` is the timestamp of the last of them. Assumes nothing.
-use borrow.Author.Needs.{needs}
+-- Made by tools/answers from the file `answers` beside it: change that one.
 use Prim.Native.Nat.{_≤_, _-_}
 use mathlib.Core.Path.{_≡_}
 use native.Mathlib.Omega.{arith}
-use Rattle.rules.specs.Entry.{stampBefore}
+use Rattle.rules.specs.Entry.{lastBefore}
 use Rattle.repeats.specs.Repeat.{firstTo}
 use Rattle.repeats.proofs.Laws.{first-start, first-pass, first-stop, first-end}
 use Rattle.logs.specs.Place.{rowAt, unfitAt}
 use Rattle.logs.proofs.Place.{unfit-row, stamp-start, stamp-next}
+use borrow.Author.Needs.{needs}
 use Rattle.logs.proofs.first_unfit.Statement.{statement}
 use Rattle.logs.proofs.first_unfit.Tie as tie
 
 abbrev Inv-loop : tie.InvT-loop
-Inv-loop b at count s k j last₀ i₀ last i = (i ≤ count) × (last ≡ stampBefore (rowAt b at) i) × (firstTo (unfitAt s k j (rowAt b at)) i ≡ i)
+Inv-loop b at count s k j last₀ i₀ last i = (i ≤ count) × (last ≡ lastBefore (rowAt b at) i .stamp) × (firstTo (unfitAt s k j (rowAt b at)) i ≡ i)
 
 abbrev μ-loop : tie.MeasureT-loop
 μ-loop b at count s k j last₀ i₀ last i = count - i

@@ -1,6 +1,7 @@
 -- `logs::fits_after` meets its contract: the tests are those of the definition. Assumes nothing.
-use borrow.Author.Needs.{needs}
+-- Made by tools/answers from the file `answers` beside it: change that one.
 use Rattle.logs.proofs.Place.{all-by}
+use borrow.Author.Needs.{needs}
 use Rattle.logs.proofs.fits_after.Statement.{statement}
 use Rattle.logs.proofs.fits_after.Tie as tie
 

@@ -1,8 +1,9 @@
 -- `logs::good_for` meets its contract: entries that fit are good where no transaction stands twice. Assumes nothing.
-use borrow.Author.Needs.{needs}
+-- Made by tools/answers from the file `answers` beside it: change that one.
 use native.Mathlib.Omega.{arith}
 use Rattle.logs.proofs.Place.{run-inside}
 use Rattle.logs.proofs.Apart.{unfit-for, fit-for}
+use borrow.Author.Needs.{needs}
 use Rattle.logs.proofs.good_for.Statement.{statement}
 use Rattle.logs.proofs.good_for.Tie as tie
 
@@ -22,4 +23,11 @@ returns-2 : tie.Need-returns-2
 returns-2 c = fit-for (c .before .before .before .before .before .args .b .now) (c .before .before .before .before .before .args .at) _ (λ i. (c .before .before .before .before .shared-slice-known .given) i .fits) (c .before .before .before .before .before .pre) _ _ _ _ _ _ (c .before .before .before .rows-fit .ensures) (c .before .before .if1 .left) (c .before .run-of .ensures) (c .first-repeat .ensures)
 
 pub good-for-spec : {M : Type 1} → statement M
-good-for-spec = tie.close (tie.spec rows-fit-requires returns run-of-requires first-repeat-requires returns-2)
+good-for-spec =
+    tie.close
+    (tie.spec
+    rows-fit-requires
+    returns
+    run-of-requires
+    first-repeat-requires
+    returns-2)

@@ -1,8 +1,9 @@
 -- `logs::good_place` meets its contract: the first repeat among the fit entries is the place. Assumes nothing.
-use borrow.Author.Needs.{needs}
+-- Made by tools/answers from the file `answers` beside it: change that one.
 use Prim.Native.Nat.{_≤_}
 use native.Mathlib.Omega.{arith}
 use Rattle.logs.proofs.Place.{run-inside, fit-low, good-run}
+use borrow.Author.Needs.{needs}
 use Rattle.logs.proofs.good_place.Statement.{statement}
 use Rattle.logs.proofs.good_place.Tie as tie
 

@@ -1,6 +1,7 @@
 -- `logs::last_stamp` meets its contract: the last entry stands before the end. Assumes nothing.
-use borrow.Author.Needs.{needs}
+-- Made by tools/answers from the file `answers` beside it: change that one.
 use Rattle.logs.proofs.Tables.{last-none, last-is}
+use borrow.Author.Needs.{needs}
 use Rattle.logs.proofs.last_stamp.Statement.{statement}
 use Rattle.logs.proofs.last_stamp.Tie as tie
 
@@ -28,4 +29,11 @@ returns-2 c = last-is _ _ _ _ (c .before .before .before .before .pre) (c .befor
 pub last-stamp-spec : {M : Type 1} → statement M
 last-stamp-spec =
     tie.close
-    (tie.spec count-requires returns sub-get64 mul-get64 add-get64 get64-requires returns-2)
+    (tie.spec
+    count-requires
+    returns
+    sub-get64
+    mul-get64
+    add-get64
+    get64-requires
+    returns-2)

@@ -1,8 +1,9 @@
 -- `logs::rows_fit` meets its contract: each fits where the first that does not is the end. Assumes nothing.
-use borrow.Author.Needs.{needs}
+-- Made by tools/answers from the file `answers` beside it: change that one.
 use mathlib.Core.Path.{ap}
 use Prim.Native.Nat.{ℕ}
 use lib.Dec.{eqb}
+use borrow.Author.Needs.{needs}
 use Rattle.logs.proofs.rows_fit.Statement.{statement}
 use Rattle.logs.proofs.rows_fit.Tie as tie
 

@@ -1,6 +1,7 @@
 -- `lookups::fill_notes` meets its contract: the keys are those of the notes. Assumes nothing.
-use borrow.Author.Needs.{needs}
+-- Made by tools/answers from the file `answers` beside it: change that one.
 use Rattle.lookups.proofs.Keys.{asked, rows-filled}
+use borrow.Author.Needs.{needs}
 use Rattle.lookups.proofs.fill_notes.Statement.{statement}
 use Rattle.lookups.proofs.fill_notes.Tie as tie
 
@@ -20,5 +21,4 @@ returns : tie.Need-returns
 returns c = rows-filled _ _ _ (c .before .before .before .before .before .before .before .before .pre) _ _ _ _ (c .before .before .before .before .before .count .ensures) (c .before .before .before .before .note-spots .ensures) (c .before .before .fill .ensures)
 
 pub fill-notes-spec : {M : Type 1} → statement M
-fill-notes-spec =
-    tie.close (tie.spec count-requires note-spots-requires fill-requires same-length returns)
+fill-notes-spec = tie.close (tie.spec count-requires note-spots-requires fill-requires same-length returns)

@@ -1,7 +1,8 @@
 -- `lookups::note_row` meets its contract, by the table where it is filled and else by the search. Assumes nothing.
-use borrow.Author.Needs.{needs}
+-- Made by tools/answers from the file `answers` beside it: change that one.
 use native.Mathlib.Omega.{arith}
 use Rattle.lookups.proofs.Keys.{rows-asked, row-by-key}
+use borrow.Author.Needs.{needs}
 use Rattle.lookups.proofs.note_row.Statement.{statement}
 use Rattle.lookups.proofs.note_row.Tie as tie
 

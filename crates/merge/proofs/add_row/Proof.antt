@@ -1,9 +1,10 @@
 -- `merge::add_row` meets its contract, by that of the row put in. Assumes nothing.
-use borrow.Author.Needs.{needs}
+-- Made by tools/answers from the file `answers` beside it: change that one.
 use mathlib.Core.Bool.{true≢false}
 use mathlib.Core.Path.{sym}
 use borrow.Author.Tests.{not-false}
 use Rattle.merge.proofs.Rows.{add-asked, same-spots}
+use borrow.Author.Needs.{needs}
 use Rattle.merge.proofs.add_row.Statement.{statement}
 use Rattle.merge.proofs.add_row.Tie as tie
 
@@ -23,8 +24,15 @@ same-length : tie.Need-same-length
 same-length c = search needs
 
 returns-2 : tie.Need-returns-2
-returns-2 c = λ q. same-spots _ _ _ (c .before .before .before .before .spots-of .ensures) _ ((c .before .before .add .ensures) q)
+returns-2 c = λ q. same-spots _ _ _ (c .before .before .before .before .spots-of .ensures) _ (c .before .before .add .ensures q)
 
 pub add-row-spec : {M : Type 1} → statement M
 add-row-spec =
-    tie.close (tie.spec returns add-spots-of spots-of-requires add-requires same-length returns-2)
+    tie.close
+    (tie.spec
+    returns
+    add-spots-of
+    spots-of-requires
+    add-requires
+    same-length
+    returns-2)

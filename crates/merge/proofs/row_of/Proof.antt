@@ -1,7 +1,8 @@
 -- `merge::row_of` meets its contract, by the table where it is filled and else by the search. Assumes nothing.
-use borrow.Author.Needs.{needs}
+-- Made by tools/answers from the file `answers` beside it: change that one.
 use native.Mathlib.Omega.{arith}
 use Rattle.merge.proofs.Rows.{find-asked, by-rows}
+use borrow.Author.Needs.{needs}
 use Rattle.merge.proofs.row_of.Statement.{statement}
 use Rattle.merge.proofs.row_of.Tie as tie
 

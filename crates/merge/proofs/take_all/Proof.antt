@@ -1,5 +1,5 @@
 -- `merge::take_all` meets its contract. The invariant: the entries passed are taken in. Assumes nothing.
-use borrow.Author.Needs.{needs}
+-- Made by tools/answers from the file `answers` beside it: change that one.
 use Prim.Native.Nat.{_≤_, _-_}
 use mathlib.Core.Path.{_≡_, refl, subst}
 use mathlib.Core.Bool.{true}
@@ -14,6 +14,7 @@ use Rattle.entries.proofs.Table.{is-table}
 use Rattle.merge.specs.Rows.{Rows}
 use Rattle.merge.proofs.Taking.{firstIn, row-start, row-again, row-full}
 use Rattle.merge.proofs.Rows.{rows-read, rows-again, took-full, took-end}
+use borrow.Author.Needs.{needs}
 use Rattle.merge.proofs.take_all.Statement.{statement}
 use Rattle.merge.proofs.take_all.Tie as tie
 
@@ -24,7 +25,7 @@ abbrev μ-loop : tie.MeasureT-loop
 μ-loop t₀ c src at count rows₀ filled known₀ i₀ t rows known i = count - i
 
 loop-holds : tie.Need-loop-holds Inv-loop μ-loop
-loop-holds c = (omega arith, refl, refl, subst (λ (ds : List Entry). Holds (c .before .before .before .args .c) ds (c .before .before .before .args .t .now)) (row-start _ _ _) (c .before .before .before .pre .0), λ q. subst (λ (ds : List Entry). Rows ds (c .before .before .before .args .rows .now)) (row-start _ _ _) ((c .before .before .before .pre .2) q))
+loop-holds c = (omega arith, refl, refl, subst (λ (ds : List Entry). Holds (c .before .before .before .args .c) ds (c .before .before .before .args .t .now)) (row-start _ _ _) (c .before .before .before .pre .0), λ q. subst (λ (ds : List Entry). Rows ds (c .before .before .before .args .rows .now)) (row-start _ _ _) (c .before .before .before .pre .2 q))
 
 mul-entry-at : tie.Need-mul-entry-at Inv-loop μ-loop
 mul-entry-at c = search needs
@@ -36,7 +37,7 @@ entry-at-requires : tie.Need-entry-at-requires Inv-loop μ-loop
 entry-at-requires c κs = search needs
 
 take-in-requires : tie.Need-take-in-requires Inv-loop μ-loop
-take-in-requires c κs = (is-table _ _ _ (c .before .before .before .before .loop .inv .3), λ q. rows-read _ _ _ (c .before .before .before .before .loop .inv .3) _ ((c .before .before .before .before .loop .inv .4) q))
+take-in-requires c κs = (is-table _ _ _ (c .before .before .before .before .loop .inv .3), λ q. rows-read _ _ _ (c .before .before .before .before .loop .inv .3) _ (c .before .before .before .before .loop .inv .4 q))
 
 same-length : tie.Need-same-length Inv-loop μ-loop
 same-length c = search needs

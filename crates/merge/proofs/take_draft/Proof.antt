@@ -1,7 +1,8 @@
 -- `merge::take_draft` meets its contract: the draft is copied, and its rows are put in. Assumes nothing.
-use borrow.Author.Needs.{needs}
+-- Made by tools/answers from the file `answers` beside it: change that one.
 use Rattle.merge.proofs.Rows.{fill-asked, fill-found}
 use Rattle.merge.proofs.Turns.{draft-copied}
+use borrow.Author.Needs.{needs}
 use Rattle.merge.proofs.take_draft.Statement.{statement}
 use Rattle.merge.proofs.take_draft.Tie as tie
 

@@ -1,9 +1,10 @@
 -- `merge::take_in` meets its contract: one law for each way out. Assumes nothing.
-use borrow.Author.Needs.{needs}
+-- Made by tools/answers from the file `answers` beside it: change that one.
 use native.Mathlib.Omega.{arith}
 use mathlib.Core.Path.{_∙_}
 use Rattle.merge.proofs.Taking.{stays, replaces, no-place}
 use Rattle.merge.proofs.Rows.{rows-in, took-row, row-asked, took-new, took-full}
+use borrow.Author.Needs.{needs}
 use Rattle.merge.proofs.take_in.Statement.{statement}
 use Rattle.merge.proofs.take_in.Tie as tie
 
@@ -11,7 +12,7 @@ count-requires : tie.Need-count-requires
 count-requires c κs = search needs
 
 row-of-requires : tie.Need-row-of-requires
-row-of-requires c κs = (omega arith, omega arith, λ q. rows-in _ _ _ (c .before .before .before .before .before .before .pre .0) _ _ ((c .before .before .count .ensures) ∙ (c .before .before .before .before .before .before .pre .0 .count)) ((c .before .before .before .before .before .before .pre .1) q))
+row-of-requires c κs = (omega arith, omega arith, λ q. rows-in _ _ _ (c .before .before .before .before .before .before .pre .0) _ _ (c .before .before .count .ensures ∙ c .before .before .before .before .before .before .pre .0 .count) (c .before .before .before .before .before .before .pre .1 q))
 
 entry-of-requires : tie.Need-entry-of-requires
 entry-of-requires c κs = search needs
@@ -26,7 +27,7 @@ returns : tie.Need-returns
 returns c = took-row _ _ _ _ _ (c .before .before .before .before .before .before .before .before .before .before .before .before .before .pre .0) (c .before .before .before .before .before .before .before .before .before .count .ensures) (c .before .before .before .before .before .before .row-of .ensures) _ _ (c .before .before .before .before .before .before .before .before .before .before .before .before .before .pre .1) _ (c .before .before .before .before .before .if1 .taken) (stays _ _ _ _ _ (c .before .before .before .before .before .before .before .before .before .before .before .before .before .pre .0) (c .before .before .before .before .before .before .before .before .before .count .ensures) (c .before .before .before .before .before .before .row-of .ensures) _ (c .before .before .before .entry-of .ensures) (c .before .before .before .before .before .if1 .taken) (c .if2 .taken))
 
 replace-at-requires : tie.Need-replace-at-requires
-replace-at-requires c κs = ((c .before .before .before .before .before .before .before .before .before .before .before .before .before .before .pre .0), omega arith)
+replace-at-requires c κs = (c .before .before .before .before .before .before .before .before .before .before .before .before .before .before .pre .0, omega arith)
 
 same-length-3 : tie.Need-same-length-3
 same-length-3 c = search needs

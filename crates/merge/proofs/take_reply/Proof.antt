@@ -1,12 +1,13 @@
 -- `merge::take_reply` meets its contract: the message, nothing, or what is kept. Assumes nothing.
-use borrow.Author.Needs.{needs}
+-- Made by tools/answers from the file `answers` beside it: change that one.
 use borrow.Author.Tests.{not-true, not-false}
 use Rattle.merge.proofs.Turns.{kept-room, way-own, way-none, way-kept}
+use borrow.Author.Needs.{needs}
 use Rattle.merge.proofs.take_reply.Statement.{statement}
 use Rattle.merge.proofs.take_reply.Tie as tie
 
 take-all-requires : tie.Need-take-all-requires
-take-all-requires c κs = ((c .before .before .before .before .before .before .before .pre .3), (c .before .before .before .before .before .before .before .pre .2), (c .before .before .before .before .before .before .before .pre .4))
+take-all-requires c κs = (c .before .before .before .before .before .before .before .pre .3, c .before .before .before .before .before .before .before .pre .2, c .before .before .before .before .before .before .before .pre .4)
 
 same-length : tie.Need-same-length
 same-length c = search needs
@@ -57,7 +58,7 @@ part-take-all-end : tie.Need-part-take-all-end
 part-take-all-end c = search needs
 
 take-all-requires-2 : tie.Need-take-all-requires-2
-take-all-requires-2 c κs = ((c .before .before .before .before .before .before .before .before .before .before .before .before .before .before .before .pre .3), kept-room (c .before .before .before .before .before .before .before .before .before .before .before .before .before .before .before .pre .0) _ (c .before .before .before .before .before .before .before .before .before .before .before .before .before .before .before .pre .1) _ _ _ (c .before .before .before .before .before .before .before .before .before .reply-flag .ensures) (not-false _ (c .before .before .before .before .before .before .before .before .if2 .left)) (c .before .before .before .before .before .before .before .reply-place .ensures) (c .before .before .before .before .before .before .places-of .ensures .table) _ (c .before .before .before .count .ensures), (c .before .before .before .before .before .before .before .before .before .before .before .before .before .before .before .pre .4))
+take-all-requires-2 c κs = (c .before .before .before .before .before .before .before .before .before .before .before .before .before .before .before .pre .3, kept-room (c .before .before .before .before .before .before .before .before .before .before .before .before .before .before .before .pre .0) _ (c .before .before .before .before .before .before .before .before .before .before .before .before .before .before .before .pre .1) _ _ _ (c .before .before .before .before .before .before .before .before .before .reply-flag .ensures) (not-false _ (c .before .before .before .before .before .before .before .before .if2 .left)) (c .before .before .before .before .before .before .before .reply-place .ensures) (c .before .before .before .before .before .before .places-of .ensures .table) _ (c .before .before .before .count .ensures), c .before .before .before .before .before .before .before .before .before .before .before .before .before .before .before .pre .4)
 
 same-length-3 : tie.Need-same-length-3
 same-length-3 c = search needs

@@ -1,4 +1,5 @@
 -- `notes::agreed` meets its contract: it asks of the note that it finds. Assumes nothing.
+-- Made by tools/answers from the file `answers` beside it: change that one.
 use borrow.Author.Needs.{needs}
 use Rattle.notes.proofs.agreed.Statement.{statement}
 use Rattle.notes.proofs.agreed.Tie as tie

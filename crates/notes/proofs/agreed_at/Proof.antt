@@ -1,7 +1,5 @@
 -- `notes::agreed_at` meets its contract. The invariant: the answer so far is that of the groups passed. Assumes nothing.
-use borrow.Author.Needs.{needs}
-use Rattle.notes.proofs.agreed_at.Statement.{statement}
-use Rattle.notes.proofs.agreed_at.Tie as tie
+-- Made by tools/answers from the file `answers` beside it: change that one.
 use Prim.Native.Nat.{ℕ, _≤_, _+_, _-_, _*_}
 use mathlib.Core.Path.{_≡_, ap, _∙_}
 use native.Mathlib.Omega.{arith}
@@ -10,6 +8,9 @@ use Rattle.rules.specs.State.{notedTo}
 use Rattle.notes.specs.Notes.{notesAt, noteIn}
 use Rattle.notes.proofs.Notes.{inside, point-in}
 use Rattle.notes.proofs.Points.{noted-none, noted-next}
+use borrow.Author.Needs.{needs}
+use Rattle.notes.proofs.agreed_at.Statement.{statement}
+use Rattle.notes.proofs.agreed_at.Tie as tie
 
 abbrev Inv-loop : tie.InvT-loop
 Inv-loop t c s i mask at all₀ j₀ all j = (j ≤ s) × (all ≡ notedTo mask (noteIn (notesAt c s t) i .stamps) j)
@@ -36,7 +37,7 @@ add-heard-at : tie.Need-add-heard-at Inv-loop μ-loop
 add-heard-at c = search needs
 
 heard-at-requires : tie.Need-heard-at-requires Inv-loop μ-loop
-heard-at-requires c κs = omega (arith, inside ((c .before .before .before .before .before .args .s)) ((c .before .before .before .before .before .args .i)) ((c .before .before .before .before .before .args .c)) (omega arith))
+heard-at-requires c κs = omega (arith, inside (c .before .before .before .before .before .args .s) (c .before .before .before .before .before .args .i) (c .before .before .before .before .before .args .c) (omega arith))
 
 add-j : tie.Need-add-j Inv-loop μ-loop
 add-j c = search needs
@@ -45,14 +46,10 @@ loop-less : tie.Need-loop-less Inv-loop μ-loop
 loop-less c = search needs
 
 loop-again : tie.Need-loop-again Inv-loop μ-loop
-loop-again c =
-    let p = point-in _ _ _ _ ((c .before .before .before .before .before .before .pre .0)) _ _ _ ((c .before .before .before .before .before .before .pre .1)) ((c .before .before .loop-test .taken)) (ap (λ (x : ℕ). x + 6 + 9 * (c .before .before .before .loop .j)) ((c .before .before .before .before .place .ensures .0))) in
-    (omega arith, noted-next _ _ _ _ _ _ ((c .before .before .before .loop .inv .1)) ((c .before .holds .ensures)) ((c .heard-at .ensures) ∙ ap isSome p))
+loop-again c = let p = point-in _ _ _ _ (c .before .before .before .before .before .before .pre .0) _ _ _ (c .before .before .before .before .before .before .pre .1) (c .before .before .loop-test .taken) (ap (λ (x : ℕ). x + 6 + 9 * (c .before .before .before .loop .j)) (c .before .before .before .before .place .ensures .0)) in (omega arith, noted-next _ _ _ _ _ _ (c .before .before .before .loop .inv .1) (c .before .holds .ensures) (c .heard-at .ensures ∙ ap isSome p))
 
 returns : tie.Need-returns Inv-loop μ-loop
-returns c =
-    let e : (c .before .loop .j) ≡ (c .before .before .before .before .args .s) = omega arith in
-    ((c .before .loop .inv .1)) ∙ ap (notedTo _ _) e
+returns c = let e : (c .before .loop .j) ≡ (c .before .before .before .before .args .s) = omega arith in (c .before .loop .inv .1) ∙ ap (notedTo _ _) e
 
 pub agreed-at-spec : {M : Type 1} → statement M
 agreed-at-spec =

@@ -1,8 +1,9 @@
 -- `notes::is_of` meets its contract: the request decides alone where it differs. Assumes nothing.
+-- Made by tools/answers from the file `answers` beside it: change that one.
+use Rattle.notes.proofs.Points.{other-request, same-request}
 use borrow.Author.Needs.{needs}
 use Rattle.notes.proofs.is_of.Statement.{statement}
 use Rattle.notes.proofs.is_of.Tie as tie
-use Rattle.notes.proofs.Points.{other-request, same-request}
 
 get32-requires : tie.Need-get32-requires
 get32-requires c κs = search needs

@@ -1,12 +1,13 @@
 -- `notes::note_good` meets its contract. The invariant: the points passed have their form and are in range, and whether one was heard. Assumes nothing.
-use borrow.Author.Needs.{needs}
-use Rattle.notes.proofs.note_good.Statement.{statement}
-use Rattle.notes.proofs.note_good.Tie as tie
+-- Made by tools/answers from the file `answers` beside it: change that one.
 use Prim.Native.Nat.{_≤_, _+_, _-_, _*_}
 use mathlib.Core.Path.{_≡_, refl}
 use native.Mathlib.Omega.{arith}
 use lib.ListN.{length}
 use Rattle.notes.proofs.Tested.{goodPoints, heardPoints, good-none, good-next, heard-none, heard-next, note-good}
+use borrow.Author.Needs.{needs}
+use Rattle.notes.proofs.note_good.Statement.{statement}
+use Rattle.notes.proofs.note_good.Tie as tie
 
 abbrev Inv-loop : tie.InvT-loop
 Inv-loop t at s request coordinator fine₀ heard₀ j₀ fine heard j = (j ≤ s) × (fine ≡ goodPoints t (at + 6) j) × (heard ≡ heardPoints t (at + 6) j)
@@ -57,12 +58,10 @@ loop-less : tie.Need-loop-less Inv-loop μ-loop
 loop-less c = search needs
 
 loop-again : tie.Need-loop-again Inv-loop μ-loop
-loop-again c =
-    let l : (c .before .before .before .before .before .before .before .args .at) + 6 + 9 * ((c .before .before .before .loop .j) + 1) ≤ length ((c .before .before .before .before .before .before .before .args .t .now)) = omega arith in
-    (omega arith, good-next _ _ _ _ _ _ _ _ _ _ _ l refl ((c .before .before .before .loop .inv .1)) ((c .before .point-good .ensures)), heard-next _ _ _ _ _ _ refl ((c .before .before .before .loop .inv .2)) ((c .heard-at .ensures)))
+loop-again c = let l : (c .before .before .before .before .before .before .before .args .at) + 6 + 9 * (c .before .before .before .loop .j + 1) ≤ length (c .before .before .before .before .before .before .before .args .t .now) = omega arith in (omega arith, good-next _ _ _ _ _ _ _ _ _ _ _ l refl (c .before .before .before .loop .inv .1) (c .before .point-good .ensures), heard-next _ _ _ _ _ _ refl (c .before .before .before .loop .inv .2) (c .heard-at .ensures))
 
 returns : tie.Need-returns Inv-loop μ-loop
-returns c = note-good _ _ _ _ _ _ _ _ (λ i. (c .before .before .before .before .shared-slice-known .given) i .fits) ((c .before .before .before .before .before .pre .0)) ((c .before .loop .inv .0)) ((c .loop-test .left)) ((c .before .before .before .get32 .ensures)) ((c .before .before .get16 .ensures)) ((c .before .loop .inv .1)) ((c .before .loop .inv .2))
+returns c = note-good _ _ _ _ _ _ _ _ (λ i. (c .before .before .before .before .shared-slice-known .given) i .fits) (c .before .before .before .before .before .pre .0) (c .before .loop .inv .0) (c .loop-test .left) (c .before .before .before .get32 .ensures) (c .before .before .get16 .ensures) (c .before .loop .inv .1) (c .before .loop .inv .2)
 
 pub note-good-spec : {M : Type 1} → statement M
 note-good-spec =

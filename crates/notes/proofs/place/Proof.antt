@@ -1,9 +1,10 @@
 -- `notes::place` meets its contract: a note stands after the count and the notes before it, and no product of the sizes wraps. Assumes nothing.
+-- Made by tools/answers from the file `answers` beside it: change that one.
+use native.Mathlib.Omega.{arith}
+use Rattle.notes.proofs.Notes.{below-room}
 use borrow.Author.Needs.{needs}
 use Rattle.notes.proofs.place.Statement.{statement}
 use Rattle.notes.proofs.place.Tie as tie
-use native.Mathlib.Omega.{arith}
-use Rattle.notes.proofs.Notes.{below-room}
 
 mul-result : tie.Need-mul-result
 mul-result c = search needs
@@ -12,13 +13,13 @@ add-result : tie.Need-add-result
 add-result c = search needs
 
 mul-result-2 : tie.Need-mul-result-2
-mul-result-2 c = omega (arith, below-room _ _ ((c .pre .0)) ((c .pre .1)))
+mul-result-2 c = omega (arith, below-room _ _ (c .pre .0) (c .pre .1))
 
 add-result-2 : tie.Need-add-result-2
-add-result-2 c = omega (arith, below-room _ _ ((c .pre .0)) ((c .pre .1)))
+add-result-2 c = omega (arith, below-room _ _ (c .pre .0) (c .pre .1))
 
 returns : tie.Need-returns
-returns c = (omega arith, omega (arith, below-room _ _ ((c .pre .0)) ((c .pre .1))))
+returns c = (omega arith, omega (arith, below-room _ _ (c .pre .0) (c .pre .1)))
 
 pub place-spec : {M : Type 1} → statement M
 place-spec = tie.close (tie.spec mul-result add-result mul-result-2 add-result-2 returns)

@@ -1,11 +1,12 @@
 -- `octets::all_zero` meets its contract. Assumes nothing.
+-- Made by tools/answers from the file `answers` beside it: change that one.
 use Prim.Native.Nat.{_%_}
 use mathlib.Core.Bool.{true, false}
 use mathlib.Core.Path.{refl, sym, _∙_}
 use native.Mathlib.Omega.{arith}
 use borrow.Author.Tests.{not-true, not-false}
-use borrow.Author.Needs.{needs}
 use Rattle.octets.proofs.Turns.{zeros-both}
+use borrow.Author.Needs.{needs}
 use Rattle.octets.proofs.all_zero.Statement.{statement}
 use Rattle.octets.proofs.all_zero.Tie as tie
 
@@ -30,4 +31,10 @@ returns-2 c = zeros-both _ _ _ _ _ true _ (sym (not-false _ (c .before .if1 .lef
 pub all-zero-spec : {M : Type 1} → statement M
 all-zero-spec =
     tie.close
-    (tie.spec sub-whole zero-words-requires returns add-zero-bytes zero-bytes-requires returns-2)
+    (tie.spec
+    sub-whole
+    zero-words-requires
+    returns
+    add-zero-bytes
+    zero-bytes-requires
+    returns-2)

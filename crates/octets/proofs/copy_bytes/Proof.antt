@@ -1,11 +1,12 @@
 -- `octets::copy_bytes` meets its contract. Assumes nothing.
+-- Made by tools/answers from the file `answers` beside it: change that one.
 use Prim.Native.Nat.{_≤_, _-_}
 use mathlib.Core.Path.{_≡_}
 use native.Mathlib.Omega.{arith}
 use lib.ListN.{length}
-use borrow.Author.Needs.{needs}
 use Rattle.octets.specs.Bytes.{part, splice}
 use Rattle.octets.proofs.Turns.{none-yet, copy-turn, all-done}
+use borrow.Author.Needs.{needs}
 use Rattle.octets.proofs.copy_bytes.Statement.{statement}
 use Rattle.octets.proofs.copy_bytes.Tie as tie
 
@@ -37,11 +38,7 @@ loop-less : tie.Need-loop-less Inv-loop μ-loop
 loop-less c = search needs
 
 loop-again : tie.Need-loop-again Inv-loop μ-loop
-loop-again c =
-    let put = c .before .before in
-    let get = put .before in
-    let loop = c .before .before .before .before .before .before in
-    (search needs, search needs, copy-turn _ _ _ _ _ 1 _ _ _ (loop .loop .inv .2) (get .get8 .ensures) (put .put8 .ensures) (λ i. loop .before .shared-slice-known .given i .fits) (omega arith) (omega arith))
+loop-again c = (search needs, search needs, copy-turn _ _ _ _ _ 1 _ _ _ (c .before .before .before .before .before .before .loop .inv .2) (c .before .before .before .get8 .ensures) (c .before .before .put8 .ensures) (λ i. (c .before .before .before .before .before .before .before .shared-slice-known .given) i .fits) (omega arith) (omega arith))
 
 same-length : tie.Need-same-length Inv-loop μ-loop
 same-length c = search needs

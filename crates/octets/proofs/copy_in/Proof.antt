@@ -1,7 +1,8 @@
 -- `octets::copy_in` meets its contract. Assumes nothing.
+-- Made by tools/answers from the file `answers` beside it: change that one.
 use native.Mathlib.Omega.{arith}
-use borrow.Author.Needs.{needs}
 use Rattle.octets.proofs.Turns.{copy-all}
+use borrow.Author.Needs.{needs}
 use Rattle.octets.proofs.copy_in.Statement.{statement}
 use Rattle.octets.proofs.copy_in.Tie as tie
 
@@ -26,4 +27,10 @@ returns c = copy-all _ _ _ _ _ _ _ (c .before .before .before .before .before .b
 pub copy-in-spec : {M : Type 1} → statement M
 copy-in-spec =
     tie.close
-    (tie.spec sub-whole copy-words-requires add-copy-bytes copy-bytes-requires same-length returns)
+    (tie.spec
+    sub-whole
+    copy-words-requires
+    add-copy-bytes
+    copy-bytes-requires
+    same-length
+    returns)

@@ -1,11 +1,12 @@
 -- `octets::down_bytes` meets its contract. Assumes nothing.
+-- Made by tools/answers from the file `answers` beside it: change that one.
 use Prim.Native.Nat.{_≤_, _-_}
 use mathlib.Core.Path.{_≡_, refl}
 use native.Mathlib.Omega.{arith}
 use lib.ListN.{length}
-use borrow.Author.Needs.{needs}
 use Rattle.octets.specs.Bytes.{part, splice}
 use Rattle.octets.proofs.Turns.{none-yet, down-next, all-done}
+use borrow.Author.Needs.{needs}
 use Rattle.octets.proofs.down_bytes.Statement.{statement}
 use Rattle.octets.proofs.down_bytes.Tie as tie
 
@@ -34,8 +35,7 @@ loop-less : tie.Need-loop-less Inv-loop μ-loop
 loop-less c = search needs
 
 loop-again : tie.Need-loop-again Inv-loop μ-loop
-loop-again c =
-    (search needs, search needs, down-next _ _ _ _ 1 _ _ _ (c .before .before .before .before .before .loop .inv .2) (c .before .before .move-byte .ensures) (omega arith) (omega arith) refl)
+loop-again c = (search needs, search needs, down-next _ _ _ _ 1 _ _ _ (c .before .before .before .before .before .loop .inv .2) (c .before .before .move-byte .ensures) (omega arith) (omega arith) refl)
 
 same-length : tie.Need-same-length Inv-loop μ-loop
 same-length c = search needs

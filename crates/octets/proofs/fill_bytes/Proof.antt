@@ -1,12 +1,13 @@
 -- `octets::fill_bytes` meets its contract. Assumes nothing.
+-- Made by tools/answers from the file `answers` beside it: change that one.
 use Prim.Native.Nat.{_≤_, _-_}
 use mathlib.Core.Path.{_≡_, refl, sym}
 use native.Mathlib.Omega.{arith}
 use lib.ListN.{length, replicate}
-use borrow.Author.Needs.{needs}
 use Rattle.octets.specs.Bytes.{splice}
 use Rattle.octets.proofs.Laws.{splice-none}
 use Rattle.octets.proofs.Turns.{fill-turn, fill-done}
+use borrow.Author.Needs.{needs}
 use Rattle.octets.proofs.fill_bytes.Statement.{statement}
 use Rattle.octets.proofs.fill_bytes.Tie as tie
 
@@ -32,8 +33,7 @@ loop-less : tie.Need-loop-less Inv-loop μ-loop
 loop-less c = search needs
 
 loop-again : tie.Need-loop-again Inv-loop μ-loop
-loop-again c =
-    (search needs, search needs, fill-turn _ _ _ 1 _ _ (c .before .before .before .before .before .loop .inv .2) (c .before .before .put8 .ensures) (omega arith))
+loop-again c = (search needs, search needs, fill-turn _ _ _ 1 _ _ (c .before .before .before .before .before .loop .inv .2) (c .before .before .put8 .ensures) (omega arith))
 
 same-length : tie.Need-same-length Inv-loop μ-loop
 same-length c = search needs

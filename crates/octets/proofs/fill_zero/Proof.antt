@@ -1,8 +1,9 @@
 -- `octets::fill_zero` meets its contract. Assumes nothing.
+-- Made by tools/answers from the file `answers` beside it: change that one.
 use Prim.Native.Nat.{_-_, _%_}
 use native.Mathlib.Omega.{arith}
-use borrow.Author.Needs.{needs}
 use Rattle.octets.proofs.Turns.{fill-next}
+use borrow.Author.Needs.{needs}
 use Rattle.octets.proofs.fill_zero.Statement.{statement}
 use Rattle.octets.proofs.fill_zero.Tie as tie
 
@@ -22,11 +23,15 @@ same-length : tie.Need-same-length
 same-length c = search needs
 
 returns : tie.Need-returns
-returns c =
-    let n = c .before .before .before .before .before .before .before .before .before .args .n in
-    fill-next _ _ (n - n % 8) (n % 8) n _ _ (c .before .before .before .before .before .before .fill-words .ensures) (c .before .before .fill-bytes .ensures) (omega arith) (omega arith)
+returns c = let n = c .before .before .before .before .before .before .before .before .before .args .n in fill-next _ _ (n - n % 8) (n % 8) n _ _ (c .before .before .before .before .before .before .fill-words .ensures) (c .before .before .fill-bytes .ensures) (omega arith) (omega arith)
 
 pub fill-zero-spec : {M : Type 1} → statement M
 fill-zero-spec =
     tie.close
-    (tie.spec sub-whole fill-words-requires add-fill-bytes fill-bytes-requires same-length returns)
+    (tie.spec
+    sub-whole
+    fill-words-requires
+    add-fill-bytes
+    fill-bytes-requires
+    same-length
+    returns)

@@ -1,6 +1,7 @@
 -- `octets::get32` meets its contract. Assumes nothing.
-use borrow.Author.Needs.{needs}
+-- Made by tools/answers from the file `answers` beside it: change that one.
 use Rattle.octets.proofs.Laws.{get-two}
+use borrow.Author.Needs.{needs}
 use Rattle.octets.proofs.get32.Statement.{statement}
 use Rattle.octets.proofs.get32.Tie as tie
 

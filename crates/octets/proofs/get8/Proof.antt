@@ -1,6 +1,7 @@
 -- `octets::get8` meets its contract. Assumes nothing.
-use borrow.Author.Needs.{needs}
+-- Made by tools/answers from the file `answers` beside it: change that one.
 use Rattle.octets.proofs.Laws.{num-one}
+use borrow.Author.Needs.{needs}
 use Rattle.octets.proofs.get8.Statement.{statement}
 use Rattle.octets.proofs.get8.Tie as tie
 

@@ -1,8 +1,9 @@
 -- `octets::look16` meets its contract. Assumes nothing.
+-- Made by tools/answers from the file `answers` beside it: change that one.
 use mathlib.Core.Path.{sym}
 use native.Mathlib.Omega.{arith}
-use borrow.Author.Needs.{needs}
 use Rattle.octets.proofs.Laws.{num-past-end, get-low}
+use borrow.Author.Needs.{needs}
 use Rattle.octets.proofs.look16.Statement.{statement}
 use Rattle.octets.proofs.look16.Tie as tie
 
@@ -30,4 +31,11 @@ returns-3 c = search needs
 pub look16-spec : {M : Type 1} → statement M
 look16-spec =
     tie.close
-    (tie.spec returns sub-if2 look8-requires cast-result returns-2 get16-requires returns-3)
+    (tie.spec
+    returns
+    sub-if2
+    look8-requires
+    cast-result
+    returns-2
+    get16-requires
+    returns-3)

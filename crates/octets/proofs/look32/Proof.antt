@@ -1,8 +1,9 @@
 -- `octets::look32` meets its contract. Assumes nothing.
+-- Made by tools/answers from the file `answers` beside it: change that one.
 use mathlib.Core.Path.{sym}
 use native.Mathlib.Omega.{arith}
-use borrow.Author.Needs.{needs}
 use Rattle.octets.proofs.Laws.{num-past-end, get-low, get-two}
+use borrow.Author.Needs.{needs}
 use Rattle.octets.proofs.look32.Statement.{statement}
 use Rattle.octets.proofs.look32.Tie as tie
 

@@ -1,7 +1,8 @@
 -- `octets::look8` meets its contract. Assumes nothing.
+-- Made by tools/answers from the file `answers` beside it: change that one.
 use mathlib.Core.Path.{sym}
-use borrow.Author.Needs.{needs}
 use Rattle.octets.proofs.Laws.{num-past-end}
+use borrow.Author.Needs.{needs}
 use Rattle.octets.proofs.look8.Statement.{statement}
 use Rattle.octets.proofs.look8.Tie as tie
 

@@ -1,7 +1,8 @@
 -- `octets::move_down` meets its contract. Assumes nothing.
+-- Made by tools/answers from the file `answers` beside it: change that one.
 use native.Mathlib.Omega.{arith}
-use borrow.Author.Needs.{needs}
 use Rattle.octets.proofs.Turns.{down-next}
+use borrow.Author.Needs.{needs}
 use Rattle.octets.proofs.move_down.Statement.{statement}
 use Rattle.octets.proofs.move_down.Tie as tie
 

@@ -1,7 +1,8 @@
 -- `octets::move_up` meets its contract. Assumes nothing.
+-- Made by tools/answers from the file `answers` beside it: change that one.
 use native.Mathlib.Omega.{arith}
-use borrow.Author.Needs.{needs}
 use Rattle.octets.proofs.Turns.{up-next}
+use borrow.Author.Needs.{needs}
 use Rattle.octets.proofs.move_up.Statement.{statement}
 use Rattle.octets.proofs.move_up.Tie as tie
 

@@ -1,6 +1,7 @@
 -- `octets::put8` meets its contract. Assumes nothing.
-use borrow.Author.Needs.{needs}
+-- Made by tools/answers from the file `answers` beside it: change that one.
 use Rattle.octets.proofs.Laws.{put-one}
+use borrow.Author.Needs.{needs}
 use Rattle.octets.proofs.put8.Statement.{statement}
 use Rattle.octets.proofs.put8.Tie as tie
 

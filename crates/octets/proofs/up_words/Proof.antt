@@ -1,11 +1,12 @@
 -- `octets::up_words` meets its contract. Assumes nothing.
+-- Made by tools/answers from the file `answers` beside it: change that one.
 use Prim.Native.Nat.{_≤_, _%_, _-_, _+_}
 use mathlib.Core.Path.{_≡_}
 use native.Mathlib.Omega.{arith}
 use lib.ListN.{length}
-use borrow.Author.Needs.{needs}
 use Rattle.octets.specs.Bytes.{part, splice}
 use Rattle.octets.proofs.Turns.{up-none, up-turn, up-done}
+use borrow.Author.Needs.{needs}
 use Rattle.octets.proofs.up_words.Statement.{statement}
 use Rattle.octets.proofs.up_words.Tie as tie
 
@@ -34,8 +35,7 @@ loop-less : tie.Need-loop-less Inv-loop μ-loop
 loop-less c = search needs
 
 loop-again : tie.Need-loop-again Inv-loop μ-loop
-loop-again c =
-    (search needs, search needs, search needs, up-turn _ _ _ _ _ 8 _ _ (c .before .before .before .before .before .loop .inv .3) (c .before .before .move-word .ensures) (omega arith) (omega arith) (omega arith) (omega arith))
+loop-again c = (search needs, search needs, search needs, up-turn _ _ _ _ _ 8 _ _ (c .before .before .before .before .before .loop .inv .3) (c .before .before .move-word .ensures) (omega arith) (omega arith) (omega arith) (omega arith))
 
 same-length : tie.Need-same-length Inv-loop μ-loop
 same-length c = search needs

@@ -1,11 +1,12 @@
 -- `octets::zero_bytes` meets its contract. Assumes nothing.
+-- Made by tools/answers from the file `answers` beside it: change that one.
 use Prim.Native.Nat.{_≤_, _-_}
 use mathlib.Core.Bool.{true}
 use mathlib.Core.Path.{_≡_}
 use native.Mathlib.Omega.{arith}
-use borrow.Author.Needs.{needs}
 use Rattle.octets.specs.Bytes.{part, zeros}
 use Rattle.octets.proofs.Turns.{zeros-none, zeros-pass, zeros-stop, zeros-done}
+use borrow.Author.Needs.{needs}
 use Rattle.octets.proofs.zero_bytes.Statement.{statement}
 use Rattle.octets.proofs.zero_bytes.Tie as tie
 
@@ -25,8 +26,7 @@ get8-requires : tie.Need-get8-requires Inv-loop μ-loop
 get8-requires c κs = search needs
 
 returns : tie.Need-returns Inv-loop μ-loop
-returns c =
-    zeros-stop _ _ _ 1 _ _ (c .before .before .before .loop .inv .1) (c .before .get8 .ensures) (c .if1 .taken) (omega arith)
+returns c = zeros-stop _ _ _ 1 _ _ (c .before .before .before .loop .inv .1) (c .before .get8 .ensures) (c .if1 .taken) (omega arith)
 
 add-i : tie.Need-add-i Inv-loop μ-loop
 add-i c = search needs
@@ -35,8 +35,7 @@ loop-less : tie.Need-loop-less Inv-loop μ-loop
 loop-less c = search needs
 
 loop-again : tie.Need-loop-again Inv-loop μ-loop
-loop-again c =
-    (search needs, zeros-pass _ _ _ 1 _ (c .before .before .before .loop .inv .1) (c .before .get8 .ensures) (c .if1 .left))
+loop-again c = (search needs, zeros-pass _ _ _ 1 _ (c .before .before .before .loop .inv .1) (c .before .get8 .ensures) (c .if1 .left))
 
 returns-2 : tie.Need-returns-2 Inv-loop μ-loop
 returns-2 c = search zeros-done

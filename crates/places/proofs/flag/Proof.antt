@@ -1,4 +1,5 @@
 -- `places::flag` meets its contract. Assumes nothing.
+-- Made by tools/answers from the file `answers` beside it: change that one.
 use borrow.Author.Needs.{needs}
 use Rattle.places.proofs.flag.Statement.{statement}
 use Rattle.places.proofs.flag.Tie as tie

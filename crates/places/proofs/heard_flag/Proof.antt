@@ -1,4 +1,5 @@
 -- `places::heard_flag` meets its contract. Assumes nothing.
+-- Made by tools/answers from the file `answers` beside it: change that one.
 use Rattle.places.proofs.Spots.{point-flag}
 use borrow.Author.Needs.{needs}
 use Rattle.places.proofs.heard_flag.Statement.{statement}

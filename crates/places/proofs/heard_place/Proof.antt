@@ -1,4 +1,5 @@
 -- `places::heard_place` meets its contract. Assumes nothing.
+-- Made by tools/answers from the file `answers` beside it: change that one.
 use mathlib.Core.Path.{refl}
 use Prim.Native.Nat.{_+_, _*_}
 use native.Mathlib.Omega.{arith}
@@ -8,7 +9,7 @@ use borrow.Author.Needs.{needs}
 use Rattle.places.proofs.heard_place.Statement.{statement}
 use Rattle.places.proofs.heard_place.Tie as tie
 
-spot : (s : tie.After-places-of) → PlaceAt (s .before .args .shape) 2 9 (s .before .args .r) (s .places-of .result .heard + 9 * s .before .args .r)
+spot : (s : tie.After-places-of) → PlaceAt (s .before .args .shape) 2 9 (s .before .args .r) (s .places-of .result .heard + 9 * (s .before .args .r))
 spot s =
     placed (s .before .args .shape) 2 9 (s .before .args .shape .n) (s .before .args .r) (s .places-of .result .heard) (9) (s .places-of .ensures .heard) refl (omega arith) (s .before .pre .1)
 

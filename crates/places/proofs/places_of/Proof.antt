@@ -1,8 +1,9 @@
 -- `places::places_of` meets its contract: each section begins where the one before it ends. Assumes nothing.
+-- Made by tools/answers from the file `answers` beside it: change that one.
 use mathlib.Core.Path.{refl}
 use native.Mathlib.Omega.{arith}
-use borrow.Author.Needs.{needs}
 use Rattle.places.proofs.Sections.{products, in-a-row, marks}
+use borrow.Author.Needs.{needs}
 use Rattle.places.proofs.places_of.Statement.{statement}
 use Rattle.places.proofs.places_of.Tie as tie
 
@@ -70,8 +71,7 @@ add-end : tie.Need-add-end
 add-end c = omega (arith, products (c .args .shape) (c .pre))
 
 returns : tie.Need-returns
-returns c =
-    marks (c .args .shape) _ (c .pre) (in-a-row (c .args .shape) _ _ _ _ _ _ _ _ _ _ refl refl refl refl refl refl refl refl refl refl)
+returns c = marks (c .args .shape) _ (c .pre) (in-a-row (c .args .shape) _ _ _ _ _ _ _ _ _ _ refl refl refl refl refl refl refl refl refl refl)
 
 pub places-of-spec : {M : Type 1} → statement M
 places-of-spec =

@@ -1,4 +1,5 @@
 -- `places::put_heard` meets its contract: a flag, then the point. Assumes nothing.
+-- Made by tools/answers from the file `answers` beside it: change that one.
 use Prim.Native.Nat.{_+_, _≤_}
 use native.Mathlib.Omega.{arith}
 use lib.ListN.{length}
@@ -23,11 +24,15 @@ same-length : tie.Need-same-length
 same-length c = search needs
 
 returns : tie.Need-returns
-returns c =
-    let h : c .before .before .before .before .before .before .before .before .heard-place .result + 9 ≤ length (c .before .before .before .before .before .before .before .before .before .before .args .state .now) = omega (arith, c .before .before .before .before .before .before .before .before .heard-place .ensures .within, c .before .before .before .before .before .before .before .before .before .before .pre .0 .size) in
-    point-written _ _ _ _ _ _ h (c .before .before .before .before .before .before .before .before .heard-place .ensures .at) (c .before .before .before .before .before .before .put8 .ensures) (c .before .before .put64 .ensures)
+returns c = let h : (c .before .before .before .before .before .before .before .before .heard-place .result) + 9 ≤ length (c .before .before .before .before .before .before .before .before .before .before .args .state .now) = omega (arith, c .before .before .before .before .before .before .before .before .heard-place .ensures .within, c .before .before .before .before .before .before .before .before .before .before .pre .0 .size) in point-written _ _ _ _ _ _ h (c .before .before .before .before .before .before .before .before .heard-place .ensures .at) (c .before .before .before .before .before .before .put8 .ensures) (c .before .before .put64 .ensures)
 
 pub put-heard-spec : {M : Type 1} → statement M
 put-heard-spec =
     tie.close
-    (tie.spec heard-place-requires put8-requires add-put64 put64-requires same-length returns)
+    (tie.spec
+    heard-place-requires
+    put8-requires
+    add-put64
+    put64-requires
+    same-length
+    returns)

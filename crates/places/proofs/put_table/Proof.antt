@@ -1,4 +1,5 @@
 -- `places::put_table` meets its contract. Assumes nothing.
+-- Made by tools/answers from the file `answers` beside it: change that one.
 use Prim.Native.Nat.{_+_, _-_}
 use native.Mathlib.Omega.{arith}
 use Rattle.rules.specs.Image.{tableLength}
@@ -23,19 +24,13 @@ part-take-over-end : tie.Need-part-take-over-end
 part-take-over-end c = let e = c .before .places-of .ensures .table in search needs
 
 take-over-requires : tie.Need-take-over-requires
-take-over-requires c κs =
-    let a = c .before .before .before .before .before .args in
-    let t = c .before .before .places-of .result .table in
-    (lent-long (a .state .now) (a .to) (a .to + t - a .to) (tableLength (a .shape .c)) (omega (arith, c .before .before .places-of .ensures .table)) (c .before .before .before .before .before .pre .1), search needs, search needs, search needs)
+take-over-requires c κs = let a = c .before .before .before .before .before .args in let t = c .before .before .places-of .result .table in (lent-long (a .state .now) (a .to) (a .to + t - a .to) (tableLength (a .shape .c)) (omega (arith, c .before .before .places-of .ensures .table)) (c .before .before .before .before .before .pre .1), search needs, search needs, search needs)
 
 same-length : tie.Need-same-length
 same-length c = search needs
 
 returns : tie.Need-returns
-returns c =
-    let a = c .before .before .before .before .before .before .before .before .args in
-    let t = c .before .before .before .before .before .places-of .result .table in
-    table-home (a .state .now) _ (a .to) (a .to + t - a .to) (a .shape .c) _ (c .before .before .take-over .ensures) (omega (arith, c .before .before .before .before .before .places-of .ensures .table))
+returns c = let a = c .before .before .before .before .before .before .before .before .args in let t = c .before .before .before .before .before .places-of .result .table in table-home (a .state .now) _ (a .to) (a .to + t - a .to) (a .shape .c) _ (c .before .before .take-over .ensures) (omega (arith, c .before .before .before .before .before .places-of .ensures .table))
 
 pub put-table-spec : {M : Type 1} → statement M
 put-table-spec =

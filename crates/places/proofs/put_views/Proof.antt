@@ -1,4 +1,5 @@
 -- `places::put_views` meets its contract. Assumes nothing.
+-- Made by tools/answers from the file `answers` beside it: change that one.
 use mathlib.Core.Path.{_≡_}
 use Prim.Native.Nat.{_+_, _*_, _-_}
 use native.Mathlib.Omega.{arith}
@@ -27,18 +28,13 @@ part-copy-in-end : tie.Need-part-copy-in-end
 part-copy-in-end c = search needs
 
 copy-in-requires : tie.Need-copy-in-requires
-copy-in-requires c κs =
-    let a = c .before .before .before .before .before .args in
-    let l : length (take (a .at + 4 * a .shape .s - a .at) (drop (a .at) (a .src .now))) ≡ 4 * a .shape .s = lent-long (a .src .now) (a .at) (a .at + 4 * a .shape .s - a .at) (4 * a .shape .s) (omega arith) (c .before .before .before .before .before .pre .1) in
-    omega (arith, l, c .before .before .places-of .ensures .views, c .before .before .before .before .before .pre .0 .size)
+copy-in-requires c κs = let a = c .before .before .before .before .before .args in let l : length (take (a .at + 4 * a .shape .s - a .at) (drop (a .at) (a .src .now))) ≡ 4 * a .shape .s = lent-long (a .src .now) (a .at) (a .at + 4 * a .shape .s - a .at) (4 * a .shape .s) (omega arith) (c .before .before .before .before .before .pre .1) in omega (arith, l, c .before .before .places-of .ensures .views, c .before .before .before .before .before .pre .0 .size)
 
 same-length : tie.Need-same-length
 same-length c = search needs
 
 returns : tie.Need-returns
-returns c =
-    let a = c .before .before .before .before .before .before .before .before .args in
-    views-written _ _ (a .src .now) _ _ (a .at) (a .at + 4 * a .shape .s - a .at) (4 * a .shape .s) (c .before .before .copy-in .ensures) (c .before .before .before .before .before .places-of .ensures .views) (omega arith)
+returns c = let a = c .before .before .before .before .before .before .before .before .args in views-written _ _ (a .src .now) _ _ (a .at) (a .at + 4 * a .shape .s - a .at) (4 * a .shape .s) (c .before .before .copy-in .ensures) (c .before .before .before .before .before .places-of .ensures .views) (omega arith)
 
 pub put-views-spec : {M : Type 1} → statement M
 put-views-spec =

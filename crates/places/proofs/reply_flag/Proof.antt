@@ -1,4 +1,5 @@
 -- `places::reply_flag` meets its contract. Assumes nothing.
+-- Made by tools/answers from the file `answers` beside it: change that one.
 use Rattle.places.proofs.Spots.{reply-flag}
 use borrow.Author.Needs.{needs}
 use Rattle.places.proofs.reply_flag.Statement.{statement}

@@ -1,4 +1,5 @@
 -- `places::reply_place` meets its contract. Assumes nothing.
+-- Made by tools/answers from the file `answers` beside it: change that one.
 use Prim.Native.Nat.{_+_, _*_}
 use native.Mathlib.Omega.{arith}
 use Rattle.rules.specs.Image.{replyLength}
@@ -8,7 +9,7 @@ use borrow.Author.Needs.{needs}
 use Rattle.places.proofs.reply_place.Statement.{statement}
 use Rattle.places.proofs.reply_place.Tie as tie
 
-spot : (s : tie.After-places-of) → PlaceAt (s .before .args .shape) 9 (replyLength (s .before .args .shape .c)) (s .before .args .j) (s .places-of .result .replies + s .places-of .result .reply * s .before .args .j)
+spot : (s : tie.After-places-of) → PlaceAt (s .before .args .shape) 9 (replyLength (s .before .args .shape .c)) (s .before .args .j) (s .places-of .result .replies + (s .places-of .result .reply) * (s .before .args .j))
 spot s =
     placed (s .before .args .shape) 9 (replyLength (s .before .args .shape .c)) (s .before .args .shape .s) (s .before .args .j) (s .places-of .result .replies) (s .places-of .result .reply) (s .places-of .ensures .replies) (s .places-of .ensures .reply) (omega arith) (s .before .pre .1)
 

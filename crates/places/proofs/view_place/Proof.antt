@@ -1,4 +1,5 @@
 -- `places::view_place` meets its contract. Assumes nothing.
+-- Made by tools/answers from the file `answers` beside it: change that one.
 use mathlib.Core.Path.{refl}
 use Prim.Native.Nat.{_+_, _*_}
 use native.Mathlib.Omega.{arith}
@@ -8,7 +9,7 @@ use borrow.Author.Needs.{needs}
 use Rattle.places.proofs.view_place.Statement.{statement}
 use Rattle.places.proofs.view_place.Tie as tie
 
-spot : (s : tie.After-places-of) → PlaceAt (s .before .args .shape) 1 4 (s .before .args .j) (s .places-of .result .views + 4 * s .before .args .j)
+spot : (s : tie.After-places-of) → PlaceAt (s .before .args .shape) 1 4 (s .before .args .j) (s .places-of .result .views + 4 * (s .before .args .j))
 spot s =
     placed (s .before .args .shape) 1 4 (s .before .args .shape .s) (s .before .args .j) (s .places-of .result .views) (4) (s .places-of .ensures .views) refl (omega arith) (s .before .pre .1)
 

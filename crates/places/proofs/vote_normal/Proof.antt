@@ -1,4 +1,5 @@
 -- `places::vote_normal` meets its contract. Assumes nothing.
+-- Made by tools/answers from the file `answers` beside it: change that one.
 use Rattle.places.proofs.Spots.{read-at}
 use borrow.Author.Needs.{needs}
 use Rattle.places.proofs.vote_normal.Statement.{statement}

@@ -1,4 +1,5 @@
 -- `places::vote_place` meets its contract. Assumes nothing.
+-- Made by tools/answers from the file `answers` beside it: change that one.
 use Prim.Native.Nat.{_+_, _*_}
 use native.Mathlib.Omega.{arith}
 use Rattle.rules.specs.Image.{voteLength}
@@ -8,7 +9,7 @@ use borrow.Author.Needs.{needs}
 use Rattle.places.proofs.vote_place.Statement.{statement}
 use Rattle.places.proofs.vote_place.Tie as tie
 
-spot : (s : tie.After-places-of) → PlaceAt (s .before .args .shape) 7 (voteLength (s .before .args .shape .c)) (s .before .args .r) (s .places-of .result .votes + s .places-of .result .vote * s .before .args .r)
+spot : (s : tie.After-places-of) → PlaceAt (s .before .args .shape) 7 (voteLength (s .before .args .shape .c)) (s .before .args .r) (s .places-of .result .votes + (s .places-of .result .vote) * (s .before .args .r))
 spot s =
     placed (s .before .args .shape) 7 (voteLength (s .before .args .shape .c)) (s .before .args .shape .n) (s .before .args .r) (s .places-of .result .votes) (s .places-of .result .vote) (s .places-of .ensures .votes) (s .places-of .ensures .vote) (omega arith) (s .before .pre .1)
 

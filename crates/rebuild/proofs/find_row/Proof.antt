@@ -1,10 +1,11 @@
 -- `rebuild::find_row` meets its contract, by the table where it is filled and else by the search. Assumes nothing.
-use borrow.Author.Needs.{needs}
-use Rattle.rebuild.proofs.find_row.Statement.{statement}
-use Rattle.rebuild.proofs.find_row.Tie as tie
+-- Made by tools/answers from the file `answers` beside it: change that one.
 use mathlib.Core.Path.{refl}
 use native.Mathlib.Omega.{arith}
 use Rattle.rebuild.proofs.Tables.{table-asked, by-table}
+use borrow.Author.Needs.{needs}
+use Rattle.rebuild.proofs.find_row.Statement.{statement}
+use Rattle.rebuild.proofs.find_row.Tie as tie
 
 element-copy-out-if1 : tie.Need-element-copy-out-if1
 element-copy-out-if1 c = search needs

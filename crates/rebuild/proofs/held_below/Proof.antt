@@ -1,6 +1,5 @@
 -- `rebuild::held_below` meets its contract. The invariant: none of the votes passed counts and holds the entry. Assumes nothing.
-use Rattle.rebuild.proofs.held_below.Statement.{statement}
-use Rattle.rebuild.proofs.held_below.Tie as tie
+-- Made by tools/answers from the file `answers` beside it: change that one.
 use Prim.Native.Nat.{ℕ, _<_, _≤_, _-_}
 use mathlib.Core.Path.{_≡_, refl}
 use native.Mathlib.Omega.{arith}
@@ -9,6 +8,8 @@ use Rattle.ballots.specs.Ballots.{votesIn}
 use Rattle.rebuild.specs.Rebuild.{lower}
 use Rattle.ballots.proofs.Votes.{votes-long}
 use Rattle.rebuild.proofs.Holders.{holders-start, holders-same, held-here, held-nowhere}
+use Rattle.rebuild.proofs.held_below.Statement.{statement}
+use Rattle.rebuild.proofs.held_below.Tie as tie
 
 lt-le : (a b c : ℕ) → a < b → b ≤ c → a < c
 lt-le a b c h k = omega arith
@@ -23,7 +24,7 @@ loop-holds : tie.Need-loop-holds Inv-loop μ-loop
 loop-holds c = (omega arith, holders-start (c .before .before .before .args .top) (votesIn (c .before .before .before .args .shape) (c .before .before .before .args .state .now) (c .before .before .before .args .message .now) (c .before .before .before .args .cast)) (c .before .before .before .args .e))
 
 holds-at-requires : tie.Need-holds-at-requires Inv-loop μ-loop
-holds-at-requires c κs = ((c .before .before .before .before .before .pre .0), omega arith, (c .before .before .before .before .before .pre .2))
+holds-at-requires c κs = (c .before .before .before .before .before .pre .0, omega arith, c .before .before .before .before .before .pre .2)
 
 returns : tie.Need-returns Inv-loop μ-loop
 returns c = held-here _ _ (c .before .before .before .before .before .before .before .args .e) _ _ _ (votes-long _ _ _ _ (c .before .before .before .before .before .before .before .pre .0 .sent)) (c .before .before .loop-test .taken) (c .before .before .before .before .before .before .before .pre .1) (c .before .before .before .loop .inv .1) _ (c .before .holds-at .ensures) (c .if1 .taken)

@@ -1,6 +1,5 @@
 -- `rebuild::holders_from` meets its contract. The invariant: with the votes below `start`, `sum` more of the votes passed count and hold the entry. Assumes nothing.
-use Rattle.rebuild.proofs.holders_from.Statement.{statement}
-use Rattle.rebuild.proofs.holders_from.Tie as tie
+-- Made by tools/answers from the file `answers` beside it: change that one.
 use Prim.Native.Nat.{_+_, _≤_, _-_}
 use mathlib.Core.Path.{_≡_}
 use mathlib.Core.Logic.{⊎-elim}
@@ -10,6 +9,8 @@ use Rattle.ballots.specs.Ballots.{votesIn}
 use Rattle.rebuild.specs.Rebuild.{lower}
 use Rattle.ballots.proofs.Votes.{votes-long}
 use Rattle.rebuild.proofs.Holders.{holders-more, holders-same, holders-end}
+use Rattle.rebuild.proofs.holders_from.Statement.{statement}
+use Rattle.rebuild.proofs.holders_from.Tie as tie
 
 abbrev Inv-loop : tie.InvT-loop
 Inv-loop shape state message cast top index rows start e sum₀ r₀ sum r = (r ≤ shape .n) × (sum ≤ r) × (holders (lower top (votesIn shape state message cast) start) e + sum ≡ holders (lower top (votesIn shape state message cast) r) e)
@@ -21,7 +22,7 @@ loop-holds : tie.Need-loop-holds Inv-loop μ-loop
 loop-holds c = (omega arith, omega arith, omega arith)
 
 holds-at-requires : tie.Need-holds-at-requires Inv-loop μ-loop
-holds-at-requires c κs = ((c .before .before .before .before .before .before .pre .0), (c .if1 .taken), (c .before .before .before .before .before .before .pre .2))
+holds-at-requires c κs = (c .before .before .before .before .before .before .pre .0, c .if1 .taken, c .before .before .before .before .before .before .pre .2)
 
 add-sum : tie.Need-add-sum Inv-loop μ-loop
 add-sum c = omega arith
@@ -33,11 +34,7 @@ loop-less : tie.Need-loop-less Inv-loop μ-loop
 loop-less c = omega arith
 
 loop-again : tie.Need-loop-again Inv-loop μ-loop
-loop-again c =
-    ⊎-elim
-    (λ w. (omega arith, omega arith, holders-more _ _ (c .before .before .before .before .before .before .before .before .args .e) _ _ _ _ (c .before .before .before .before .before .before .before .before .args .shape .n) (votes-long _ _ _ _ (c .before .before .before .before .before .before .before .before .pre .0 .sent)) (c .before .before .if1 .taken) (c .before .before .before .before .loop .inv .2) _ (c .before .holds-at .ensures) (w .0 .taken) (w .1)))
-    (λ w. (omega arith, omega arith, holders-same _ _ (c .before .before .before .before .before .before .before .before .args .e) _ _ _ _ (c .before .before .before .before .before .before .before .before .args .shape .n) (votes-long _ _ _ _ (c .before .before .before .before .before .before .before .before .pre .0 .sent)) (c .before .before .if1 .taken) (c .before .before .before .before .loop .inv .2) _ (c .before .holds-at .ensures) (w .0 .left) (w .1)))
-    (c .if2 .came)
+loop-again c = ⊎-elim (λ w. (omega arith, omega arith, holders-more _ _ (c .before .before .before .before .before .before .before .before .args .e) _ _ _ _ (c .before .before .before .before .before .before .before .before .args .shape .n) (votes-long _ _ _ _ (c .before .before .before .before .before .before .before .before .pre .0 .sent)) (c .before .before .if1 .taken) (c .before .before .before .before .loop .inv .2) _ (c .before .holds-at .ensures) (w .0 .taken) (w .1))) (λ w. (omega arith, omega arith, holders-same _ _ (c .before .before .before .before .before .before .before .before .args .e) _ _ _ _ (c .before .before .before .before .before .before .before .before .args .shape .n) (votes-long _ _ _ _ (c .before .before .before .before .before .before .before .before .pre .0 .sent)) (c .before .before .if1 .taken) (c .before .before .before .before .loop .inv .2) _ (c .before .holds-at .ensures) (w .0 .left) (w .1))) (c .if2 .came)
 
 returns : tie.Need-returns Inv-loop μ-loop
 returns c = holders-end _ _ (c .before .before .before .before .before .before .args .e) _ _ _ (c .before .before .loop .inv .0) (c .if1 .left) (c .before .before .loop .inv .2)

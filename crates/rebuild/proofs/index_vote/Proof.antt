@@ -1,7 +1,5 @@
 -- `rebuild::index_vote` meets its contract: where the vote counts, its log's rows are in the replica's table, and the other tables stay. Assumes nothing.
-use borrow.Author.Needs.{needs}
-use Rattle.rebuild.proofs.index_vote.Statement.{statement}
-use Rattle.rebuild.proofs.index_vote.Tie as tie
+-- Made by tools/answers from the file `answers` beside it: change that one.
 use native.Mathlib.Omega.{arith}
 use borrow.Author.Tests.{not-false}
 use mathlib.Core.Option.{none}
@@ -10,6 +8,9 @@ use Rattle.ballots.specs.Ballots.{votesIn}
 use Prim.Native.Nat.{ℕ, _<_, _≤_}
 use Rattle.rebuild.proofs.Holders.{counts-some}
 use Rattle.rebuild.proofs.Tables.{list-inside, index-filled}
+use borrow.Author.Needs.{needs}
+use Rattle.rebuild.proofs.index_vote.Statement.{statement}
+use Rattle.rebuild.proofs.index_vote.Tie as tie
 
 replica-low : (r n : ℕ) → r < n → n ≤ 7 → r < 7
 replica-low r n h k = omega arith
@@ -21,7 +22,7 @@ returns : tie.Need-returns
 returns c = search needs
 
 log-of-requires : tie.Need-log-of-requires
-log-of-requires c κs = ((c .before .before .before .before .before .pre .0), (c .before .before .before .before .before .pre .1), counts-some _ (getD (votesIn (c .before .before .before .before .before .args .shape) (c .before .before .before .before .before .args .state .now) (c .before .before .before .before .before .args .message .now) (c .before .before .before .before .before .args .cast)) (c .before .before .before .before .before .args .r) none) _ ((c .before .counted .ensures) (c .before .before .before .before .before .args .message .now)) (not-false _ (c .if1 .left)))
+log-of-requires c κs = (c .before .before .before .before .before .pre .0, c .before .before .before .before .before .pre .1, counts-some _ (getD (votesIn (c .before .before .before .before .before .args .shape) (c .before .before .before .before .before .args .state .now) (c .before .before .before .before .before .args .message .now) (c .before .before .before .before .before .args .cast)) (c .before .before .before .before .before .args .r) none) _ (c .before .counted .ensures (c .before .before .before .before .before .args .message .now)) (not-false _ (c .if1 .left)))
 
 count-requires : tie.Need-count-requires
 count-requires c κs = search needs

@@ -1,6 +1,5 @@
 -- `rebuild::index_votes` meets its contract. The invariant: each table whose flag is set has every row. Assumes nothing.
-use Rattle.rebuild.proofs.index_votes.Statement.{statement}
-use Rattle.rebuild.proofs.index_votes.Tie as tie
+-- Made by tools/answers from the file `answers` beside it: change that one.
 use native.Mathlib.Omega.{arith}
 use mathlib.Core.Path.{_≡_}
 use Prim.Native.Nat.{_≤_, _-_}
@@ -8,6 +7,8 @@ use lib.ListN.{length}
 use Rattle.ballots.specs.Ballots.{votesIn}
 use Rattle.rebuild.specs.Tables.{Indexed}
 use Rattle.rebuild.proofs.Tables.{index-start}
+use Rattle.rebuild.proofs.index_votes.Statement.{statement}
+use Rattle.rebuild.proofs.index_votes.Tie as tie
 
 abbrev Inv-loop : tie.InvT-loop
 Inv-loop shape state message cast top size rows₀ index₀ r₀ rows index r = (r ≤ shape .n) × (length rows ≡ length rows₀) × Indexed (votesIn shape state message cast) index rows
@@ -19,7 +20,7 @@ loop-holds : tie.Need-loop-holds Inv-loop μ-loop
 loop-holds c = (omega arith, omega arith, index-start _ _ _ (c .before .before .before .pre .1) (c .before .before .before .pre .2))
 
 index-vote-requires : tie.Need-index-vote-requires Inv-loop μ-loop
-index-vote-requires c κs = ((c .before .before .before .before .before .before .before .pre .0), (c .before .if1 .taken), (c .before .before .before .loop .inv .2))
+index-vote-requires c κs = (c .before .before .before .before .before .before .before .pre .0, c .before .if1 .taken, c .before .before .before .loop .inv .2)
 
 add-r : tie.Need-add-r Inv-loop μ-loop
 add-r c = omega arith
@@ -28,13 +29,13 @@ loop-less : tie.Need-loop-less Inv-loop μ-loop
 loop-less c = omega arith
 
 loop-again : tie.Need-loop-again Inv-loop μ-loop
-loop-again c = (omega arith, omega arith, (c .before .before .index-vote .ensures))
+loop-again c = (omega arith, omega arith, c .before .before .index-vote .ensures)
 
 same-length : tie.Need-same-length Inv-loop μ-loop
 same-length c = omega arith
 
 returns : tie.Need-returns Inv-loop μ-loop
-returns c = (c .before .before .loop .inv .2)
+returns c = c .before .before .loop .inv .2
 
 pub index-votes-spec : {M : Type 1} → statement M
 index-votes-spec =

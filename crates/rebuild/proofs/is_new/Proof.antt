@@ -1,9 +1,10 @@
 -- `rebuild::is_new` meets its contract: one law for each test. Assumes nothing.
+-- Made by tools/answers from the file `answers` beside it: change that one.
+use Rattle.ballots.proofs.Votes.{votes-long}
+use Rattle.rebuild.proofs.New.{new-late, new-lower, new-few, new-held}
 use borrow.Author.Needs.{needs}
 use Rattle.rebuild.proofs.is_new.Statement.{statement}
 use Rattle.rebuild.proofs.is_new.Tie as tie
-use Rattle.ballots.proofs.Votes.{votes-long}
-use Rattle.rebuild.proofs.New.{new-late, new-lower, new-few, new-held}
 
 returns : tie.Need-returns
 returns c = new-late _ _ _ (c .before .before .before .before .before .before .pre .1) _ (c .before .before .before .before .before .before .args .e) (c .if1 .taken)

@@ -1,11 +1,12 @@
 -- `rebuild::log_holds` meets its contract: the first entry of the transaction decides. Assumes nothing.
-use borrow.Author.Needs.{needs}
-use Rattle.rebuild.proofs.log_holds.Statement.{statement}
-use Rattle.rebuild.proofs.log_holds.Tie as tie
+-- Made by tools/answers from the file `answers` beside it: change that one.
 use native.Mathlib.Omega.{arith}
 use Rattle.ballots.proofs.Sound.{vote-good}
 use Rattle.rebuild.proofs.Holders.{key-missing, key-found}
 use Rattle.rebuild.proofs.Tables.{looks-in}
+use borrow.Author.Needs.{needs}
+use Rattle.rebuild.proofs.log_holds.Statement.{statement}
+use Rattle.rebuild.proofs.log_holds.Tie as tie
 
 log-of-requires : tie.Need-log-of-requires
 log-of-requires c κs = search needs
@@ -14,7 +15,7 @@ count-requires : tie.Need-count-requires
 count-requires c κs = search needs
 
 find-row-requires : tie.Need-find-row-requires
-find-row-requires c κs = looks-in _ _ _ _ _ (c .before .before .before .before .before .pre .3) _ (c .before .log-of .ensures) (c .before .before .before .before .before .pre .0 .sent .stands .fits .small) (omega (arith, (c .before .before .before .before .before .pre .0 .sent .stands .fits .most))) _ (c .count .ensures)
+find-row-requires c κs = looks-in _ _ _ _ _ (c .before .before .before .before .before .pre .3) _ (c .before .log-of .ensures) (c .before .before .before .before .before .pre .0 .sent .stands .fits .small) (omega (arith, c .before .before .before .before .before .pre .0 .sent .stands .fits .most)) _ (c .count .ensures)
 
 returns : tie.Need-returns
 returns c = key-missing _ _ _ (c .before .before .before .log-of .ensures) (c .before .before .before .before .before .before .before .args .e) _ _ (c .before .before .count .ensures) (c .before .find-row .ensures) (c .if1 .taken)

@@ -1,11 +1,12 @@
 -- `releases::copy_released` meets its contract: the bytes lent are those of the log from place n on. Assumes nothing.
-use borrow.Author.Needs.{needs}
-use Rattle.releases.proofs.copy_released.Statement.{statement}
-use Rattle.releases.proofs.copy_released.Tie as tie
+-- Made by tools/answers from the file `answers` beside it: change that one.
 use Prim.Native.Nat.{_+_, _*_}
 use mathlib.Core.Path.{refl}
 use native.Mathlib.Omega.{arith}
 use Rattle.releases.proofs.LogBytes.{copied}
+use borrow.Author.Needs.{needs}
+use Rattle.releases.proofs.copy_released.Statement.{statement}
+use Rattle.releases.proofs.copy_released.Tie as tie
 
 places-of-requires : tie.Need-places-of-requires
 places-of-requires c κs = search needs
@@ -41,10 +42,7 @@ same-length : tie.Need-same-length
 same-length c = search needs
 
 returns : tie.Need-returns
-returns c =
-    let a = (c .before .before .before .before .before .before .before .before .before .args) in
-    let p = (c .before .before .before .before .before .before .places-of .result .log) + (4 + 24 * a .n) in
-    copied (c .before .before .before .before .before .before .before .before .before .pre .0) (a .n) (a .k) p (c .before .before .before .before .before .before .before .before .before .pre .1) (omega (arith, (c .before .before .before .before .before .before .places-of .ensures .log))) (p + 24 * a .k) _ _ refl (c .before .before .before .before .before .before .before .before .before .pre .2) (c .before .before .copy-in .ensures)
+returns c = let a = c .before .before .before .before .before .before .before .before .before .args in let p = c .before .before .before .before .before .before .places-of .result .log + (4 + 24 * a .n) in copied (c .before .before .before .before .before .before .before .before .before .pre .0) (a .n) (a .k) p (c .before .before .before .before .before .before .before .before .before .pre .1) (omega (arith, c .before .before .before .before .before .before .places-of .ensures .log)) (p + 24 * a .k) _ _ refl (c .before .before .before .before .before .before .before .before .before .pre .2) (c .before .before .copy-in .ensures)
 
 pub copy-released-spec : {M : Type 1} → statement M
 copy-released-spec =

@@ -1,12 +1,13 @@
 -- `releases::early_entry` meets its contract: the table lent is early. Assumes nothing.
-use borrow.Author.Needs.{needs}
-use Rattle.releases.proofs.early_entry.Statement.{statement}
-use Rattle.releases.proofs.early_entry.Tie as tie
+-- Made by tools/answers from the file `answers` beside it: change that one.
 use mathlib.Core.Path.{ap, _∙_}
 use mathlib.Core.List.{List}
 use Rattle.rules.specs.Entry.{entryOf}
 use Rattle.rules.specs.declared.Entry.{Entry}
 use Rattle.releases.proofs.Way.{early-open, early-read}
+use borrow.Author.Needs.{needs}
+use Rattle.releases.proofs.early_entry.Statement.{statement}
+use Rattle.releases.proofs.early_entry.Tie as tie
 
 places-of-requires : tie.Need-places-of-requires
 places-of-requires c κs = search needs
@@ -24,7 +25,7 @@ entry-of-requires : tie.Need-entry-of-requires
 entry-of-requires c κs = early-open (c .before .before .before .pre .0) (c .before .places-of .result) (c .before .places-of .ensures) _ (c .before .before .before .pre .1)
 
 returns : tie.Need-returns
-returns c = (c .entry-of .ensures) ∙ ap (λ (es : List Entry). entryOf es (c .before .before .before .before .args .i)) (early-read (c .before .before .before .before .pre .0) (c .before .before .places-of .result) (c .before .before .places-of .ensures))
+returns c = c .entry-of .ensures ∙ ap (λ (es : List Entry). entryOf es (c .before .before .before .before .args .i)) (early-read (c .before .before .before .before .pre .0) (c .before .before .places-of .result) (c .before .before .places-of .ensures))
 
 pub early-entry-spec : {M : Type 1} → statement M
 early-entry-spec =

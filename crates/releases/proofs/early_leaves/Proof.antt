@@ -1,9 +1,10 @@
 -- `releases::early_leaves` meets its contract: early without the entries comes home. Assumes nothing.
+-- Made by tools/answers from the file `answers` beside it: change that one.
+use mathlib.Core.Path.{refl}
+use Rattle.releases.proofs.Way.{early-once-in, early-left}
 use borrow.Author.Needs.{needs}
 use Rattle.releases.proofs.early_leaves.Statement.{statement}
 use Rattle.releases.proofs.early_leaves.Tie as tie
-use mathlib.Core.Path.{refl}
-use Rattle.releases.proofs.Way.{early-once-in, early-left}
 
 places-of-requires : tie.Need-places-of-requires
 places-of-requires c κs = search needs
@@ -18,7 +19,7 @@ part-leave-end : tie.Need-part-leave-end
 part-leave-end c = search needs
 
 leave-requires : tie.Need-leave-requires
-leave-requires c κs = (early-once-in (c .before .before .before .before .before .pre .0) (c .before .places-of .result) (c .before .places-of .ensures) .0, (c .before .before .before .before .before .pre .1))
+leave-requires c κs = (early-once-in (c .before .before .before .before .before .pre .0) (c .before .places-of .result) (c .before .places-of .ensures) .0, c .before .before .before .before .before .pre .1)
 
 same-length : tie.Need-same-length
 same-length c = search needs

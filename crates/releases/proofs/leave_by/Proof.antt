@@ -1,9 +1,10 @@
 -- `releases::leave_by` meets its contract: early is left, then the notes, by the look into the copy. Assumes nothing.
+-- Made by tools/answers from the file `answers` beside it: change that one.
+use mathlib.Core.Path.{sym, _∙_}
+use Rattle.releases.proofs.Next.{all-left}
 use borrow.Author.Needs.{needs}
 use Rattle.releases.proofs.leave_by.Statement.{statement}
 use Rattle.releases.proofs.leave_by.Tie as tie
-use mathlib.Core.Path.{sym, _∙_}
-use Rattle.releases.proofs.Next.{all-left}
 
 copy-released-requires : tie.Need-copy-released-requires
 copy-released-requires c κs = search needs
@@ -18,7 +19,7 @@ notes-leave-requires : tie.Need-notes-leave-requires
 notes-leave-requires c κs = search needs
 
 same-length : tie.Need-same-length
-same-length c = (c .before .before .notes-leave .ensures .midway .size) ∙ sym (c .before .before .before .before .before .before .before .before .before .before .before .before .before .before .before .before .before .before .before .before .before .before .before .before .before .pre .0 .size)
+same-length c = c .before .before .notes-leave .ensures .midway .size ∙ sym (c .before .before .before .before .before .before .before .before .before .before .before .before .before .before .before .before .before .before .before .before .before .before .before .before .before .pre .0 .size)
 
 same-length-2 : tie.Need-same-length-2
 same-length-2 c = search needs
@@ -27,9 +28,7 @@ same-length-3 : tie.Need-same-length-3
 same-length-3 c = search needs
 
 returns : tie.Need-returns
-returns c =
-    let a = (c .before .before .before .before .before .before .before .before .before .before .before .before .before .before .before .before .before .before .before .before .before .before .before .before .before .args) in
-    all-left (a .state .now) (a .n) (a .k) (c .before .before .before .before .before .before .before .before .before .before .before .before .before .before .before .before .before .before .before .copy-released .last .1 .1 .1 .1 .0) (c .before .before .before .before .before .before .before .before .before .before .before .before .before .before .fill-released .result) (c .before .before .before .before .before .before .before .before .before .before .before .before .before .before .before .before .before .before .before .copy-released .ensures) (c .before .before .before .before .before .before .before .before .early-leaves .ensures) (c .before .before .notes-leave .ensures)
+returns c = let a = c .before .before .before .before .before .before .before .before .before .before .before .before .before .before .before .before .before .before .before .before .before .before .before .before .before .args in all-left (a .state .now) (a .n) (a .k) (c .before .before .before .before .before .before .before .before .before .before .before .before .before .before .before .before .before .before .before .copy-released .last .1 .1 .1 .1 .0) (c .before .before .before .before .before .before .before .before .before .before .before .before .before .before .fill-released .result) (c .before .before .before .before .before .before .before .before .before .before .before .before .before .before .before .before .before .before .before .copy-released .ensures) (c .before .before .before .before .before .before .before .before .early-leaves .ensures) (c .before .before .notes-leave .ensures)
 
 pub leave-by-spec : {M : Type 1} → statement M
 leave-by-spec =

@@ -1,8 +1,9 @@
 -- `releases::leave_many` meets its contract: the copy has room for the largest log. Assumes nothing.
+-- Made by tools/answers from the file `answers` beside it: change that one.
+use native.Mathlib.Omega.{arith}
 use borrow.Author.Needs.{needs}
 use Rattle.releases.proofs.leave_many.Statement.{statement}
 use Rattle.releases.proofs.leave_many.Tie as tie
-use native.Mathlib.Omega.{arith}
 
 slice-aggregate-leave-by : tie.Need-slice-aggregate-leave-by
 slice-aggregate-leave-by c = search needs
@@ -11,7 +12,7 @@ slice-aggregate-leave-by-2 : tie.Need-slice-aggregate-leave-by-2
 slice-aggregate-leave-by-2 c = search needs
 
 leave-by-requires : tie.Need-leave-by-requires
-leave-by-requires c κs = ((c .before .before .before .before .pre .0), (c .before .before .before .before .pre .1), omega (arith, (c .before .before .before .before .pre .2)))
+leave-by-requires c κs = (c .before .before .before .before .pre .0, c .before .before .before .before .pre .1, omega (arith, c .before .before .before .before .pre .2))
 
 same-length : tie.Need-same-length
 same-length c = search needs

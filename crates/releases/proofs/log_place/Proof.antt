@@ -1,9 +1,10 @@
 -- `releases::log_place` meets its contract: the place lies within the state. Assumes nothing.
+-- Made by tools/answers from the file `answers` beside it: change that one.
+use Rattle.places.proofs.Sections.{state-small}
+use Rattle.releases.proofs.LogBytes.{log-within}
 use borrow.Author.Needs.{needs}
 use Rattle.releases.proofs.log_place.Statement.{statement}
 use Rattle.releases.proofs.log_place.Tie as tie
-use Rattle.places.proofs.Sections.{state-small}
-use Rattle.releases.proofs.LogBytes.{log-within}
 
 places-of-requires : tie.Need-places-of-requires
 places-of-requires c κs = search needs
@@ -21,11 +22,4 @@ returns : tie.Need-returns
 returns c = log-within _ _ _ (c .before .places-of .ensures .log) (c .before .before .pre .1) (state-small _ (c .before .before .pre .0))
 
 pub log-place-spec : {M : Type 1} → statement M
-log-place-spec =
-    tie.close
-    (tie.spec
-    places-of-requires
-    mul-result
-    add-result
-    add-result-2
-    returns)
+log-place-spec = tie.close (tie.spec places-of-requires mul-result add-result add-result-2 returns)

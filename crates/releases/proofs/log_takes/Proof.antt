@@ -1,9 +1,10 @@
 -- `releases::log_takes` meets its contract: the log with the entry comes home. Assumes nothing.
+-- Made by tools/answers from the file `answers` beside it: change that one.
+use mathlib.Core.Path.{refl}
+use Rattle.releases.proofs.Way.{log-open, log-taken}
 use borrow.Author.Needs.{needs}
 use Rattle.releases.proofs.log_takes.Statement.{statement}
 use Rattle.releases.proofs.log_takes.Tie as tie
-use mathlib.Core.Path.{refl}
-use Rattle.releases.proofs.Way.{log-open, log-taken}
 
 places-of-requires : tie.Need-places-of-requires
 places-of-requires c κs = search needs

@@ -1,9 +1,10 @@
 -- `releases::notes_leave` meets its contract: the notes without those of the entries come home. Assumes nothing.
+-- Made by tools/answers from the file `answers` beside it: change that one.
+use mathlib.Core.Path.{refl}
+use Rattle.releases.proofs.Way.{notes-open, notes-left}
 use borrow.Author.Needs.{needs}
 use Rattle.releases.proofs.notes_leave.Statement.{statement}
 use Rattle.releases.proofs.notes_leave.Tie as tie
-use mathlib.Core.Path.{refl}
-use Rattle.releases.proofs.Way.{notes-open, notes-left}
 
 places-of-requires : tie.Need-places-of-requires
 places-of-requires c κs = search needs
@@ -18,7 +19,7 @@ part-leave-notes-end : tie.Need-part-leave-notes-end
 part-leave-notes-end c = search needs
 
 leave-notes-requires : tie.Need-leave-notes-requires
-leave-notes-requires c κs = (notes-open (c .before .before .before .before .before .pre .0) (c .before .places-of .result) (c .before .places-of .ensures), (c .before .before .before .before .before .pre .1))
+leave-notes-requires c κs = (notes-open (c .before .before .before .before .before .pre .0) (c .before .places-of .result) (c .before .places-of .ensures), c .before .before .before .before .before .pre .1)
 
 same-length : tie.Need-same-length
 same-length c = search needs

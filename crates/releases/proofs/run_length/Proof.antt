@@ -1,8 +1,9 @@
 -- `releases::run_length` meets its contract: early and the notes are lent. Assumes nothing.
+-- Made by tools/answers from the file `answers` beside it: change that one.
+use Rattle.releases.proofs.Way.{run-open, run-read}
 use borrow.Author.Needs.{needs}
 use Rattle.releases.proofs.run_length.Statement.{statement}
 use Rattle.releases.proofs.run_length.Tie as tie
-use Rattle.releases.proofs.Way.{run-open, run-read}
 
 places-of-requires : tie.Need-places-of-requires
 places-of-requires c κs = search needs

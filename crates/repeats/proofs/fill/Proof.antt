@@ -1,5 +1,5 @@
 -- `repeats::fill` meets its contract. The loop's invariant: the table has each row passed for its key. Assumes nothing.
-use borrow.Author.Needs.{needs}
+-- Made by tools/answers from the file `answers` beside it: change that one.
 use mathlib.Core.Path.{_≡_, refl}
 use Prim.Native.Nat.{ℕ, _≤_, _-_}
 use lib.ListN.{length}
@@ -7,6 +7,7 @@ use native.Mathlib.Omega.{arith}
 use borrow.Author.Tests.{not-false}
 use Rattle.repeats.specs.Rows.{countOf, keyOf}
 use Rattle.repeats.proofs.Table.{Holds, holds-none, holds-more, filled}
+use borrow.Author.Needs.{needs}
 use Rattle.repeats.proofs.fill.Statement.{statement}
 use Rattle.repeats.proofs.fill.Tie as tie
 
@@ -47,7 +48,7 @@ loop-less : tie.Need-loop-less Inv-loop μ-loop
 loop-less c = search needs
 
 loop-again : tie.Need-loop-again Inv-loop μ-loop
-loop-again c = (search needs, search needs, holds-more (keyOf (c .before .before .before .before .before .before .before .before .before .before .before .before .before .args .b .now) (c .before .before .before .before .before .before .before .before .before .before .before .before .before .args .sp)) (countOf (c .before .before .before .before .before .before .before .before .before .before .before .before .before .args .sp)) (c .before .before .before .before .before .before .loop .table) _ (c .before .before .before .before .before .before .loop .i) (search needs) (omega arith) (c .before .before .before .before .before .before .loop .inv .2) ((c .before .before .before .put .ensures) (not-false (c .before .before .before .put .result) (c .if4 .left))))
+loop-again c = (search needs, search needs, holds-more (keyOf (c .before .before .before .before .before .before .before .before .before .before .before .before .before .args .b .now) (c .before .before .before .before .before .before .before .before .before .before .before .before .before .args .sp)) (countOf (c .before .before .before .before .before .before .before .before .before .before .before .before .before .args .sp)) (c .before .before .before .before .before .before .loop .table) _ (c .before .before .before .before .before .before .loop .i) (search needs) (omega arith) (c .before .before .before .before .before .before .loop .inv .2) (c .before .before .before .put .ensures (not-false (c .before .before .before .put .result) (c .if4 .left))))
 
 same-length-2 : tie.Need-same-length-2 Inv-loop μ-loop
 same-length-2 c = search needs

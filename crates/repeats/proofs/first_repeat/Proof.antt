@@ -1,6 +1,7 @@
 -- `repeats::first_repeat` meets its contract. Where a table shows that all keys are distinct, the place is the end. Assumes nothing.
-use borrow.Author.Needs.{needs}
+-- Made by tools/answers from the file `answers` beside it: change that one.
 use Rattle.repeats.proofs.Laws.{placed-last}
+use borrow.Author.Needs.{needs}
 use Rattle.repeats.proofs.first_repeat.Statement.{statement}
 use Rattle.repeats.proofs.first_repeat.Tie as tie
 

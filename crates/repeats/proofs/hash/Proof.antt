@@ -1,6 +1,7 @@
 -- `repeats::hash` meets its contract. Its sums fit 64 bits. Assumes nothing.
-use borrow.Author.Needs.{needs}
+-- Made by tools/answers from the file `answers` beside it: change that one.
 use Rattle.repeats.specs.Table.{hashOf}
+use borrow.Author.Needs.{needs}
 use Rattle.repeats.proofs.hash.Statement.{statement}
 use Rattle.repeats.proofs.hash.Tie as tie
 

@@ -1,5 +1,5 @@
 -- `repeats::nested` meets its contract. The outer loop's invariant: no key passed repeats an earlier one; the inner one's: none passed is the key looked for. Assumes nothing.
-use borrow.Author.Needs.{needs}
+-- Made by tools/answers from the file `answers` beside it: change that one.
 use mathlib.Core.Path.{_≡_, _∙_, ap, sym}
 use mathlib.Core.Bool.{false}
 use Prim.Native.Nat.{ℕ, _≤_, _<_, _-_, _+_, _*_}
@@ -9,6 +9,7 @@ use Rattle.repeats.specs.Rows.{countOf, keyOf}
 use Rattle.repeats.specs.Repeat.{seenKey, repeatPlace}
 use Rattle.repeats.proofs.Places.{spot-in, key-parts}
 use Rattle.repeats.proofs.Laws.{seen-start, seen-more, seen-hit, repeat-start, repeat-next, repeat-here}
+use borrow.Author.Needs.{needs}
 use Rattle.repeats.proofs.nested.Statement.{statement}
 use Rattle.repeats.proofs.nested.Tie as tie
 
@@ -43,12 +44,7 @@ get16-requires : tie.Need-get16-requires Inv-loop μ-loop Inv-search μ-search
 get16-requires c κs = omega (arith, spot-in (c .before .before .before .before .before .before .args .b .now) (c .before .before .before .before .before .before .args .sp) (c .before .before .before .search .i) (c .before .before .before .before .before .before .pre) (omega arith))
 
 loop-holds : tie.Need-loop-holds Inv-loop μ-loop Inv-search μ-search
-loop-holds c = (
-  search needs,
-  search needs,
-  key-parts (c .before .before .before .before .before .before .before .args .b .now) (c .before .before .before .before .before .before .before .args .sp) (c .before .before .before .before .search .i) (c .before .before .spot .result) (c .before .get32 .result) (c .get16 .result) (c .before .before .spot .ensures) (c .before .get32 .ensures) (c .get16 .ensures),
-  seen-start (keyOf (c .before .before .before .before .before .before .before .args .b .now) (c .before .before .before .before .before .before .before .args .sp)) (keyOf (c .before .before .before .before .before .before .before .args .b .now) (c .before .before .before .before .before .before .before .args .sp) (c .before .before .before .before .search .i)),
-)
+loop-holds c = (search needs, search needs, key-parts (c .before .before .before .before .before .before .before .args .b .now) (c .before .before .before .before .before .before .before .args .sp) (c .before .before .before .before .search .i) (c .before .before .spot .result) (c .before .get32 .result) (c .get16 .result) (c .before .before .spot .ensures) (c .before .get32 .ensures) (c .get16 .ensures), seen-start (keyOf (c .before .before .before .before .before .before .before .args .b .now) (c .before .before .before .before .before .before .before .args .sp)) (keyOf (c .before .before .before .before .before .before .before .args .b .now) (c .before .before .before .before .before .before .before .args .sp) (c .before .before .before .before .search .i)))
 
 same-requires : tie.Need-same-requires Inv-loop μ-loop Inv-search μ-search
 same-requires c κs = search needs
@@ -60,13 +56,7 @@ loop-less : tie.Need-loop-less Inv-loop μ-loop Inv-search μ-search
 loop-less c = search needs
 
 loop-again : tie.Need-loop-again Inv-loop μ-loop Inv-search μ-search
-loop-again c = (
-  search needs,
-  search needs,
-  (c .before .before .before .loop .inv .2),
-  seen-more (keyOf (c .before .before .before .before .before .before .before .before .before .before .before .args .b .now) (c .before .before .before .before .before .before .before .before .before .before .before .args .sp)) (keyOf (c .before .before .before .before .before .before .before .before .before .before .before .args .b .now) (c .before .before .before .before .before .before .before .before .before .before .before .args .sp) (c .before .before .before .before .before .before .before .before .search .i)) (c .before .before .before .loop .j) (c .before .before .before .loop .inv .3)
-      (λ e. eqb-false _ _ (sym (c .before .same .ensures) ∙ (c .if2 .left)) (e ∙ sym (c .before .before .before .loop .inv .2))),
-)
+loop-again c = (search needs, search needs, c .before .before .before .loop .inv .2, seen-more (keyOf (c .before .before .before .before .before .before .before .before .before .before .before .args .b .now) (c .before .before .before .before .before .before .before .before .before .before .before .args .sp)) (keyOf (c .before .before .before .before .before .before .before .before .before .before .before .args .b .now) (c .before .before .before .before .before .before .before .before .before .before .before .args .sp) (c .before .before .before .before .before .before .before .before .search .i)) (c .before .before .before .loop .j) (c .before .before .before .loop .inv .3) (λ e. eqb-false _ _ (sym (c .before .same .ensures) ∙ c .if2 .left) (e ∙ sym (c .before .before .before .loop .inv .2))))
 
 add-i : tie.Need-add-i Inv-loop μ-loop Inv-search μ-search
 add-i c = search needs
@@ -75,25 +65,13 @@ search-less : tie.Need-search-less Inv-loop μ-loop Inv-search μ-search
 search-less c = search needs
 
 search-again : tie.Need-search-again Inv-loop μ-loop Inv-search μ-search
-search-again c =
-    let e : (c .before .before .before .before .before .before .search .i) ≡ (c .before .loop .j) = omega arith in (
-      search needs,
-      repeat-next (keyOf (c .before .before .before .before .before .before .before .before .before .args .b .now) (c .before .before .before .before .before .before .before .before .before .args .sp)) (c .before .before .before .before .before .before .search .i) (c .before .before .before .before .before .before .search .inv .1)
-          (ap (seenKey (keyOf (c .before .before .before .before .before .before .before .before .before .args .b .now) (c .before .before .before .before .before .before .before .before .before .args .sp)) (keyOf (c .before .before .before .before .before .before .before .before .before .args .b .now) (c .before .before .before .before .before .before .before .before .before .args .sp) (c .before .before .before .before .before .before .search .i))) e ∙ (c .before .loop .inv .3)),
-    )
+search-again c = let e : (c .before .before .before .before .before .before .search .i) ≡ (c .before .loop .j) = omega arith in (search needs, repeat-next (keyOf (c .before .before .before .before .before .before .before .before .before .args .b .now) (c .before .before .before .before .before .before .before .before .before .args .sp)) (c .before .before .before .before .before .before .search .i) (c .before .before .before .before .before .before .search .inv .1) (ap (seenKey (keyOf (c .before .before .before .before .before .before .before .before .before .args .b .now) (c .before .before .before .before .before .before .before .before .before .args .sp)) (keyOf (c .before .before .before .before .before .before .before .before .before .args .b .now) (c .before .before .before .before .before .before .before .before .before .args .sp) (c .before .before .before .before .before .before .search .i))) e ∙ c .before .loop .inv .3))
 
 returns : tie.Need-returns Inv-loop μ-loop Inv-search μ-search
-returns c =
-    let e : (c .before .search .i) ≡ (c .before .before .count .result) = omega arith in
-    let f : (c .before .search .i) ≡ countOf (c .before .before .before .before .args .sp) = omega arith in
-    sym e ∙ sym (c .before .search .inv .1) ∙ ap (repeatPlace (keyOf (c .before .before .before .before .args .b .now) (c .before .before .before .before .args .sp))) f
+returns c = let e : (c .before .search .i) ≡ (c .before .before .count .result) = omega arith in let f : (c .before .search .i) ≡ countOf (c .before .before .before .before .args .sp) = omega arith in sym e ∙ sym (c .before .search .inv .1) ∙ ap (repeatPlace (keyOf (c .before .before .before .before .args .b .now) (c .before .before .before .before .args .sp))) f
 
 returns-2 : tie.Need-returns-2 Inv-loop μ-loop Inv-search μ-search
-returns-2 c =
-    sym
-    (repeat-here (keyOf (c .before .before .before .before .before .before .before .before .before .before .before .args .b .now) (c .before .before .before .before .before .before .before .before .before .before .before .args .sp)) (countOf (c .before .before .before .before .before .before .before .before .before .before .before .args .sp)) (c .before .before .before .before .before .before .before .before .search .i) (omega arith) (c .before .before .before .before .before .before .before .before .search .inv .1)
-    (seen-hit (keyOf (c .before .before .before .before .before .before .before .before .before .before .before .args .b .now) (c .before .before .before .before .before .before .before .before .before .before .before .args .sp)) (keyOf (c .before .before .before .before .before .before .before .before .before .before .before .args .b .now) (c .before .before .before .before .before .before .before .before .before .before .before .args .sp) (c .before .before .before .before .before .before .before .before .search .i)) (c .before .before .before .loop .j) (c .before .before .before .before .before .before .before .before .search .i) (omega arith)
-    (eqb-true _ _ (sym (c .before .same .ensures) ∙ (c .if2 .taken)) ∙ (c .before .before .before .loop .inv .2))))
+returns-2 c = sym (repeat-here (keyOf (c .before .before .before .before .before .before .before .before .before .before .before .args .b .now) (c .before .before .before .before .before .before .before .before .before .before .before .args .sp)) (countOf (c .before .before .before .before .before .before .before .before .before .before .before .args .sp)) (c .before .before .before .before .before .before .before .before .search .i) (omega arith) (c .before .before .before .before .before .before .before .before .search .inv .1) (seen-hit (keyOf (c .before .before .before .before .before .before .before .before .before .before .before .args .b .now) (c .before .before .before .before .before .before .before .before .before .before .before .args .sp)) (keyOf (c .before .before .before .before .before .before .before .before .before .before .before .args .b .now) (c .before .before .before .before .before .before .before .before .before .before .before .args .sp) (c .before .before .before .before .before .before .before .before .search .i)) (c .before .before .before .loop .j) (c .before .before .before .before .before .before .before .before .search .i) (omega arith) (eqb-true _ _ (sym (c .before .same .ensures) ∙ c .if2 .taken) ∙ c .before .before .before .loop .inv .2)))
 
 pub nested-spec : {M : Type 1} → statement M
 nested-spec =

@@ -1,6 +1,7 @@
 -- `repeats::none_repeats` meets its contract. Assumes nothing.
-use borrow.Author.Needs.{needs}
+-- Made by tools/answers from the file `answers` beside it: change that one.
 use Rattle.repeats.proofs.Laws.{shown-distinct, placed-test}
+use borrow.Author.Needs.{needs}
 use Rattle.repeats.proofs.none_repeats.Statement.{statement}
 use Rattle.repeats.proofs.none_repeats.Tie as tie
 

@@ -1,10 +1,11 @@
 -- `repeats::put` meets its contract. The slot at which the path of the key ends is free, so what is stored there is found. Assumes nothing.
-use borrow.Author.Needs.{needs}
+-- Made by tools/answers from the file `answers` beside it: change that one.
 use mathlib.Core.Path.{_≡_}
 use Prim.Native.Nat.{ℕ}
 use native.Mathlib.Omega.{arith}
 use Rattle.repeats.specs.Rows.{countOf, keyOf}
 use Rattle.repeats.proofs.Table.{went}
+use borrow.Author.Needs.{needs}
 use Rattle.repeats.proofs.put.Statement.{statement}
 use Rattle.repeats.proofs.put.Tie as tie
 
@@ -51,7 +52,7 @@ same-length-3 : tie.Need-same-length-3
 same-length-3 c = search needs
 
 returns-3 : tie.Need-returns-3
-returns-3 c = λ _. went (keyOf (c .before .before .before .before .before .before .before .before .before .before .args .b .now) (c .before .before .before .before .before .before .before .before .before .before .args .sp)) (countOf (c .before .before .before .before .before .before .before .before .before .before .args .sp)) (c .before .before .before .before .before .before .before .before .before .before .args .table .now) (c .before .before .before .before .before .before .before .before .before .before .args .i) (c .before .before .before .before .before .before .before .key .result) (c .before .before .before .before .before .path-end .result) ((c .before .before .before .before .before .before .before .before .before .before .pre) .1) (c .before .before .before .before .before .before .before .key .ensures) (c .before .before .before .before .before .path-end .ensures) (omega arith) (omega arith)
+returns-3 c = λ _. went (keyOf (c .before .before .before .before .before .before .before .before .before .before .args .b .now) (c .before .before .before .before .before .before .before .before .before .before .args .sp)) (countOf (c .before .before .before .before .before .before .before .before .before .before .args .sp)) (c .before .before .before .before .before .before .before .before .before .before .args .table .now) (c .before .before .before .before .before .before .before .before .before .before .args .i) (c .before .before .before .before .before .before .before .key .result) (c .before .before .before .before .before .path-end .result) (c .before .before .before .before .before .before .before .before .before .before .pre .1) (c .before .before .before .before .before .before .before .key .ensures) (c .before .before .before .before .before .path-end .ensures) (omega arith) (omega arith)
 
 pub put-spec : {M : Type 1} → statement M
 put-spec =

@@ -1,10 +1,11 @@
 -- `repeats::slot` meets its contract. It is a share of the slots that leaves room for a path. Assumes nothing.
-use borrow.Author.Needs.{needs}
+-- Made by tools/answers from the file `answers` beside it: change that one.
 use Prim.Native.Nat.{ℕ, _*_, _/_, _-_, _≤_, _<_}
 use mathlib.Core.Path.{ap}
 use native.Mathlib.Nat.{mul-le-mul-left, mul-le-mul-right}
 use native.Mathlib.Omega.{arith}
 use Rattle.repeats.specs.Table.{slotOf}
+use borrow.Author.Needs.{needs}
 use Rattle.repeats.proofs.slot.Statement.{statement}
 use Rattle.repeats.proofs.slot.Tie as tie
 
@@ -21,13 +22,11 @@ sub-result : tie.Need-sub-result
 sub-result c = search needs
 
 mul-result : tie.Need-mul-result
-mul-result c =
-    let k : (c .before .args .size) - 64 ≤ 65536 = omega arith in
-    omega (arith, mul-le-mul-left (c .hash .result) k)
+mul-result c = let k : (c .before .args .size) - 64 ≤ 65536 = omega arith in omega (arith, mul-le-mul-left (c .hash .result) k)
 
 returns : tie.Need-returns
 unfolding slotOf
-returns c = (ap (λ (h : ℕ). h * ((c .before .args .size) - 64) / 4294967296) ((c .hash .ensures) .0), omega (arith, share (c .hash .result) ((c .before .args .size) - 64) ((c .hash .ensures) .1)))
+returns c = (ap (λ (h : ℕ). h * (c .before .args .size - 64) / 4294967296) (c .hash .ensures .0), omega (arith, share (c .hash .result) (c .before .args .size - 64) (c .hash .ensures .1)))
 
 pub slot-spec : {M : Type 1} → statement M
 slot-spec = tie.close (tie.spec hash-requires sub-result mul-result returns)

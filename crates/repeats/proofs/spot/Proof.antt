@@ -1,4 +1,5 @@
 -- `repeats::spot` meets its contract. Run by run; nothing wraps, since where the key stands fits. Assumes nothing.
+-- Made by tools/answers from the file `answers` beside it: change that one.
 use native.Mathlib.Omega.{arith}
 use Rattle.repeats.proofs.Places.{spot-first, spot-second, spot-third}
 use Rattle.repeats.proofs.spot.Statement.{statement}

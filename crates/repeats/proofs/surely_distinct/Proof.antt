@@ -1,4 +1,5 @@
 -- `repeats::surely_distinct` meets its contract. Assumes nothing.
+-- Made by tools/answers from the file `answers` beside it: change that one.
 use borrow.Author.Needs.{needs}
 use Rattle.repeats.proofs.surely_distinct.Statement.{statement}
 use Rattle.repeats.proofs.surely_distinct.Tie as tie

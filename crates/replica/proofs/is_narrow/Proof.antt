@@ -1,6 +1,6 @@
 -- `replica::is_narrow` meets its contract. Assumes nothing.
+-- Made by tools/answers from the file `answers` beside it: change that one.
 use Rattle.replica.proofs.Face.{narrow-is}
-use borrow.Author.Needs.{needs}
 use Rattle.replica.proofs.is_narrow.Statement.{statement}
 use Rattle.replica.proofs.is_narrow.Tie as tie
 

@@ -1,4 +1,5 @@
 -- `replica::jallumere_good` meets its contract. Assumes nothing.
+-- Made by tools/answers from the file `answers` beside it: change that one.
 use Rattle.replica.proofs.Face.{good-zero, good-one}
 use mathlib.Core.Path.{refl}
 use borrow.Author.Needs.{needs}

@@ -1,6 +1,7 @@
 -- `replica::jallumere_read` meets its contract. Assumes nothing.
+-- Made by tools/answers from the file `answers` beside it: change that one.
 use mathlib.Core.Path.{sym, ap, _∙_}
-use Rattle.rules.specs.Read.{answerOf}
+use Rattle.rules.specs.Wire.{answerOf}
 use borrow.Author.Needs.{needs}
 use Rattle.replica.proofs.jallumere_read.Statement.{statement}
 use Rattle.replica.proofs.jallumere_read.Tie as tie

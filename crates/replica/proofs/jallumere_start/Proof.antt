@@ -1,4 +1,5 @@
 -- `replica::jallumere_start` meets its contract. Assumes nothing.
+-- Made by tools/answers from the file `answers` beside it: change that one.
 use Rattle.replica.proofs.Face.{gives}
 use borrow.Author.Needs.{needs}
 use Rattle.replica.proofs.jallumere_start.Statement.{statement}

@@ -1,4 +1,5 @@
 -- `replica::jallumere_step` meets its contract. Assumes nothing.
+-- Made by tools/answers from the file `answers` beside it: change that one.
 use Rattle.replica.proofs.Face.{gives}
 use borrow.Author.Needs.{needs}
 use Rattle.replica.proofs.jallumere_step.Statement.{statement}
@@ -20,5 +21,4 @@ returns : tie.Need-returns
 returns c = search gives
 
 pub jallumere-step-spec : {M : Type 1} → statement M
-jallumere-step-spec =
-    tie.close (tie.spec step-requires code-requires same-length same-length-2 returns)
+jallumere-step-spec = tie.close (tie.spec step-requires code-requires same-length same-length-2 returns)

@@ -1,5 +1,6 @@
 -- `replica::jallumere_write` meets its contract. Assumes nothing.
-use Rattle.replica.proofs.Face.{narrow-fits, wide-sized, wide-wrong, puts}
+-- Made by tools/answers from the file `answers` beside it: change that one.
+use Rattle.replica.proofs.Face.{narrow-fits, too-wide, miscounted, puts}
 use borrow.Author.Needs.{needs}
 use Rattle.replica.proofs.jallumere_write.Statement.{statement}
 use Rattle.replica.proofs.jallumere_write.Tie as tie
@@ -7,14 +8,23 @@ use Rattle.replica.proofs.jallumere_write.Tie as tie
 is-narrow-requires : tie.Need-is-narrow-requires
 is-narrow-requires c κs = search needs
 
-sizes-fit-requires : tie.Need-sizes-fit-requires
-sizes-fit-requires c κs = search needs
+unfit-requires : tie.Need-unfit-requires
+unfit-requires c κs = search needs
 
 returns : tie.Need-returns
-returns c = search wide-sized
+returns c = search too-wide
 
-returns-2 : tie.Need-returns-2
-returns-2 c = search wide-wrong
+cast-t17 : tie.Need-cast-t17
+cast-t17 c = search (needs, narrow-fits _ _ (c .before .is-narrow .ensures) (c .if1 .left))
+
+cast-t18 : tie.Need-cast-t18
+cast-t18 c = search (needs, narrow-fits _ _ (c .before .is-narrow .ensures) (c .if1 .left))
+
+cast-t19 : tie.Need-cast-t19
+cast-t19 c = search (needs, narrow-fits _ _ (c .before .is-narrow .ensures) (c .if1 .left))
+
+cast-t20 : tie.Need-cast-t20
+cast-t20 c = search (needs, narrow-fits _ _ (c .before .is-narrow .ensures) (c .if1 .left))
 
 cast-t21 : tie.Need-cast-t21
 cast-t21 c = search (needs, narrow-fits _ _ (c .before .is-narrow .ensures) (c .if1 .left))
@@ -22,17 +32,14 @@ cast-t21 c = search (needs, narrow-fits _ _ (c .before .is-narrow .ensures) (c .
 cast-t22 : tie.Need-cast-t22
 cast-t22 c = search (needs, narrow-fits _ _ (c .before .is-narrow .ensures) (c .if1 .left))
 
-cast-t23 : tie.Need-cast-t23
-cast-t23 c = search (needs, narrow-fits _ _ (c .before .is-narrow .ensures) (c .if1 .left))
+numbers-in-requires : tie.Need-numbers-in-requires
+numbers-in-requires c κs = search needs
 
-cast-t24 : tie.Need-cast-t24
-cast-t24 c = search (needs, narrow-fits _ _ (c .before .is-narrow .ensures) (c .if1 .left))
+unfit-requires-2 : tie.Need-unfit-requires-2
+unfit-requires-2 c κs = search needs
 
-cast-t25 : tie.Need-cast-t25
-cast-t25 c = search (needs, narrow-fits _ _ (c .before .is-narrow .ensures) (c .if1 .left))
-
-cast-t26 : tie.Need-cast-t26
-cast-t26 c = search (needs, narrow-fits _ _ (c .before .is-narrow .ensures) (c .if1 .left))
+returns-2 : tie.Need-returns-2
+returns-2 c = miscounted _ _ _ _ _ _ _ _ (c .before .before .before .before .is-narrow .ensures) _ _ (c .before .before .before .if1 .left) (c .before .before .numbers-in .ensures .0) (c .before .if2 .taken) (c .unfit2 .ensures)
 
 case-with-requires : tie.Need-case-with-requires
 case-with-requires c κs = search needs
@@ -47,22 +54,24 @@ same-length : tie.Need-same-length
 same-length c = search needs
 
 returns-3 : tie.Need-returns-3
-returns-3 c = puts _ _ _ _ _ _ _ _ _ _ (c .before .before .before .before .before .before .before .is-narrow .ensures) _ (c .before .before .before .write .result) _ _ (c .before .before .before .before .before .before .if1 .left) (c .before .before .before .before .before .case-with .ensures) (c .before .before .before .write .ensures) (c .code .ensures)
+returns-3 c = puts _ _ _ _ _ _ _ _ (c .before .before .before .before .before .before .before .before .before .is-narrow .ensures) _ (c .before .before .before .write .result) _ _ _ (c .before .before .before .before .before .before .before .before .if1 .left) (c .before .before .before .before .before .before .before .numbers-in .ensures .0) (c .before .before .before .before .before .before .if2 .left) (c .before .before .before .before .before .case-with .ensures) (c .before .before .before .write .ensures) (c .code .ensures)
 
 pub jallumere-write-spec : {M : Type 1} → statement M
 jallumere-write-spec =
     tie.close
     (tie.spec
     is-narrow-requires
-    sizes-fit-requires
+    unfit-requires
     returns
-    returns-2
+    cast-t17
+    cast-t18
+    cast-t19
+    cast-t20
     cast-t21
     cast-t22
-    cast-t23
-    cast-t24
-    cast-t25
-    cast-t26
+    numbers-in-requires
+    unfit-requires-2
+    returns-2
     case-with-requires
     write-requires
     code-requires

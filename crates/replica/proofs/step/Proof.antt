@@ -1,4 +1,5 @@
 -- `replica::step` meets its contract: one law for each way through it. Assumes nothing.
+-- Made by tools/answers from the file `answers` beside it: change that one.
 use Rattle.replica.proofs.Ways.{not-good, good-stands, by-refusal, is-ready, by-handler}
 use borrow.Author.Needs.{needs}
 use Rattle.replica.proofs.step.Statement.{statement}

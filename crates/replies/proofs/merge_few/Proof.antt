@@ -1,9 +1,10 @@
 -- `replies::merge_few` meets its contract. Assumes nothing.
+-- Made by tools/answers from the file `answers` beside it: change that one.
+use mathlib.Core.Path.{refl}
+use Rattle.views.proofs.Aside.{aside-long}
 use borrow.Author.Needs.{needs}
 use Rattle.replies.proofs.merge_few.Statement.{statement}
 use Rattle.replies.proofs.merge_few.Tie as tie
-use mathlib.Core.Path.{refl}
-use Rattle.views.proofs.Aside.{aside-long}
 
 mul-end : tie.Need-mul-end
 mul-end c = search needs
@@ -21,7 +22,7 @@ part-scratch-end : tie.Need-part-scratch-end
 part-scratch-end c = search needs
 
 start-merged-requires : tie.Need-start-merged-requires
-start-merged-requires c κs = ((c .before .before .before .before .before .before .pre .0), (c .before .before .before .before .before .before .pre .1), (c .before .before .before .before .before .before .pre .2), aside-long (c .before .before .before .before .before .before .args .shape .c) 256 6148 (c .before .before .before .before .before .before .pre .3) refl)
+start-merged-requires c κs = (c .before .before .before .before .before .before .pre .0, c .before .before .before .before .before .before .pre .1, c .before .before .before .before .before .before .pre .2, aside-long (c .before .before .before .before .before .before .args .shape .c) 256 6148 (c .before .before .before .before .before .before .pre .3) refl)
 
 same-length : tie.Need-same-length
 same-length c = search needs

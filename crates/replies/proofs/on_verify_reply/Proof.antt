@@ -1,7 +1,5 @@
 -- `replies::on_verify_reply` meets its contract: one law for each way through it. Assumes nothing.
-use borrow.Author.Needs.{needs}
-use Rattle.replies.proofs.on_verify_reply.Statement.{statement}
-use Rattle.replies.proofs.on_verify_reply.Tie as tie
+-- Made by tools/answers from the file `answers` beside it: change that one.
 use mathlib.Core.Path.{refl}
 use native.Mathlib.Omega.{arith}
 use Rattle.rules.specs.Step.{onVerifyReply}
@@ -9,6 +7,9 @@ use Rattle.handler.proofs.Closes.{handled-other}
 use Rattle.handler.proofs.OtherKind.{not-tag}
 use Rattle.replies.proofs.Kept.{counted-few}
 use Rattle.replies.proofs.Ways.{from-below, reply-views, replied, reply-counted, reply-stands, reply-past, reply-kept, reply-last}
+use borrow.Author.Needs.{needs}
+use Rattle.replies.proofs.on_verify_reply.Statement.{statement}
+use Rattle.replies.proofs.on_verify_reply.Tie as tie
 
 enum-known-m : tie.Need-enum-known-m
 enum-known-m c = search needs
@@ -47,7 +48,7 @@ held-replies-requires : tie.Need-held-replies-requires
 held-replies-requires c κs = search needs
 
 add-if3 : tie.Need-add-if3
-add-if3 c = let k = counted-few _ _ _ (c .held-replies .ensures) in omega (arith, (c .before .before .before .before .before .before .before .before .before .before .before .before .before .before .before .pre .stands .fits .few))
+add-if3 c = let k = counted-few _ _ _ (c .held-replies .ensures) in omega (arith, c .before .before .before .before .before .before .before .before .before .before .before .before .before .before .before .pre .stands .fits .few)
 
 sub-if3 : tie.Need-sub-if3
 sub-if3 c = search needs
@@ -56,7 +57,7 @@ add-keep-reply : tie.Need-add-keep-reply
 add-keep-reply c = search needs
 
 keep-reply-requires : tie.Need-keep-reply-requires
-keep-reply-requires c κs = (search needs, from-below _ _ _ (c .before .before .before .before .before .before .before .before .before .before .before .before .before .before .before .before .before .before .args .out .now) _ _ (c .before .before .before .before .before .before .before .before .before .before .before .before .before .before .before .before .before .before .pre) (c .before .before .before .before .before .before .before .before .before .before .before .before .before .m .given .1), (c .before .before .before .before .before .if2 .left), reply-stands _ _ _ (c .before .before .before .before .before .before .before .before .before .before .before .before .before .before .before .before .before .before .args .out .now) _ _ (c .before .before .before .before .before .before .before .before .before .before .before .before .before .before .before .before .before .before .pre) (c .before .before .before .before .before .before .before .before .before .before .before .before .before .m .given .1) _ (c .before .before .before .before .before .before .before .entries-at .ensures .0) _ (c .before .before .before .before .before .before .get32 .ensures))
+keep-reply-requires c κs = (search needs, from-below _ _ _ (c .before .before .before .before .before .before .before .before .before .before .before .before .before .before .before .before .before .before .args .out .now) _ _ (c .before .before .before .before .before .before .before .before .before .before .before .before .before .before .before .before .before .before .pre) (c .before .before .before .before .before .before .before .before .before .before .before .before .before .m .given .1), c .before .before .before .before .before .if2 .left, reply-stands _ _ _ (c .before .before .before .before .before .before .before .before .before .before .before .before .before .before .before .before .before .before .args .out .now) _ _ (c .before .before .before .before .before .before .before .before .before .before .before .before .before .before .before .before .before .before .pre) (c .before .before .before .before .before .before .before .before .before .before .before .before .before .m .given .1) _ (c .before .before .before .before .before .before .before .entries-at .ensures .0) _ (c .before .before .before .before .before .before .get32 .ensures))
 
 same-length-3 : tie.Need-same-length-3
 same-length-3 c = search needs
@@ -68,7 +69,7 @@ add-merge-and-start : tie.Need-add-merge-and-start
 add-merge-and-start c = search needs
 
 merge-and-start-requires : tie.Need-merge-and-start-requires
-merge-and-start-requires c κs = ((c .before .before .before .before .before .before .before .before .before .before .before .before .before .before .before .before .before .before .before .pre .stands), reply-views _ _ _ (c .before .before .before .before .before .before .before .before .before .before .before .before .before .before .before .before .before .before .before .args .out .now) _ _ (c .before .before .before .before .before .before .before .before .before .before .before .before .before .before .before .before .before .before .before .pre) (c .before .before .before .before .before .before .before .before .before .before .before .before .before .before .m .given .1), reply-stands _ _ _ (c .before .before .before .before .before .before .before .before .before .before .before .before .before .before .before .before .before .before .before .args .out .now) _ _ (c .before .before .before .before .before .before .before .before .before .before .before .before .before .before .before .before .before .before .before .pre) (c .before .before .before .before .before .before .before .before .before .before .before .before .before .before .m .given .1) _ (c .before .before .before .before .before .before .before .before .entries-at .ensures .0) _ (c .before .before .before .before .before .before .before .get32 .ensures))
+merge-and-start-requires c κs = (c .before .before .before .before .before .before .before .before .before .before .before .before .before .before .before .before .before .before .before .pre .stands, reply-views _ _ _ (c .before .before .before .before .before .before .before .before .before .before .before .before .before .before .before .before .before .before .before .args .out .now) _ _ (c .before .before .before .before .before .before .before .before .before .before .before .before .before .before .before .before .before .before .before .pre) (c .before .before .before .before .before .before .before .before .before .before .before .before .before .before .m .given .1), reply-stands _ _ _ (c .before .before .before .before .before .before .before .before .before .before .before .before .before .before .before .before .before .before .before .args .out .now) _ _ (c .before .before .before .before .before .before .before .before .before .before .before .before .before .before .before .before .before .before .before .pre) (c .before .before .before .before .before .before .before .before .before .before .before .before .before .before .m .given .1) _ (c .before .before .before .before .before .before .before .before .entries-at .ensures .0) _ (c .before .before .before .before .before .before .before .get32 .ensures))
 
 same-length-4 : tie.Need-same-length-4
 same-length-4 c = search needs

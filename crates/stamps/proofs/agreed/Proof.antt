@@ -1,14 +1,15 @@
 -- `stamps::agreed` meets its contract. Assumes nothing.
+-- Made by tools/answers from the file `answers` beside it: change that one.
 use native.Mathlib.Omega.{arith}
-use Rattle.stamps.proofs.agreed.Statement.{statement}
-use Rattle.stamps.proofs.agreed.Tie as tie
 use Rattle.rules.specs.State.{Note, agreed}
 use Rattle.notes.proofs.Notes.{is-notes}
 use mathlib.Core.List.{List}
 use Rattle.stamps.proofs.Midway.{notes-here, notes-read}
+use Rattle.stamps.proofs.agreed.Statement.{statement}
+use Rattle.stamps.proofs.agreed.Tie as tie
 
 places-of-requires : tie.Need-places-of-requires
-places-of-requires c κs = (c .before .pre .fits)
+places-of-requires c κs = c .before .pre .fits
 
 sub-agreed : tie.Need-sub-agreed
 sub-agreed c = omega arith
@@ -26,4 +27,12 @@ returns : tie.Need-returns
 returns c = notes-read (c .before .before .before .before .pre) (λ (xs : List Note). agreed (c .before .before .before .before .args .shape) xs (c .before .before .before .before .args .e)) _ _ _ (c .before .before .places-of .ensures .notes) (c .before .before .places-of .ensures .votes) (c .agreed .ensures)
 
 pub agreed-spec : {M : Type 1} → statement M
-agreed-spec = tie.close (tie.spec places-of-requires sub-agreed part-agreed-start part-agreed-end agreed-requires returns)
+agreed-spec =
+    tie.close
+    (tie.spec
+    places-of-requires
+    sub-agreed
+    part-agreed-start
+    part-agreed-end
+    agreed-requires
+    returns)

@@ -1,15 +1,16 @@
 -- `stamps::last_stamp` meets its contract. Assumes nothing.
+-- Made by tools/answers from the file `answers` beside it: change that one.
 use native.Mathlib.Omega.{arith}
-use Rattle.stamps.proofs.last_stamp.Statement.{statement}
-use Rattle.stamps.proofs.last_stamp.Tie as tie
 use mathlib.Core.List.{List}
-use Rattle.rules.specs.Entry.{lastStamp}
+use Rattle.rules.specs.Log.{lastStamp}
 use Rattle.rules.specs.declared.Entry.{Entry}
 use Rattle.entries.proofs.Table.{is-table}
 use Rattle.stamps.proofs.Midway.{log-here, log-read}
+use Rattle.stamps.proofs.last_stamp.Statement.{statement}
+use Rattle.stamps.proofs.last_stamp.Tie as tie
 
 places-of-requires : tie.Need-places-of-requires
-places-of-requires c κs = (c .before .pre .fits)
+places-of-requires c κs = c .before .pre .fits
 
 sub-last-stamp : tie.Need-sub-last-stamp
 sub-last-stamp c = omega arith
@@ -27,4 +28,12 @@ returns : tie.Need-returns
 returns c = log-read (c .before .before .before .before .pre) (λ (es : List Entry). lastStamp es) _ _ _ (c .before .before .places-of .ensures .log) (c .before .before .places-of .ensures .early) (c .last-stamp .ensures)
 
 pub last-stamp-spec : {M : Type 1} → statement M
-last-stamp-spec = tie.close (tie.spec places-of-requires sub-last-stamp part-last-stamp-start part-last-stamp-end last-stamp-requires returns)
+last-stamp-spec =
+    tie.close
+    (tie.spec
+    places-of-requires
+    sub-last-stamp
+    part-last-stamp-start
+    part-last-stamp-end
+    last-stamp-requires
+    returns)

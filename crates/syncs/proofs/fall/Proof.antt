@@ -1,4 +1,5 @@
 -- `syncs::fall` meets its contract: one law for each way out. Assumes nothing.
+-- Made by tools/answers from the file `answers` beside it: change that one.
 use mathlib.Core.Bool.{true}
 use borrow.Author.Tests.{not-true, not-false}
 use Rattle.leaving.specs.Listed.{listedIn, chosen}

@@ -1,4 +1,5 @@
 -- `syncs::late_after` meets its contract. Assumes nothing.
+-- Made by tools/answers from the file `answers` beside it: change that one.
 use native.Mathlib.Omega.{arith}
 use Rattle.syncs.proofs.Buffers.{first-asked, last-asked, counted, counted-fits}
 use borrow.Author.Needs.{needs}

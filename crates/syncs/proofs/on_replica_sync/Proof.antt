@@ -1,4 +1,5 @@
 -- `syncs::on_replica_sync` meets its contract: one law for each way through it. Assumes nothing.
+-- Made by tools/answers from the file `answers` beside it: change that one.
 use mathlib.Core.Path.{refl}
 use native.Mathlib.Omega.{arith}
 use Rattle.rules.specs.Step.{onReplicaSync}

@@ -1,4 +1,5 @@
 -- `syncs::sync_buffers` meets its contract: late is left, early falls to it, and early is left. Assumes nothing.
+-- Made by tools/answers from the file `answers` beside it: change that one.
 use Rattle.syncs.proofs.Buffers.{last-asked, then-fall, then-leave, settled}
 use borrow.Author.Needs.{needs}
 use Rattle.syncs.proofs.sync_buffers.Statement.{statement}
@@ -26,9 +27,7 @@ leave-requires : tie.Need-leave-requires
 leave-requires c κs = (last-asked (c .before .before .before .before .pre .0), c .before .before .before .before .pre .2)
 
 fall-late-requires : tie.Need-fall-late-requires
-fall-late-requires c κs =
-    let w = then-fall _ _ (c .before .before .before .before .before .before .before .before .pre .0) _ (c .before .before .before .leave .ensures) (c .before .before .before .before .before .before .before .before .pre .1) in
-    (w .0, w .1, c .before .before .before .before .before .before .before .before .pre .2)
+fall-late-requires c κs = let w = then-fall _ _ (c .before .before .before .before .before .before .before .before .pre .0) _ (c .before .before .before .leave .ensures) (c .before .before .before .before .before .before .before .before .pre .1) in (w .0, w .1, c .before .before .before .before .before .before .before .before .pre .2)
 
 sub-leave-2 : tie.Need-sub-leave-2
 sub-leave-2 c = search needs

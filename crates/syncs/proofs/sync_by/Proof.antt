@@ -1,4 +1,5 @@
 -- `syncs::sync_by` meets its contract: one law for each way through it. Assumes nothing.
+-- Made by tools/answers from the file `answers` beside it: change that one.
 use native.Mathlib.Omega.{arith}
 use Rattle.syncs.proofs.Ways.{last-is, too-late, too-much, taken}
 use borrow.Author.Needs.{needs}

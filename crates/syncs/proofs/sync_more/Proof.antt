@@ -1,4 +1,5 @@
 -- `syncs::sync_more` meets its contract, by that of the function that it calls. Assumes nothing.
+-- Made by tools/answers from the file `answers` beside it: change that one.
 use borrow.Author.Needs.{needs}
 use Rattle.syncs.proofs.sync_more.Statement.{statement}
 use Rattle.syncs.proofs.sync_more.Tie as tie
@@ -21,4 +22,9 @@ returns c = c .before .before .before .before .before .sync-with .ensures
 pub sync-more-spec : {M : Type 1} → statement M
 sync-more-spec =
     tie.close
-    (tie.spec slice-aggregate-sync-with sync-with-requires same-length same-length-2 returns)
+    (tie.spec
+    slice-aggregate-sync-with
+    sync-with-requires
+    same-length
+    same-length-2
+    returns)

@@ -1,4 +1,5 @@
 -- `syncs::sync_sized` meets its contract, by those of the functions that it calls. Assumes nothing.
+-- Made by tools/answers from the file `answers` beside it: change that one.
 use borrow.Author.Needs.{needs}
 use Rattle.syncs.proofs.sync_sized.Statement.{statement}
 use Rattle.syncs.proofs.sync_sized.Tie as tie

@@ -1,4 +1,5 @@
 -- `syncs::sync_state` meets its contract: early and late, then the notes, the log and the sync point. Assumes nothing.
+-- Made by tools/answers from the file `answers` beside it: change that one.
 use Prim.Native.Nat.{_+_, _*_, _-_}
 use mathlib.Core.Path.{_≡_, sym}
 use native.Mathlib.Omega.{arith}
@@ -25,11 +26,7 @@ part-sync-buffers-end : tie.Need-part-sync-buffers-end
 part-sync-buffers-end c = search needs
 
 sync-buffers-requires : tie.Need-sync-buffers-requires
-sync-buffers-requires c κs =
-    let p = c .before .places-of in
-    let q = c .before .before .before .before .before .pre in
-    let m : p .result .notes - p .result .early ≡ 4 + 24 * (c .before .before .before .before .before .args .shape .c) + (4 + 24 * (c .before .before .before .before .before .args .shape .c)) = omega (arith, p .ensures .early, p .ensures .notes) in
-    (is-both (q .0) (listedIn (c .before .before .before .before .before .args .message .now) (c .before .before .before .before .before .args .log)) (c .before .before .before .before .before .args .last) (q .2) (p .result .early) _ (p .ensures .early) m, late-asked (q .0) (listedIn (c .before .before .before .before .before .args .message .now) (c .before .before .before .before .before .args .log)) (c .before .before .before .before .before .args .last) (q .2) (p .result .early) _ (p .ensures .early) m (q .4), q .1)
+sync-buffers-requires c κs = let p = c .before .places-of in let q = c .before .before .before .before .before .pre in let m : p .result .notes - p .result .early ≡ 4 + 24 * (c .before .before .before .before .before .args .shape .c) + (4 + 24 * (c .before .before .before .before .before .args .shape .c)) = omega (arith, p .ensures .early, p .ensures .notes) in (is-both (q .0) (listedIn (c .before .before .before .before .before .args .message .now) (c .before .before .before .before .before .args .log)) (c .before .before .before .before .before .args .last) (q .2) (p .result .early) _ (p .ensures .early) m, late-asked (q .0) (listedIn (c .before .before .before .before .before .args .message .now) (c .before .before .before .before .before .args .log)) (c .before .before .before .before .before .args .last) (q .2) (p .result .early) _ (p .ensures .early) m (q .4), q .1)
 
 sub-leave-notes : tie.Need-sub-leave-notes
 sub-leave-notes c = search needs
@@ -41,12 +38,7 @@ part-leave-notes-end : tie.Need-part-leave-notes-end
 part-leave-notes-end c = search needs
 
 leave-notes-requires : tie.Need-leave-notes-requires
-leave-notes-requires c κs =
-    let p = c .before .before .before .before .before .places-of in
-    let q = c .before .before .before .before .before .before .before .before .before .pre in
-    let m : p .result .notes - p .result .early ≡ 4 + 24 * (c .before .before .before .before .before .before .before .before .before .args .shape .c) + (4 + 24 * (c .before .before .before .before .before .before .before .before .before .args .shape .c)) = omega (arith, p .ensures .early, p .ensures .notes) in
-    let w : p .result .votes - p .result .notes ≡ 4 + noteLength (c .before .before .before .before .before .before .before .before .before .args .shape .s) * (c .before .before .before .before .before .before .before .before .before .args .shape .c) = omega (arith, p .ensures .notes, p .ensures .votes) in
-    (notes-asked (q .0) (listedIn (c .before .before .before .before .before .before .before .before .before .args .message .now) (c .before .before .before .before .before .before .before .before .before .args .log)) (c .before .before .before .before .before .before .before .before .before .args .last) (q .2) (p .result .early) _ (p .ensures .early) m _ (c .before .before .before .sync-buffers .ensures) (p .result .notes) _ (p .ensures .notes) w, q .1)
+leave-notes-requires c κs = let p = c .before .before .before .before .before .places-of in let q = c .before .before .before .before .before .before .before .before .before .pre in let m : p .result .notes - p .result .early ≡ 4 + 24 * (c .before .before .before .before .before .before .before .before .before .args .shape .c) + (4 + 24 * (c .before .before .before .before .before .before .before .before .before .args .shape .c)) = omega (arith, p .ensures .early, p .ensures .notes) in let w : p .result .votes - p .result .notes ≡ 4 + noteLength (c .before .before .before .before .before .before .before .before .before .args .shape .s) * (c .before .before .before .before .before .before .before .before .before .args .shape .c) = omega (arith, p .ensures .notes, p .ensures .votes) in (notes-asked (q .0) (listedIn (c .before .before .before .before .before .before .before .before .before .args .message .now) (c .before .before .before .before .before .before .before .before .before .args .log)) (c .before .before .before .before .before .before .before .before .before .args .last) (q .2) (p .result .early) _ (p .ensures .early) m _ (c .before .before .before .sync-buffers .ensures) (p .result .notes) _ (p .ensures .notes) w, q .1)
 
 put-table-requires : tie.Need-put-table-requires
 put-table-requires c κs = search needs
@@ -58,14 +50,7 @@ same-length : tie.Need-same-length
 same-length c = search needs
 
 returns : tie.Need-returns
-returns c =
-    let p = c .before .before .before .before .before .before .before .before .before .before .before .before .before .before .before .before .places-of in
-    let q = c .before .before .before .before .before .before .before .before .before .before .before .before .before .before .before .before .before .before .before .before .pre in
-    let a = c .before .before .before .before .before .before .before .before .before .before .before .before .before .before .before .before .before .before .before .before .args in
-    let m : p .result .notes - p .result .early ≡ 4 + 24 * (a .shape .c) + (4 + 24 * (a .shape .c)) = omega (arith, p .ensures .early, p .ensures .notes) in
-    let w : p .result .votes - p .result .notes ≡ 4 + noteLength (a .shape .s) * (a .shape .c) = omega (arith, p .ensures .notes, p .ensures .votes) in
-    let z : length (listedIn (a .message .now) (a .log)) ≡ a .log .count = length-items (entryAt (a .message .now)) 24 (a .log .at) (a .log .count) in
-    taken-over (q .0) (listedIn (a .message .now) (a .log)) (a .last) (q .2) (p .result .early) _ (p .ensures .early) m _ (c .before .before .before .before .before .before .before .before .before .before .before .before .before .before .sync-buffers .ensures) (p .result .notes) _ (p .ensures .notes) w _ _ _ _ _ (c .before .before .before .before .before .before .before .before .before .before .leave-notes .ensures) (omega (arith, q .3)) (p .ensures .log) (c .before .before .before .before .before .before .put-table .ensures) (c .before .before .put-sync .ensures) (sym z)
+returns c = let p = c .before .before .before .before .before .before .before .before .before .before .before .before .before .before .before .before .places-of in let q = c .before .before .before .before .before .before .before .before .before .before .before .before .before .before .before .before .before .before .before .before .pre in let a = c .before .before .before .before .before .before .before .before .before .before .before .before .before .before .before .before .before .before .before .before .args in let m : p .result .notes - p .result .early ≡ 4 + 24 * (a .shape .c) + (4 + 24 * (a .shape .c)) = omega (arith, p .ensures .early, p .ensures .notes) in let w : p .result .votes - p .result .notes ≡ 4 + noteLength (a .shape .s) * (a .shape .c) = omega (arith, p .ensures .notes, p .ensures .votes) in let z : length (listedIn (a .message .now) (a .log)) ≡ a .log .count = length-items (entryAt (a .message .now)) 24 (a .log .at) (a .log .count) in taken-over (q .0) (listedIn (a .message .now) (a .log)) (a .last) (q .2) (p .result .early) _ (p .ensures .early) m _ (c .before .before .before .before .before .before .before .before .before .before .before .before .before .before .sync-buffers .ensures) (p .result .notes) _ (p .ensures .notes) w _ _ _ _ _ (c .before .before .before .before .before .before .before .before .before .before .leave-notes .ensures) (omega (arith, q .3)) (p .ensures .log) (c .before .before .before .before .before .before .put-table .ensures) (c .before .before .put-sync .ensures) (sym z)
 
 pub sync-state-spec : {M : Type 1} → statement M
 sync-state-spec =

@@ -1,4 +1,5 @@
 -- `syncs::sync_with` meets its contract. Assumes nothing.
+-- Made by tools/answers from the file `answers` beside it: change that one.
 use native.Mathlib.Omega.{arith}
 use Rattle.syncs.proofs.Ways.{fill-asked, filled-in}
 use borrow.Author.Needs.{needs}

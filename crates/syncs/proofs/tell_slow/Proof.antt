@@ -1,4 +1,5 @@
 -- `syncs::tell_slow` meets its contract. Assumes nothing.
+-- Made by tools/answers from the file `answers` beside it: change that one.
 use native.Mathlib.Omega.{arith}
 use Rattle.syncs.proofs.Slow.{tell-asked, slow-told}
 use borrow.Author.Needs.{needs}
@@ -36,7 +37,7 @@ same-length : tie.Need-same-length
 same-length c = search needs
 
 returns : tie.Need-returns
-returns c = slow-told (c .before .before .before .before .before .before .before .before .before .before .pre .0) (c .before .before .before .before .before .before .before .before .before .before .args .i) (c .before .before .before .before .before .before .before .before .before .before .pre .1) (λ j. c .before .before .before .before .before .before .before .shared-slice-known2 .given j .fits) _ _ _ _ _ (c .before .before .before .before .before .headed .ensures) (c .before .before .tell .ensures .0) (c .before .before .tell .ensures .1)
+returns c = slow-told (c .before .before .before .before .before .before .before .before .before .before .pre .0) (c .before .before .before .before .before .before .before .before .before .before .args .i) (c .before .before .before .before .before .before .before .before .before .before .pre .1) (λ j. (c .before .before .before .before .before .before .before .shared-slice-known2 .given) j .fits) _ _ _ _ _ (c .before .before .before .before .before .headed .ensures) (c .before .before .tell .ensures .0) (c .before .before .tell .ensures .1)
 
 pub tell-slow-spec : {M : Type 1} → statement M
 tell-slow-spec =

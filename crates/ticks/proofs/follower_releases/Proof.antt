@@ -1,10 +1,11 @@
 -- `ticks::follower_releases` meets its contract: one law for each way through it. Assumes nothing.
-use borrow.Author.Needs.{needs}
-use Rattle.ticks.proofs.follower_releases.Statement.{statement}
-use Rattle.ticks.proofs.follower_releases.Tie as tie
+-- Made by tools/answers from the file `answers` beside it: change that one.
 use Rattle.ticks.proofs.Telling.{status-long}
 use native.Mathlib.Omega.{arith}
 use Rattle.ticks.proofs.Ways.{follower-shut, follower-tight, follower-asks, follower-tells, follower-done}
+use borrow.Author.Needs.{needs}
+use Rattle.ticks.proofs.follower_releases.Statement.{statement}
+use Rattle.ticks.proofs.follower_releases.Tie as tie
 
 log-length-requires : tie.Need-log-length-requires
 log-length-requires c κs = search needs
@@ -22,13 +23,13 @@ fitting-requires : tie.Need-fitting-requires
 fitting-requires c κs = search needs
 
 replies-length-requires : tie.Need-replies-length-requires
-replies-length-requires c κs = ((c .before .before .before .before .before .before .before .before .pre .fits .few), omega (arith, (c .fitting .ensures), (c .before .before .before .before .before .before .before .before .pre .fits .small)))
+replies-length-requires c κs = (c .before .before .before .before .before .before .before .before .pre .fits .few, omega (arith, c .fitting .ensures, c .before .before .before .before .before .before .before .before .pre .fits .small))
 
 length-for-requires : tie.Need-length-for-requires
-length-for-requires c κs = ((c .before .before .before .before .before .before .before .before .before .pre .fits .few), omega arith)
+length-for-requires c κs = (c .before .before .before .before .before .before .before .before .before .pre .fits .few, omega arith)
 
 add-if2 : tie.Need-add-if2
-add-if2 c = omega (arith, (c .before .replies-length .ensures .1), (c .length-for .ensures), status-long (c .before .before .before .before .before .before .before .before .before .before .args .shape .s), (c .before .before .before .before .before .before .before .before .before .before .pre .fits .few))
+add-if2 c = omega (arith, c .before .replies-length .ensures .1, c .length-for .ensures, status-long (c .before .before .before .before .before .before .before .before .before .before .args .shape .s), c .before .before .before .before .before .before .before .before .before .before .pre .fits .few)
 
 same-length-2 : tie.Need-same-length-2
 same-length-2 c = search needs
@@ -46,7 +47,7 @@ get-sync-requires : tie.Need-get-sync-requires
 get-sync-requires c κs = search needs
 
 settle-requires : tie.Need-settle-requires
-settle-requires c κs = (c .before .before .before .before .before .before .before .before .before .before .before .before .release .ensures .reached .midway)
+settle-requires c κs = c .before .before .before .before .before .before .before .before .before .before .before .before .release .ensures .reached .midway
 
 same-length-3 : tie.Need-same-length-3
 same-length-3 c = search needs

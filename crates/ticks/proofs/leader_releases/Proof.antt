@@ -1,11 +1,12 @@
 -- `ticks::leader_releases` meets its contract: one law for each way through it. Assumes nothing.
-use borrow.Author.Needs.{needs}
-use Rattle.ticks.proofs.leader_releases.Statement.{statement}
-use Rattle.ticks.proofs.leader_releases.Tie as tie
+-- Made by tools/answers from the file `answers` beside it: change that one.
 use Rattle.ticks.proofs.Telling.{log-long}
 use Prim.Native.Nat.{_+_}
 use native.Mathlib.Omega.{arith}
 use Rattle.ticks.proofs.Ways.{leader-empty, leader-shut, leader-tight, leader-asks, leader-log, leader-done}
+use borrow.Author.Needs.{needs}
+use Rattle.ticks.proofs.leader_releases.Statement.{statement}
+use Rattle.ticks.proofs.leader_releases.Tie as tie
 
 log-length-requires : tie.Need-log-length-requires
 log-length-requires c κs = search needs
@@ -17,7 +18,7 @@ run-length-requires : tie.Need-run-length-requires
 run-length-requires c κs = search needs
 
 leader-waits-requires : tie.Need-leader-waits-requires
-leader-waits-requires c κs = ((c .before .before .before .before .before .before .before .before .before .before .before .pre), (c .before .before .before .before .before .before .before .log-length .ensures .0), (c .before .before .before .before .before .due-count .ensures))
+leader-waits-requires c κs = (c .before .before .before .before .before .before .before .before .before .before .before .pre, c .before .before .before .before .before .before .before .log-length .ensures .0, c .before .before .before .before .before .due-count .ensures)
 
 same-length : tie.Need-same-length
 same-length c = search needs
@@ -38,16 +39,16 @@ fitting-requires : tie.Need-fitting-requires
 fitting-requires c κs = search needs
 
 replies-length-requires : tie.Need-replies-length-requires
-replies-length-requires c κs = ((c .before .before .before .before .before .before .before .before .before .before .before .pre .fits .few), omega (arith, (c .fitting .ensures), (c .before .before .before .before .before .before .before .before .before .before .before .pre .fits .small)))
+replies-length-requires c κs = (c .before .before .before .before .before .before .before .before .before .before .before .pre .fits .few, omega (arith, c .fitting .ensures, c .before .before .before .before .before .before .before .before .before .before .before .pre .fits .small))
 
 add-length-for : tie.Need-add-length-for
-add-length-for c = omega (arith, (c .before .fitting .ensures), (c .before .before .before .before .before .before .before .before .before .before .before .before .pre .fits .small), (c .before .before .before .before .before .before .before .before .log-length .ensures .1))
+add-length-for c = omega (arith, c .before .fitting .ensures, c .before .before .before .before .before .before .before .before .before .before .before .before .pre .fits .small, c .before .before .before .before .before .before .before .before .log-length .ensures .1)
 
 length-for-requires : tie.Need-length-for-requires
-length-for-requires c κs = ((c .before .before .before .before .before .before .before .before .before .before .before .before .pre .fits .few), omega (arith, (c .before .fitting .ensures), (c .before .before .before .before .before .before .before .before .before .before .before .before .pre .fits .small), (c .before .before .before .before .before .before .before .before .log-length .ensures .1)))
+length-for-requires c κs = (c .before .before .before .before .before .before .before .before .before .before .before .before .pre .fits .few, omega (arith, c .before .fitting .ensures, c .before .before .before .before .before .before .before .before .before .before .before .before .pre .fits .small, c .before .before .before .before .before .before .before .before .log-length .ensures .1))
 
 add-if3 : tie.Need-add-if3
-add-if3 c = omega (arith, (c .before .replies-length .ensures .1), (c .length-for .ensures), log-long (c .before .before .before .before .before .before .before .before .before .before .before .before .before .args .shape .s) ((c .before .before .before .before .before .before .before .before .before .log-length .result) + (c .before .before .fitting .result)), (c .before .before .fitting .ensures), (c .before .before .before .before .before .before .before .before .before .before .before .before .before .pre .fits .small), (c .before .before .before .before .before .before .before .before .before .before .before .before .before .pre .fits .few), (c .before .before .before .before .before .before .before .before .before .log-length .ensures .1))
+add-if3 c = omega (arith, c .before .replies-length .ensures .1, c .length-for .ensures, log-long (c .before .before .before .before .before .before .before .before .before .before .before .before .before .args .shape .s) (c .before .before .before .before .before .before .before .before .before .log-length .result + (c .before .before .fitting .result)), c .before .before .fitting .ensures, c .before .before .before .before .before .before .before .before .before .before .before .before .before .pre .fits .small, c .before .before .before .before .before .before .before .before .before .before .before .before .before .pre .fits .few, c .before .before .before .before .before .before .before .before .before .log-length .ensures .1)
 
 same-length-4 : tie.Need-same-length-4
 same-length-4 c = search needs
@@ -62,10 +63,10 @@ tell-log-requires : tie.Need-tell-log-requires
 tell-log-requires c κs = leader-log (c .before .before .before .before .before .before .before .before .before .before .before .before .before .before .before .before .before .before .before .before .before .before .before .pre) _ _ _ (c .before .before .before .before .before .before .before .before .before .before .before .before .before .before .before .before .before .before .before .log-length .ensures .0) _ _ _ _ (c .before .before .before .before .before .before .before .before .before .before .before .before .before .before .before .run-length .ensures) (c .before .before .before .before .before .before .before .before .before .before .before .before .before .before .if1 .left) (c .before .before .before .before .before .before .before .before .before .before .before .before .before .if2 .left) (c .before .before .before .before .before .before .before .before .before .before .before .before .fitting .ensures) (c .before .before .before .before .before .before .before .before .before .before .before .replies-length .ensures .0) (c .before .before .before .before .before .before .before .before .before .before .length-for .ensures) (c .before .before .before .before .before .before .before .before .before .if3 .left) _ (c .before .before .before .before .before .before .release .ensures)
 
 add-settle : tie.Need-add-settle
-add-settle c = omega (arith, (c .before .before .before .before .before .before .before .before .before .before .before .before .before .before .before .before .fitting .ensures), (c .before .before .before .before .before .before .before .before .before .before .before .before .before .before .before .before .before .before .before .before .before .before .before .before .before .before .before .pre .fits .small), (c .before .before .before .before .before .before .before .before .before .before .before .before .before .before .before .before .before .before .before .before .before .before .before .log-length .ensures .1))
+add-settle c = omega (arith, c .before .before .before .before .before .before .before .before .before .before .before .before .before .before .before .before .fitting .ensures, c .before .before .before .before .before .before .before .before .before .before .before .before .before .before .before .before .before .before .before .before .before .before .before .before .before .before .before .pre .fits .small, c .before .before .before .before .before .before .before .before .before .before .before .before .before .before .before .before .before .before .before .before .before .before .before .log-length .ensures .1)
 
 settle-requires : tie.Need-settle-requires
-settle-requires c κs = (c .before .before .before .before .before .before .before .before .before .before .release .ensures .reached .midway)
+settle-requires c κs = c .before .before .before .before .before .before .before .before .before .before .release .ensures .reached .midway
 
 same-length-5 : tie.Need-same-length-5
 same-length-5 c = search needs

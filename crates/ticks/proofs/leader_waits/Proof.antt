@@ -1,12 +1,13 @@
 -- `ticks::leader_waits` meets its contract: one law for each way through it. Assumes nothing.
+-- Made by tools/answers from the file `answers` beside it: change that one.
+use native.Mathlib.Omega.{arith}
+use Rattle.ticks.proofs.Ways.{waits-none, waits-due, waits-tight, waits-told}
 use borrow.Author.Needs.{needs}
 use Rattle.ticks.proofs.leader_waits.Statement.{statement}
 use Rattle.ticks.proofs.leader_waits.Tie as tie
-use native.Mathlib.Omega.{arith}
-use Rattle.ticks.proofs.Ways.{waits-none, waits-due, waits-tight, waits-told}
 
 settle-requires : tie.Need-settle-requires
-settle-requires c κs = (c .before .before .before .before .pre .0)
+settle-requires c κs = c .before .before .before .before .pre .0
 
 same-length : tie.Need-same-length
 same-length c = search needs
@@ -21,10 +22,10 @@ returns-2 : tie.Need-returns-2
 returns-2 c = waits-tight (c .before .before .before .before .before .pre .0) _ _ _ (c .before .before .before .before .before .pre .1) _ (c .before .before .before .before .before .pre .2) (c .before .before .if1 .left) _ (c .before .length-for .ensures) (c .if2 .taken)
 
 tell-unplaced-requires : tie.Need-tell-unplaced-requires
-tell-unplaced-requires c κs = ((c .before .before .before .before .before .before .before .pre .0), waits-due (c .before .before .before .before .before .before .before .pre .0) (c .before .before .before .before .before .before .before .args .out .now) _ _ (c .before .before .before .before .before .before .before .pre .1) _ (c .before .before .before .before .before .before .before .pre .2) (c .before .before .before .before .if1 .left), omega (arith, (c .before .before .before .length-for .ensures), (c .before .before .if2 .left)))
+tell-unplaced-requires c κs = (c .before .before .before .before .before .before .before .pre .0, waits-due (c .before .before .before .before .before .before .before .pre .0) (c .before .before .before .before .before .before .before .args .out .now) _ _ (c .before .before .before .before .before .before .before .pre .1) _ (c .before .before .before .before .before .before .before .pre .2) (c .before .before .before .before .if1 .left), omega (arith, c .before .before .before .length-for .ensures, c .before .before .if2 .left))
 
 settle-requires-2 : tie.Need-settle-requires-2
-settle-requires-2 c κs = (c .before .before .before .before .before .before .before .before .before .before .before .pre .0)
+settle-requires-2 c κs = c .before .before .before .before .before .before .before .before .before .before .before .pre .0
 
 same-length-2 : tie.Need-same-length-2
 same-length-2 c = search needs

@@ -1,13 +1,14 @@
 -- `ticks::on_tick` meets its contract: one law for each way through it. Assumes nothing.
-use borrow.Author.Needs.{needs}
-use Rattle.ticks.proofs.on_tick.Statement.{statement}
-use Rattle.ticks.proofs.on_tick.Tie as tie
+-- Made by tools/answers from the file `answers` beside it: change that one.
 use mathlib.Core.Path.{refl}
 use Rattle.rules.specs.Step.{onTick}
 use Rattle.handler.proofs.Closes.{handled-other}
 use Rattle.handler.proofs.OtherKind.{not-tag}
 use Rattle.releases.proofs.Way.{on-way}
 use Rattle.ticks.proofs.Tick.{too-early, led, followed}
+use borrow.Author.Needs.{needs}
+use Rattle.ticks.proofs.on_tick.Statement.{statement}
+use Rattle.ticks.proofs.on_tick.Tie as tie
 
 enum-known-m : tie.Need-enum-known-m
 enum-known-m c = search needs

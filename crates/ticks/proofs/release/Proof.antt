@@ -1,7 +1,5 @@
 -- `ticks::release` meets its contract. The invariant: the first i entries due are at the end of the log, their replies are written, and `sum` is the digest of the log. Assumes nothing.
-use borrow.Author.Needs.{needs}
-use Rattle.ticks.proofs.release.Statement.{statement}
-use Rattle.ticks.proofs.release.Tie as tie
+-- Made by tools/answers from the file `answers` beside it: change that one.
 use Prim.Native.Nat.{_≤_, _-_}
 use mathlib.Core.Path.{_≡_, sym, _∙_}
 use mathlib.Core.List.{_++_}
@@ -9,11 +7,14 @@ use native.Mathlib.Omega.{arith}
 use lib.ListN.{take}
 use Rattle.rules.specs.Digest.{digest}
 use Rattle.rules.specs.Image.{stateOf}
-use Rattle.rules.specs.Step.{dueBy}
+use Rattle.rules.specs.Early.{dueOf}
 use Rattle.ticks.proofs.Turns.{Appended, turn-start, sum-start, turn-asks, turn-tells, turn-next, leave-asks, turn-end, none-end}
+use borrow.Author.Needs.{needs}
+use Rattle.ticks.proofs.release.Statement.{statement}
+use Rattle.ticks.proofs.release.Tie as tie
 
 abbrev Inv-loop : tie.InvT-loop
-Inv-loop shape state₀ out₀ time n k sum₀ at₀ i₀ state out sum at i = (i ≤ k) × Appended shape state₀ out₀ time i at state out × (sum ≡ digest (stateOf shape state₀ .log ++ take i (dueBy time (stateOf shape state₀ .early))))
+Inv-loop shape state₀ out₀ time n k sum₀ at₀ i₀ state out sum at i = (i ≤ k) × Appended shape state₀ out₀ time i at state out × (sum ≡ digest (stateOf shape state₀ .logged .log ++ take i (dueOf time (stateOf shape state₀ .waiting .early))))
 
 abbrev μ-loop : tie.MeasureT-loop
 μ-loop shape state₀ out₀ time n k sum₀ at₀ i₀ state out sum at i = k - i
@@ -43,18 +44,16 @@ loop-less : tie.Need-loop-less Inv-loop μ-loop
 loop-less c = search needs
 
 loop-again : tie.Need-loop-again Inv-loop μ-loop
-loop-again c =
-    let t = turn-next (c .before .before .before .before .before .before .before .before .before .before .before .before .before .before .before .before .pre .0) _ _ _ _ (c .before .before .before .before .before .before .before .before .before .before .before .before .before .before .before .before .pre .1) (c .before .before .before .before .before .before .before .before .before .before .before .before .before .before .before .before .pre .2) (c .before .before .before .before .before .before .before .before .before .before .before .before .before .before .before .before .pre .3) (c .before .before .before .before .before .before .before .before .before .before .before .before .before .before .before .before .pre .4) _ _ _ (c .before .before .before .before .before .before .before .before .before .loop-test .taken) (c .before .before .before .before .before .before .before .before .before .before .loop .inv .1) (c .before .before .before .before .before .before .before .before .before .before .loop .inv .2) _ (c .before .before .before .before .before .before .before .release-one .ensures .0) (c .before .before .before .before .before .before .before .release-one .ensures .1) _ _ (c .before .before .tell-placed .ensures) in
-    (omega arith, t .0, t .1)
+loop-again c = let t = turn-next (c .before .before .before .before .before .before .before .before .before .before .before .before .before .before .before .before .pre .0) _ _ _ _ (c .before .before .before .before .before .before .before .before .before .before .before .before .before .before .before .before .pre .1) (c .before .before .before .before .before .before .before .before .before .before .before .before .before .before .before .before .pre .2) (c .before .before .before .before .before .before .before .before .before .before .before .before .before .before .before .before .pre .3) (c .before .before .before .before .before .before .before .before .before .before .before .before .before .before .before .before .pre .4) _ _ _ (c .before .before .before .before .before .before .before .before .before .loop-test .taken) (c .before .before .before .before .before .before .before .before .before .before .loop .inv .1) (c .before .before .before .before .before .before .before .before .before .before .loop .inv .2) _ (c .before .before .before .before .before .before .before .release-one .ensures .0) (c .before .before .before .before .before .before .before .release-one .ensures .1) _ _ (c .before .before .tell-placed .ensures) in (omega arith, t .0, t .1)
 
 leave-released-requires : tie.Need-leave-released-requires Inv-loop μ-loop
 leave-released-requires c κs = leave-asks (c .before .before .before .before .before .before .before .before .pre .0) _ _ _ _ _ _ (c .before .before .before .before .before .before .before .before .pre .1) (c .before .before .before .before .before .before .before .before .pre .2) (c .before .before .loop .inv .0) (c .before .loop-test .left) (c .before .before .loop .inv .1)
 
 same-length : tie.Need-same-length Inv-loop μ-loop
-same-length c = (c .before .before .leave-released .ensures .midway .size) ∙ sym (c .before .before .before .before .before .before .before .before .before .before .before .pre .0 .size)
+same-length c = c .before .before .leave-released .ensures .midway .size ∙ sym (c .before .before .before .before .before .before .before .before .before .before .before .pre .0 .size)
 
 same-length-2 : tie.Need-same-length-2 Inv-loop μ-loop
-same-length-2 c = (c .before .before .before .before .before .loop .inv .1 .long)
+same-length-2 c = c .before .before .before .before .before .loop .inv .1 .long
 
 returns-2 : tie.Need-returns-2 Inv-loop μ-loop
 returns-2 c = turn-end (c .before .before .before .before .before .before .before .before .before .before .before .pre .0) _ _ _ _ _ _ (c .before .before .before .before .before .before .before .before .before .before .before .pre .1) (c .before .before .before .before .before .before .before .before .before .before .before .pre .2) (c .before .before .before .before .before .loop .inv .0) (c .before .before .before .before .loop-test .left) (c .before .before .before .before .before .loop .inv .1) _ (c .before .before .leave-released .ensures)

@@ -1,8 +1,9 @@
 -- `ticks::settle` meets its contract: the two fields are written. Assumes nothing.
+-- Made by tools/answers from the file `answers` beside it: change that one.
+use Rattle.places.proofs.Head.{put-clock, put-sync}
 use borrow.Author.Needs.{needs}
 use Rattle.ticks.proofs.settle.Statement.{statement}
 use Rattle.ticks.proofs.settle.Tie as tie
-use Rattle.places.proofs.Head.{put-clock, put-sync}
 
 put-clock-requires : tie.Need-put-clock-requires
 put-clock-requires c κs = search needs
@@ -17,10 +18,4 @@ returns : tie.Need-returns
 returns c = put-sync (put-clock (c .before .before .before .before .before .before .before .before .before .pre .laid) _ (c .before .before .before .before .before .before .put-clock .ensures)) _ (c .before .before .put-sync .ensures) .bytes
 
 pub settle-spec : {M : Type 1} → statement M
-settle-spec =
-    tie.close
-    (tie.spec
-    put-clock-requires
-    put-sync-requires
-    same-length
-    returns)
+settle-spec = tie.close (tie.spec put-clock-requires put-sync-requires same-length returns)

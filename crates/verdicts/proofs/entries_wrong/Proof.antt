@@ -1,23 +1,25 @@
 -- `verdicts::entries_wrong` meets its contract. Assumes nothing.
-use borrow.Author.Needs.{needs}
-use Rattle.verdicts.proofs.entries_wrong.Statement.{statement}
-use Rattle.verdicts.proofs.entries_wrong.Tie as tie
-use Prim.Native.Nat.{_≤_, _-_}
+-- Made by tools/answers from the file `answers` beside it: change that one.
+use Prim.Native.Nat.{_≤_, _-_, _^_}
+use mathlib.Core.List.{[]}
 use mathlib.Core.Path.{_≡_, refl, sym, _∙_}
 use native.Mathlib.Omega.{arith}
-use Rattle.rules.specs.Entry.{stampBefore}
+use Rattle.rules.specs.Entry.{lastBefore}
 use Rattle.rules.specs.Read.{entriesWrong}
 use Rattle.rules.specs.declared.Verdict.the-variants.{Fine}
 use Rattle.fields.specs.Parts.{fieldsFrom, headed}
 use Rattle.verdicts.specs.Rows.{rowIn}
 use Rattle.verdicts.proofs.Entries.{stamp-next, entry-is, next-fine, next-wrong, repeat-wrong, all-fine}
 use Rattle.verdicts.proofs.Fresh.{limit-within}
+use borrow.Author.Needs.{needs}
+use Rattle.verdicts.proofs.entries_wrong.Statement.{statement}
+use Rattle.verdicts.proofs.entries_wrong.Tie as tie
 
 abbrev Inv-loop : tie.InvT-loop
-Inv-loop s h b at whole seen log from limit last₀ i₀ last i = (i ≤ limit) × (limit ≤ seen) × (from ≤ 76) × (last ≡ stampBefore (rowIn b at) i) × (entriesWrong s (fieldsFrom (headed h) (rowIn b at)) whole i ≡ Fine)
+Inv-loop s h b look at whole log from limit last₀ i₀ last i = (i ≤ limit) × (limit ≤ look .seen) × (from ≤ 2 ^ 32) × (last ≡ lastBefore (rowIn b (look .at)) i .stamp) × (entriesWrong s (fieldsFrom (headed h) [] (rowIn b (look .at))) (look .whole) i ≡ Fine)
 
 abbrev μ-loop : tie.MeasureT-loop
-μ-loop s h b at whole seen log from limit last₀ i₀ last i = limit - i
+μ-loop s h b look at whole log from limit last₀ i₀ last i = limit - i
 
 with-log-requires : tie.Need-with-log-requires Inv-loop μ-loop
 with-log-requires c κs = search needs
@@ -29,8 +31,8 @@ limit-of-requires : tie.Need-limit-of-requires Inv-loop μ-loop
 limit-of-requires c κs = search needs
 
 loop-holds : tie.Need-loop-holds Inv-loop μ-loop
-unfolding stampBefore entriesWrong
-loop-holds c = (omega arith, limit-within (c .before .before .with-log .result) (rowIn (c .before .before .before .before .args .b .now) (c .before .before .before .before .args .at)) (c .before .before .before .before .args .whole) (c .before .before .before .before .args .seen) (c .limit-of .result) (c .limit-of .ensures), (c .before .entries-at .ensures .1), refl, refl)
+unfolding lastBefore entriesWrong
+loop-holds c = (omega arith, limit-within (c .before .before .with-log .result) (rowIn (c .before .before .before .before .args .b .now) (c .before .before .before .before .args .look .at)) (c .before .before .before .before .args .look .whole) (c .before .before .before .before .args .look .seen) (c .limit-of .result) (c .limit-of .ensures), omega (arith, c .before .entries-at .ensures), refl, refl)
 
 mul-look-entry : tie.Need-mul-look-entry Inv-loop μ-loop
 mul-look-entry c = search needs
@@ -66,10 +68,7 @@ enum-known-v : tie.Need-enum-known-v Inv-loop μ-loop
 enum-known-v c = search needs
 
 returns : tie.Need-returns Inv-loop μ-loop
-returns c =
-    next-wrong (c .before .before .before .before .before .before .before .before .before .before .before .before .before .args .s) (c .before .before .before .before .before .before .before .before .before .before .before .before .before .args .h) (rowIn (c .before .before .before .before .before .before .before .before .before .before .before .before .before .args .b .now) (c .before .before .before .before .before .before .before .before .before .before .before .before .before .args .at)) (c .before .before .before .before .before .before .before .before .before .before .before .before .before .args .whole) (c .before .before .before .before .before .before .before .before .loop .i) (c .before .before .before .before .before .before .before .before .before .before .before .before .before .args .seen) _ _ (c .before .before .before .entry-wrong .result) (c .before .before .before .before .before .before .before .before .loop .inv .4)
-    (entry-is (c .before .before .before .before .before .before .before .before .before .before .before .before .before .args .s) (c .before .before .before .before .before .before .before .before .before .before .before .before .before .args .h) (rowIn (c .before .before .before .before .before .before .before .before .before .before .before .before .before .args .b .now) (c .before .before .before .before .before .before .before .before .before .before .before .before .before .args .at)) (c .before .before .before .before .before .before .before .before .before .before .before .before .before .args .whole) (c .before .before .before .before .before .before .before .before .before .before .before .with-log .result) (c .before .before .before .before .before .before .before .before .before .before .entries-at .result) (c .before .before .before .before .before .before .before .before .before .before .before .before .before .args .seen) (c .before .before .before .before .before .before .before .before .before .limit-of .result) (c .before .before .before .before .before .before .before .before .before .before .before .with-log .ensures) (c .before .before .before .before .before .before .before .before .before .before .entries-at .ensures .0) (c .before .before .before .before .before .before .before .before .before .limit-of .ensures) (c .before .before .before .before .before .before .before .before .loop .i) (c .before .before .before .before .before .before .before .before .loop .last) (c .before .before .before .before .before .before .look-entry .result) (c .before .before .before .before .stands-after .result) (c .before .before .before .before .before .before .before .loop-test .taken) (c .before .before .before .before .before .before .before .before .loop .inv .3) (c .before .before .before .before .before .before .look-entry .ensures) (c .before .before .before .before .stands-after .ensures) (c .before .before .before .entry-wrong .result) (c .before .before .before .entry-wrong .ensures))
-    (c .before .v .given .1) (omega arith)
+returns c = next-wrong (c .before .before .before .before .before .before .before .before .before .before .before .before .before .args .s) (c .before .before .before .before .before .before .before .before .before .before .before .before .before .args .h) (rowIn (c .before .before .before .before .before .before .before .before .before .before .before .before .before .args .b .now) (c .before .before .before .before .before .before .before .before .before .before .before .before .before .args .look .at)) (c .before .before .before .before .before .before .before .before .before .before .before .before .before .args .look .whole) (c .before .before .before .before .before .before .before .before .loop .i) (c .before .before .before .before .before .before .before .before .before .before .before .before .before .args .look .seen) _ _ (c .before .before .before .entry-wrong .result) (c .before .before .before .before .before .before .before .before .loop .inv .4) (entry-is (c .before .before .before .before .before .before .before .before .before .before .before .before .before .args .s) (c .before .before .before .before .before .before .before .before .before .before .before .before .before .args .h) (rowIn (c .before .before .before .before .before .before .before .before .before .before .before .before .before .args .b .now) (c .before .before .before .before .before .before .before .before .before .before .before .before .before .args .look .at)) (c .before .before .before .before .before .before .before .before .before .before .before .before .before .args .look .whole) (c .before .before .before .before .before .before .before .before .before .before .before .with-log .result) (c .before .before .before .before .before .before .before .before .before .before .entries-at .result) (c .before .before .before .before .before .before .before .before .before .before .before .before .before .args .look .seen) (c .before .before .before .before .before .before .before .before .before .limit-of .result) (c .before .before .before .before .before .before .before .before .before .before .before .with-log .ensures) (c .before .before .before .before .before .before .before .before .before .before .entries-at .ensures .0) (c .before .before .before .before .before .before .before .before .before .limit-of .ensures) (c .before .before .before .before .before .before .before .before .loop .i) (c .before .before .before .before .before .before .before .before .loop .last) (c .before .before .before .before .before .before .look-entry .result) (c .before .before .before .before .stands-after .result) (c .before .before .before .before .before .before .before .loop-test .taken) (c .before .before .before .before .before .before .before .before .loop .inv .3) (c .before .before .before .before .before .before .look-entry .ensures) (c .before .before .before .before .stands-after .ensures) (c .before .before .before .entry-wrong .result) (c .before .before .before .entry-wrong .ensures)) (c .before .v .given .1) (omega arith)
 
 add-i : tie.Need-add-i Inv-loop μ-loop
 add-i c = search needs
@@ -78,15 +77,7 @@ loop-less : tie.Need-loop-less Inv-loop μ-loop
 loop-less c = search needs
 
 loop-again : tie.Need-loop-again Inv-loop μ-loop
-loop-again c = (
-  omega arith,
-  (c .before .before .before .before .before .before .before .loop .inv .1),
-  (c .before .before .before .before .before .before .before .loop .inv .2),
-  stamp-next (rowIn (c .before .before .before .before .before .before .before .before .before .before .before .before .args .b .now) (c .before .before .before .before .before .before .before .before .before .before .before .before .args .at)) (c .before .before .before .before .before .before .before .loop .i) (c .before .before .before .before .before .look-entry .result) (c .before .before .before .before .before .look-entry .ensures),
-  next-fine (c .before .before .before .before .before .before .before .before .before .before .before .before .args .s) (c .before .before .before .before .before .before .before .before .before .before .before .before .args .h) (rowIn (c .before .before .before .before .before .before .before .before .before .before .before .before .args .b .now) (c .before .before .before .before .before .before .before .before .before .before .before .before .args .at)) (c .before .before .before .before .before .before .before .before .before .before .before .before .args .whole) (c .before .before .before .before .before .before .before .loop .i) (c .before .before .entry-wrong .result) (c .before .before .before .before .before .before .before .loop .inv .4)
-      (entry-is (c .before .before .before .before .before .before .before .before .before .before .before .before .args .s) (c .before .before .before .before .before .before .before .before .before .before .before .before .args .h) (rowIn (c .before .before .before .before .before .before .before .before .before .before .before .before .args .b .now) (c .before .before .before .before .before .before .before .before .before .before .before .before .args .at)) (c .before .before .before .before .before .before .before .before .before .before .before .before .args .whole) (c .before .before .before .before .before .before .before .before .before .before .with-log .result) (c .before .before .before .before .before .before .before .before .before .entries-at .result) (c .before .before .before .before .before .before .before .before .before .before .before .before .args .seen) (c .before .before .before .before .before .before .before .before .limit-of .result) (c .before .before .before .before .before .before .before .before .before .before .with-log .ensures) (c .before .before .before .before .before .before .before .before .before .entries-at .ensures .0) (c .before .before .before .before .before .before .before .before .limit-of .ensures) (c .before .before .before .before .before .before .before .loop .i) (c .before .before .before .before .before .before .before .loop .last) (c .before .before .before .before .before .look-entry .result) (c .before .before .before .stands-after .result) (c .before .before .before .before .before .before .loop-test .taken) (c .before .before .before .before .before .before .before .loop .inv .3) (c .before .before .before .before .before .look-entry .ensures) (c .before .before .before .stands-after .ensures) (c .before .before .entry-wrong .result) (c .before .before .entry-wrong .ensures))
-      (c .enum-told .given .1),
-)
+loop-again c = (omega arith, c .before .before .before .before .before .before .before .loop .inv .1, c .before .before .before .before .before .before .before .loop .inv .2, stamp-next (rowIn (c .before .before .before .before .before .before .before .before .before .before .before .before .args .b .now) (c .before .before .before .before .before .before .before .before .before .before .before .before .args .look .at)) (c .before .before .before .before .before .before .before .loop .i) (c .before .before .before .before .before .look-entry .result) (c .before .before .before .before .before .look-entry .ensures), next-fine (c .before .before .before .before .before .before .before .before .before .before .before .before .args .s) (c .before .before .before .before .before .before .before .before .before .before .before .before .args .h) (rowIn (c .before .before .before .before .before .before .before .before .before .before .before .before .args .b .now) (c .before .before .before .before .before .before .before .before .before .before .before .before .args .look .at)) (c .before .before .before .before .before .before .before .before .before .before .before .before .args .look .whole) (c .before .before .before .before .before .before .before .loop .i) (c .before .before .entry-wrong .result) (c .before .before .before .before .before .before .before .loop .inv .4) (entry-is (c .before .before .before .before .before .before .before .before .before .before .before .before .args .s) (c .before .before .before .before .before .before .before .before .before .before .before .before .args .h) (rowIn (c .before .before .before .before .before .before .before .before .before .before .before .before .args .b .now) (c .before .before .before .before .before .before .before .before .before .before .before .before .args .look .at)) (c .before .before .before .before .before .before .before .before .before .before .before .before .args .look .whole) (c .before .before .before .before .before .before .before .before .before .before .with-log .result) (c .before .before .before .before .before .before .before .before .before .entries-at .result) (c .before .before .before .before .before .before .before .before .before .before .before .before .args .look .seen) (c .before .before .before .before .before .before .before .before .limit-of .result) (c .before .before .before .before .before .before .before .before .before .before .with-log .ensures) (c .before .before .before .before .before .before .before .before .before .entries-at .ensures .0) (c .before .before .before .before .before .before .before .before .limit-of .ensures) (c .before .before .before .before .before .before .before .loop .i) (c .before .before .before .before .before .before .before .loop .last) (c .before .before .before .before .before .look-entry .result) (c .before .before .before .stands-after .result) (c .before .before .before .before .before .before .loop-test .taken) (c .before .before .before .before .before .before .before .loop .inv .3) (c .before .before .before .before .before .look-entry .ensures) (c .before .before .before .stands-after .ensures) (c .before .before .entry-wrong .result) (c .before .before .entry-wrong .ensures)) (c .enum-told .given .1))
 
 add-place : tie.Need-add-place Inv-loop μ-loop
 add-place c = search needs
@@ -98,10 +89,10 @@ add-place-2 : tie.Need-add-place-2 Inv-loop μ-loop
 add-place-2 c = search needs
 
 returns-2 : tie.Need-returns-2 Inv-loop μ-loop
-returns-2 c = repeat-wrong (c .before .before .before .before .before .before .before .args .s) (c .before .before .before .before .before .before .before .args .h) (rowIn (c .before .before .before .before .before .before .before .args .b .now) (c .before .before .before .before .before .before .before .args .at)) (c .before .before .before .before .before .before .before .args .whole) (c .before .before .before .before .before .with-log .result) (c .before .before .before .before .entries-at .result) (c .before .before .before .before .before .before .before .args .seen) (c .before .before .before .limit-of .result) (c .before .before .before .before .before .with-log .ensures) (c .before .before .before .before .entries-at .ensures .0) (c .before .before .before .limit-of .ensures) (c .before .before .loop .i) (c .before .before .loop .inv .4) (omega arith) (omega arith) (omega arith)
+returns-2 c = repeat-wrong (c .before .before .before .before .before .before .before .before .args .s) (c .before .before .before .before .before .before .before .before .args .h) (rowIn (c .before .before .before .before .before .before .before .before .args .b .now) (c .before .before .before .before .before .before .before .before .args .look .at)) (c .before .before .before .before .before .before .before .before .args .look .whole) (c .before .before .before .before .before .before .with-log .result) (c .before .before .before .before .before .entries-at .result) (c .before .before .before .before .before .before .before .before .args .look .seen) (c .before .before .before .before .limit-of .result) (c .before .before .before .before .before .before .with-log .ensures) (c .before .before .before .before .before .entries-at .ensures .0) (c .before .before .before .before .limit-of .ensures) (c .before .before .before .loop .i) (c .before .before .before .loop .inv .4) (omega arith) (omega arith) (omega arith)
 
 returns-3 : tie.Need-returns-3 Inv-loop μ-loop
-returns-3 c = all-fine (c .before .before .before .before .before .before .before .args .s) (c .before .before .before .before .before .before .before .args .h) (rowIn (c .before .before .before .before .before .before .before .args .b .now) (c .before .before .before .before .before .before .before .args .at)) (c .before .before .before .before .before .before .before .args .whole) (c .before .before .before .before .before .with-log .result) (c .before .before .before .before .entries-at .result) (c .before .before .before .before .before .before .before .args .seen) (c .before .before .before .limit-of .result) (c .before .before .before .before .before .with-log .ensures) (c .before .before .before .before .entries-at .ensures .0) (c .before .before .before .limit-of .ensures) (c .before .before .loop .i) (c .before .before .loop .inv .4) (omega arith) (omega arith) (omega arith)
+returns-3 c = all-fine (c .before .before .before .before .before .before .before .before .args .s) (c .before .before .before .before .before .before .before .before .args .h) (rowIn (c .before .before .before .before .before .before .before .before .args .b .now) (c .before .before .before .before .before .before .before .before .args .look .at)) (c .before .before .before .before .before .before .before .before .args .look .whole) (c .before .before .before .before .before .before .with-log .result) (c .before .before .before .before .before .entries-at .result) (c .before .before .before .before .before .before .before .before .args .look .seen) (c .before .before .before .before .limit-of .result) (c .before .before .before .before .before .before .with-log .ensures) (c .before .before .before .before .before .entries-at .ensures .0) (c .before .before .before .before .limit-of .ensures) (c .before .before .before .loop .i) (c .before .before .before .loop .inv .4) (omega arith) (omega arith) (omega arith)
 
 pub entries-wrong-spec : {M : Type 1} → statement M
 entries-wrong-spec =

@@ -1,9 +1,9 @@
 -- `verdicts::message_wrong` meets its contract. Assumes nothing.
+-- Made by tools/answers from the file `answers` beside it: change that one.
+use Rattle.verdicts.proofs.Entries.{head-wrong, body-wrong, rest-wrong}
 use borrow.Author.Needs.{needs}
 use Rattle.verdicts.proofs.message_wrong.Statement.{statement}
 use Rattle.verdicts.proofs.message_wrong.Tie as tie
-use Rattle.verdicts.specs.Rows.{rowIn}
-use Rattle.verdicts.proofs.Entries.{head-wrong, body-wrong, rest-wrong}
 
 head-wrong-requires : tie.Need-head-wrong-requires
 head-wrong-requires c κs = search needs
@@ -15,7 +15,7 @@ enum-known-head : tie.Need-enum-known-head
 enum-known-head c = search needs
 
 returns : tie.Need-returns
-returns c = head-wrong (c .before .before .before .before .before .args .n) (c .before .before .before .before .before .args .s) (c .before .before .before .before .before .args .p) (rowIn (c .before .before .before .before .before .args .b .now) (c .before .before .before .before .before .args .at)) (c .before .before .before .before .before .args .whole) (c .before .before .before .before .before .args .seen) (c .before .before .before .head-wrong .result) (c .before .before .before .head-wrong .ensures) _ _ (c .before .head .given .1)
+returns c = head-wrong (c .before .before .before .before .before .before .args .n) (c .before .before .before .before .before .before .args .s) (c .before .before .before .before .before .before .args .p) (c .before .before .before .before .before .before .args .numbers .now) (c .before .before .before .before .before .before .args .b .now) (c .before .before .before .before .before .before .args .look) (c .before .before .before .head-wrong .result) (c .before .before .before .head-wrong .ensures) _ _ (c .before .head .given .1)
 
 body-wrong-requires : tie.Need-body-wrong-requires
 body-wrong-requires c κs = search needs
@@ -27,13 +27,13 @@ enum-known-body : tie.Need-enum-known-body
 enum-known-body c = search needs
 
 returns-2 : tie.Need-returns-2
-returns-2 c = body-wrong (c .before .before .before .before .before .before .before .before .args .n) (c .before .before .before .before .before .before .before .before .args .s) (c .before .before .before .before .before .before .before .before .args .p) (rowIn (c .before .before .before .before .before .before .before .before .args .b .now) (c .before .before .before .before .before .before .before .before .args .at)) (c .before .before .before .before .before .before .before .before .args .whole) (c .before .before .before .before .before .before .before .before .args .seen) (c .before .before .before .before .before .before .head-wrong .result) (c .before .before .before .before .before .before .head-wrong .ensures) (c .before .before .before .before .enum-told .given .1) (c .before .before .before .body-wrong .result) (c .before .before .before .body-wrong .ensures) _ _ (c .before .body .given .1)
+returns-2 c = body-wrong (c .before .before .before .before .before .before .before .before .before .args .n) (c .before .before .before .before .before .before .before .before .before .args .s) (c .before .before .before .before .before .before .before .before .before .args .p) (c .before .before .before .before .before .before .before .before .before .args .numbers .now) (c .before .before .before .before .before .before .before .before .before .args .b .now) (c .before .before .before .before .before .before .before .before .before .args .look) (c .before .before .before .before .before .before .head-wrong .result) (c .before .before .before .before .before .before .head-wrong .ensures) (c .before .before .before .before .enum-told .given .1) (c .before .before .before .body-wrong .result) (c .before .before .before .body-wrong .ensures) _ _ (c .before .body .given .1)
 
 entries-wrong-requires : tie.Need-entries-wrong-requires
 entries-wrong-requires c κs = search needs
 
 returns-3 : tie.Need-returns-3
-returns-3 c = rest-wrong (c .before .before .before .before .before .before .before .before .args .n) (c .before .before .before .before .before .before .before .before .args .s) (c .before .before .before .before .before .before .before .before .args .p) (rowIn (c .before .before .before .before .before .before .before .before .args .b .now) (c .before .before .before .before .before .before .before .before .args .at)) (c .before .before .before .before .before .before .before .before .args .whole) (c .before .before .before .before .before .before .before .before .args .seen) (c .before .before .before .before .before .before .head-wrong .result) (c .before .before .before .before .before .before .head-wrong .ensures) (c .before .before .before .before .enum-told .given .1) (c .before .before .before .body-wrong .result) (c .before .before .before .body-wrong .ensures) (c .entries-wrong .result) (c .before .enum-told2 .given .1) (c .entries-wrong .ensures)
+returns-3 c = rest-wrong (c .before .before .before .before .before .before .before .before .before .args .n) (c .before .before .before .before .before .before .before .before .before .args .s) (c .before .before .before .before .before .before .before .before .before .args .p) (c .before .before .before .before .before .before .before .before .before .args .numbers .now) (c .before .before .before .before .before .before .before .before .before .args .b .now) (c .before .before .before .before .before .before .before .before .before .args .look) (c .before .before .before .before .before .before .head-wrong .result) (c .before .before .before .before .before .before .head-wrong .ensures) (c .before .before .before .before .enum-told .given .1) (c .before .before .before .body-wrong .result) (c .before .before .before .body-wrong .ensures) (c .entries-wrong .result) (c .before .enum-told2 .given .1) (c .entries-wrong .ensures)
 
 pub message-wrong-spec : {M : Type 1} → statement M
 message-wrong-spec =

@@ -1,4 +1,5 @@
 -- `verdicts::stands_after` meets its contract. Assumes nothing.
+-- Made by tools/answers from the file `answers` beside it: change that one.
 use borrow.Author.Needs.{needs}
 use Rattle.verdicts.proofs.stands_after.Statement.{statement}
 use Rattle.verdicts.proofs.stands_after.Tie as tie

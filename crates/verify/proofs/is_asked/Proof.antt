@@ -1,16 +1,17 @@
 -- `verify::is_asked` meets its contract. Assumes nothing.
+-- Made by tools/answers from the file `answers` beside it: change that one.
 use borrow.Author.Needs.{needs}
 use Rattle.verify.proofs.is_asked.Statement.{statement}
 use Rattle.verify.proofs.is_asked.Tie as tie
 
-is-later-requires : tie.Need-is-later-requires
-is-later-requires c κs = search needs
+is-past-requires : tie.Need-is-past-requires
+is-past-requires c κs = search needs
 
 holds-requires : tie.Need-holds-requires
 holds-requires c κs = search needs
 
 returns : tie.Need-returns
-returns c = rw ((c .before .is-later .ensures), (c .holds .ensures))
+returns c = rw (c .before .is-past .ensures, c .holds .ensures)
 
 pub is-asked-spec : {M : Type 1} → statement M
-is-asked-spec = tie.close (tie.spec is-later-requires holds-requires returns)
+is-asked-spec = tie.close (tie.spec is-past-requires holds-requires returns)

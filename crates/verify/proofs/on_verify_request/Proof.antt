@@ -1,15 +1,17 @@
 -- `verify::on_verify_request` meets its contract: one law for each way through it. Assumes nothing.
-use borrow.Author.Needs.{needs}
-use Rattle.verify.proofs.on_verify_request.Statement.{statement}
-use Rattle.verify.proofs.on_verify_request.Tie as tie
+-- Made by tools/answers from the file `answers` beside it: change that one.
 use mathlib.Core.Path.{refl}
 use native.Mathlib.Omega.{arith}
+use Rattle.rules.specs.Kind.{rowOf}
 use Rattle.rules.specs.Choice.{pick}
 use Rattle.rules.specs.Step.{onVerifyRequest}
 use Rattle.handler.proofs.Closes.{handled-other}
 use Rattle.handler.proofs.OtherKind.{not-tag}
 use Rattle.verify.proofs.Asked.{asked-small}
 use Rattle.verify.proofs.Ways.{from-small, no-room, asked-told}
+use borrow.Author.Needs.{needs}
+use Rattle.verify.proofs.on_verify_request.Statement.{statement}
+use Rattle.verify.proofs.on_verify_request.Tie as tie
 
 enum-known-m : tie.Need-enum-known-m
 enum-known-m c = search needs
@@ -36,21 +38,21 @@ cast-tell-none : tie.Need-cast-tell-none
 cast-tell-none c = search needs
 
 tell-none-requires : tie.Need-tell-none-requires
-unfolding pick
-tell-none-requires c κs = (search needs, from-small _ _ _ (c .before .before .before .before .before .before .before .before .before .before .before .before .before .args .out .now) _ _ _ (c .before .before .before .before .before .before .before .before .before .before .before .before .before .pre) (c .before .before .before .before .before .before .before .before .m .given .1), omega (arith, (c .before .before .before .length-for .ensures), (c .before .before .if1 .left)))
+unfolding pick rowOf
+tell-none-requires c κs = (search needs, from-small _ _ _ (c .before .before .before .before .before .before .before .before .before .before .before .before .before .args .out .now) _ _ _ (c .before .before .before .before .before .before .before .before .before .before .before .before .before .pre) (c .before .before .before .before .before .before .before .before .m .given .1), omega (arith, c .before .before .before .length-for .ensures, c .before .before .if1 .left))
 
 sub-put-asked : tie.Need-sub-put-asked
 sub-put-asked c = search needs
 
 put-asked-requires : tie.Need-put-asked-requires
-unfolding pick
-put-asked-requires c κs = ((c .before .before .before .before .before .before .before .before .before .source-of .ensures .1), (c .before .before .before .before .before .before .before .before .count-asked .ensures), omega (arith, (c .before .before .before .tell-none .ensures .0), (c .before .before .before .before .before .before .before .length-for .ensures), (c .before .before .before .before .before .before .if1 .left)))
+unfolding pick rowOf
+put-asked-requires c κs = (c .before .before .before .before .before .before .before .before .before .source-of .ensures .1, c .before .before .before .before .before .before .before .before .count-asked .ensures, omega (arith, c .before .before .before .tell-none .ensures .0, c .before .before .before .before .before .before .before .length-for .ensures, c .before .before .before .before .before .before .if1 .left))
 
 mul-t13 : tie.Need-mul-t13
 mul-t13 c = search needs
 
 add-t12 : tie.Need-add-t12
-add-t12 c = let k = asked-small _ _ _ _ (c .before .before .before .before .before .before .before .before .before .before .before .count-asked .ensures) (c .before .before .before .before .before .before .before .before .before .before .before .before .source-of .ensures .1) in omega (arith, (c .before .before .before .before .before .before .tell-none .ensures .0), (c .before .before .before .before .before .before .before .before .before .before .before .before .before .before .before .before .before .before .before .before .pre .stands .fits .few))
+add-t12 c = let k = asked-small _ _ _ _ (c .before .before .before .before .before .before .before .before .before .before .before .count-asked .ensures) (c .before .before .before .before .before .before .before .before .before .before .before .before .source-of .ensures .1) in omega (arith, c .before .before .before .before .before .before .tell-none .ensures .0, c .before .before .before .before .before .before .before .before .before .before .before .before .before .before .before .before .before .before .before .before .pre .stands .fits .few)
 
 same-length : tie.Need-same-length
 same-length c = search needs

@@ -1,12 +1,13 @@
 -- `verify::source` meets its contract. Assumes nothing.
-use borrow.Author.Needs.{needs}
-use Rattle.verify.proofs.source.Statement.{statement}
-use Rattle.verify.proofs.source.Tie as tie
+-- Made by tools/answers from the file `answers` beside it: change that one.
 use mathlib.Core.Path.{sym, ap, _∙_}
 use borrow.Author.Tests.{eq-eqb, ne-eqb}
 use Rattle.rules.proofs.Choice.{pick-true, pick-false}
 use Rattle.verify.specs.Asked.{usedIn}
 use Rattle.verify.proofs.Asked.{used-lent}
+use borrow.Author.Needs.{needs}
+use Rattle.verify.proofs.source.Statement.{statement}
+use Rattle.verify.proofs.source.Tie as tie
 
 count-requires : tie.Need-count-requires
 count-requires c κs = search needs

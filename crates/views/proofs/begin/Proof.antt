@@ -1,4 +1,5 @@
 -- `views::begin` meets its contract. Assumes nothing.
+-- Made by tools/answers from the file `answers` beside it: change that one.
 use Prim.Native.Nat.{_*_}
 use native.Mathlib.Omega.{arith}
 use Rattle.octets.proofs.Laws.{bytes-known}
@@ -24,25 +25,16 @@ fill-zero-requires : tie.Need-fill-zero-requires
 fill-zero-requires c κs = search needs
 
 put-table-requires : tie.Need-put-table-requires
-put-table-requires c κs =
-    let p = (c .before .before .before .before .before .before .places-of) in
-    let w = zeroed _ _ (p .result .heard) (p .result .log) _ (9 * (c .before .before .before .before .before .before .before .before .before .before .before .before .before .before .before .before .before .before .args .shape .n)) (c .before .before .before .fill-zero .ensures) (p .ensures .heard) (omega (arith, p .ensures .log)) in
-    ((c .before .before .before .before .before .before .before .before .before .before .before .before .before .before .before .before .before .before .pre) .0 .fits, begun-room ((c .before .before .before .before .before .before .before .before .before .before .before .before .before .before .before .before .before .before .pre) .0) _ (c .before .before .before .before .before .before .before .before .before .before .before .before .before .before .before .before .before .before .args .message .now) (bytes-known (c .before .before .before .before .before .before .before .before .before .before .before .before .before .before .before .before .before .before .args .message .now) (λ i. (c .before .before .before .before .before .before .before .before .before .before .before .before .before .before .before .before .shared-slice-known .given) i .fits)) ((c .before .before .before .before .before .before .before .before .before .before .before .before .before .before .before .before .before .before .pre) .1) (c .before .before .before .before .before .before .before .before .before .before .before .before .before .before .before .before .before .before .args .src .now) (c .before .before .before .before .before .before .before .before .before .before .before .before .before .before .before .before .before .before .args .at) _ _ ((c .before .before .before .before .before .before .before .before .before .before .before .before .before .before .before .before .before .before .pre) .2) (p .ensures .log) (c .before .before .before .before .before .before .before .before .before .before .before .before .before .take-view .ensures) (c .before .before .before .before .before .before .before .before .before .begin-head .ensures) w, (c .before .before .before .before .before .before .before .before .before .before .before .before .before .before .before .before .before .before .pre) .2, (c .before .before .before .before .before .before .before .before .before .before .before .before .before .before .before .before .before .before .pre) .3)
+put-table-requires c κs = let p = c .before .before .before .before .before .before .places-of in let w = zeroed _ _ (p .result .heard) (p .result .log) _ (9 * (c .before .before .before .before .before .before .before .before .before .before .before .before .before .before .before .before .before .before .args .shape .n)) (c .before .before .before .fill-zero .ensures) (p .ensures .heard) (omega (arith, p .ensures .log)) in (c .before .before .before .before .before .before .before .before .before .before .before .before .before .before .before .before .before .before .pre .0 .fits, begun-room (c .before .before .before .before .before .before .before .before .before .before .before .before .before .before .before .before .before .before .pre .0) _ (c .before .before .before .before .before .before .before .before .before .before .before .before .before .before .before .before .before .before .args .message .now) (bytes-known (c .before .before .before .before .before .before .before .before .before .before .before .before .before .before .before .before .before .before .args .message .now) (λ i. (c .before .before .before .before .before .before .before .before .before .before .before .before .before .before .before .before .shared-slice-known .given) i .fits)) (c .before .before .before .before .before .before .before .before .before .before .before .before .before .before .before .before .before .before .pre .1) (c .before .before .before .before .before .before .before .before .before .before .before .before .before .before .before .before .before .before .args .src .now) (c .before .before .before .before .before .before .before .before .before .before .before .before .before .before .before .before .before .before .args .at) _ _ (c .before .before .before .before .before .before .before .before .before .before .before .before .before .before .before .before .before .before .pre .2) (p .ensures .log) (c .before .before .before .before .before .before .before .before .before .before .before .before .before .take-view .ensures) (c .before .before .before .before .before .before .before .before .before .begin-head .ensures) w, c .before .before .before .before .before .before .before .before .before .before .before .before .before .before .before .before .before .before .pre .2, c .before .before .before .before .before .before .before .before .before .before .before .before .before .before .before .before .before .before .pre .3)
 
 empty-tables-requires : tie.Need-empty-tables-requires
-empty-tables-requires c κs =
-    let p = (c .before .before .before .before .before .before .before .before .before .before .places-of) in
-    let w = zeroed _ _ (p .result .heard) (p .result .log) _ (9 * (c .before .before .before .before .before .before .before .before .before .before .before .before .before .before .before .before .before .before .before .before .before .before .args .shape .n)) (c .before .before .before .before .before .before .before .fill-zero .ensures) (p .ensures .heard) (omega (arith, p .ensures .log)) in
-    begun-sized ((c .before .before .before .before .before .before .before .before .before .before .before .before .before .before .before .before .before .before .before .before .before .before .pre) .0) _ (c .before .before .before .before .before .before .before .before .before .before .before .before .before .before .before .before .before .before .before .before .before .before .args .message .now) (bytes-known (c .before .before .before .before .before .before .before .before .before .before .before .before .before .before .before .before .before .before .before .before .before .before .args .message .now) (λ i. (c .before .before .before .before .before .before .before .before .before .before .before .before .before .before .before .before .before .before .before .before .shared-slice-known .given) i .fits)) ((c .before .before .before .before .before .before .before .before .before .before .before .before .before .before .before .before .before .before .before .before .before .before .pre) .1) (c .before .before .before .before .before .before .before .before .before .before .before .before .before .before .before .before .before .before .before .before .before .before .args .src .now) _ _ _ ((c .before .before .before .before .before .before .before .before .before .before .before .before .before .before .before .before .before .before .before .before .before .before .pre) .2) (p .ensures .log) (c .before .before .before .before .before .before .before .before .before .before .before .before .before .before .before .before .before .take-view .ensures) (c .before .before .before .before .before .before .before .before .before .before .before .before .before .begin-head .ensures) w (c .before .before .before .put-table .ensures)
+empty-tables-requires c κs = let p = c .before .before .before .before .before .before .before .before .before .before .places-of in let w = zeroed _ _ (p .result .heard) (p .result .log) _ (9 * (c .before .before .before .before .before .before .before .before .before .before .before .before .before .before .before .before .before .before .before .before .before .before .args .shape .n)) (c .before .before .before .before .before .before .before .fill-zero .ensures) (p .ensures .heard) (omega (arith, p .ensures .log)) in begun-sized (c .before .before .before .before .before .before .before .before .before .before .before .before .before .before .before .before .before .before .before .before .before .before .pre .0) _ (c .before .before .before .before .before .before .before .before .before .before .before .before .before .before .before .before .before .before .before .before .before .before .args .message .now) (bytes-known (c .before .before .before .before .before .before .before .before .before .before .before .before .before .before .before .before .before .before .before .before .before .before .args .message .now) (λ i. (c .before .before .before .before .before .before .before .before .before .before .before .before .before .before .before .before .before .before .before .before .shared-slice-known .given) i .fits)) (c .before .before .before .before .before .before .before .before .before .before .before .before .before .before .before .before .before .before .before .before .before .before .pre .1) (c .before .before .before .before .before .before .before .before .before .before .before .before .before .before .before .before .before .before .before .before .before .before .args .src .now) _ _ _ (c .before .before .before .before .before .before .before .before .before .before .before .before .before .before .before .before .before .before .before .before .before .before .pre .2) (p .ensures .log) (c .before .before .before .before .before .before .before .before .before .before .before .before .before .before .before .before .before .take-view .ensures) (c .before .before .before .before .before .before .before .before .before .before .before .before .before .begin-head .ensures) w (c .before .before .before .put-table .ensures)
 
 same-length : tie.Need-same-length
 same-length c = search needs
 
 returns : tie.Need-returns
-returns c =
-    let p = (c .before .before .before .before .before .before .before .before .before .before .before .before .before .places-of) in
-    let w = zeroed _ _ (p .result .heard) (p .result .log) _ (9 * (c .before .before .before .before .before .before .before .before .before .before .before .before .before .before .before .before .before .before .before .before .before .before .before .before .before .args .shape .n)) (c .before .before .before .before .before .before .before .before .before .before .fill-zero .ensures) (p .ensures .heard) (omega (arith, p .ensures .log)) in
-    begun ((c .before .before .before .before .before .before .before .before .before .before .before .before .before .before .before .before .before .before .before .before .before .before .before .before .before .pre) .0) _ (c .before .before .before .before .before .before .before .before .before .before .before .before .before .before .before .before .before .before .before .before .before .before .before .before .before .args .message .now) (bytes-known (c .before .before .before .before .before .before .before .before .before .before .before .before .before .before .before .before .before .before .before .before .before .before .before .before .before .args .message .now) (λ i. (c .before .before .before .before .before .before .before .before .before .before .before .before .before .before .before .before .before .before .before .before .before .before .before .shared-slice-known .given) i .fits)) ((c .before .before .before .before .before .before .before .before .before .before .before .before .before .before .before .before .before .before .before .before .before .before .before .before .before .pre) .1) (c .before .before .before .before .before .before .before .before .before .before .before .before .before .before .before .before .before .before .before .before .before .before .before .before .before .args .src .now) _ _ _ ((c .before .before .before .before .before .before .before .before .before .before .before .before .before .before .before .before .before .before .before .before .before .before .before .before .before .pre) .2) (p .ensures .log) (c .before .before .before .before .before .before .before .before .before .before .before .before .before .before .before .before .before .before .before .before .take-view .ensures) (c .before .before .before .before .before .before .before .before .before .before .before .before .before .before .before .before .begin-head .ensures) w (c .before .before .before .before .before .before .put-table .ensures) (c .before .before .empty-tables .ensures)
+returns c = let p = c .before .before .before .before .before .before .before .before .before .before .before .before .before .places-of in let w = zeroed _ _ (p .result .heard) (p .result .log) _ (9 * (c .before .before .before .before .before .before .before .before .before .before .before .before .before .before .before .before .before .before .before .before .before .before .before .before .before .args .shape .n)) (c .before .before .before .before .before .before .before .before .before .before .fill-zero .ensures) (p .ensures .heard) (omega (arith, p .ensures .log)) in begun (c .before .before .before .before .before .before .before .before .before .before .before .before .before .before .before .before .before .before .before .before .before .before .before .before .before .pre .0) _ (c .before .before .before .before .before .before .before .before .before .before .before .before .before .before .before .before .before .before .before .before .before .before .before .before .before .args .message .now) (bytes-known (c .before .before .before .before .before .before .before .before .before .before .before .before .before .before .before .before .before .before .before .before .before .before .before .before .before .args .message .now) (λ i. (c .before .before .before .before .before .before .before .before .before .before .before .before .before .before .before .before .before .before .before .before .before .before .before .shared-slice-known .given) i .fits)) (c .before .before .before .before .before .before .before .before .before .before .before .before .before .before .before .before .before .before .before .before .before .before .before .before .before .pre .1) (c .before .before .before .before .before .before .before .before .before .before .before .before .before .before .before .before .before .before .before .before .before .before .before .before .before .args .src .now) _ _ _ (c .before .before .before .before .before .before .before .before .before .before .before .before .before .before .before .before .before .before .before .before .before .before .before .before .before .pre .2) (p .ensures .log) (c .before .before .before .before .before .before .before .before .before .before .before .before .before .before .before .before .before .before .before .before .take-view .ensures) (c .before .before .before .before .before .before .before .before .before .before .before .before .before .before .before .before .begin-head .ensures) w (c .before .before .before .before .before .before .put-table .ensures) (c .before .before .empty-tables .ensures)
 
 pub begin-spec : {M : Type 1} → statement M
 begin-spec =

@@ -1,4 +1,5 @@
 -- `views::begin_head` meets its contract. Assumes nothing.
+-- Made by tools/answers from the file `answers` beside it: change that one.
 use Rattle.views.proofs.Begun.{begun-in}
 use borrow.Author.Needs.{needs}
 use Rattle.views.proofs.begin_head.Statement.{statement}

@@ -1,4 +1,5 @@
 -- `views::empty_tables` meets its contract. Assumes nothing.
+-- Made by tools/answers from the file `answers` beside it: change that one.
 use native.Mathlib.Omega.{arith}
 use Rattle.places.proofs.Spots.{zeroed}
 use Rattle.views.specs.Views.{tablesLength}
@@ -19,10 +20,14 @@ same-length : tie.Need-same-length
 same-length c = search needs
 
 returns : tie.Need-returns
-returns c =
-    let p = (c .before .before .before .before .before .places-of) in
-    zeroed _ _ (p .result .early) (p .result .end) _ (tablesLength (c .before .before .before .before .before .before .before .args .shape)) (c .before .before .fill-zero .ensures) (p .ensures .early) (omega (arith, p .ensures .end))
+returns c = let p = c .before .before .before .before .before .places-of in zeroed _ _ (p .result .early) (p .result .end) _ (tablesLength (c .before .before .before .before .before .before .before .args .shape)) (c .before .before .fill-zero .ensures) (p .ensures .early) (omega (arith, p .ensures .end))
 
 pub empty-tables-spec : {M : Type 1} → statement M
 empty-tables-spec =
-    tie.close (tie.spec places-of-requires sub-fill-zero fill-zero-requires same-length returns)
+    tie.close
+    (tie.spec
+    places-of-requires
+    sub-fill-zero
+    fill-zero-requires
+    same-length
+    returns)

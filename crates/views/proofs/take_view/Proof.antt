@@ -1,4 +1,5 @@
 -- `views::take_view` meets its contract. Assumes nothing.
+-- Made by tools/answers from the file `answers` beside it: change that one.
 use Rattle.views.proofs.Taken.{taken-in}
 use borrow.Author.Needs.{needs}
 use Rattle.views.proofs.take_view.Statement.{statement}

@@ -1,9 +1,10 @@
 -- `votes::all_groups` meets its contract: the shift stays within the mask. Assumes nothing.
+-- Made by tools/answers from the file `answers` beside it: change that one.
 use Prim.Native.Nat.{ℕ, _-_}
 use mathlib.Core.Path.{ap}
 use native.Mathlib.Omega.{arith}
-use borrow.Author.Needs.{needs}
 use Rattle.group.proofs.Masks.{positive, shifted}
+use borrow.Author.Needs.{needs}
 use Rattle.votes.proofs.all_groups.Statement.{statement}
 use Rattle.votes.proofs.all_groups.Tie as tie
 

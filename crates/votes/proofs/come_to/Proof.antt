@@ -1,11 +1,12 @@
 -- `votes::come_to` meets its contract. Assumes nothing.
-use borrow.Author.Needs.{needs}
+-- Made by tools/answers from the file `answers` beside it: change that one.
 use Rattle.votes.proofs.Came.{stays, enters}
+use borrow.Author.Needs.{needs}
 use Rattle.votes.proofs.come_to.Statement.{statement}
 use Rattle.votes.proofs.come_to.Tie as tie
 
 returns : tie.Need-returns
-returns c = stays _ _ _ _ (c .before .before .before .args .entering) ((c .before .before .before .pre) .0) (c .if1 .taken)
+returns c = stays _ _ _ _ (c .before .before .before .args .entering) (c .before .before .before .pre .0) (c .if1 .taken)
 
 enter-requires : tie.Need-enter-requires
 enter-requires c κs = search needs

@@ -1,9 +1,10 @@
 -- `votes::conclude` meets its contract: one law for each way through it. Assumes nothing.
+-- Made by tools/answers from the file `answers` beside it: change that one.
 use Prim.Native.Nat.{_^_, _<_}
 use native.Mathlib.Omega.{arith}
-use borrow.Author.Needs.{needs}
 use Rattle.octets.proofs.Laws.{bytes-known}
 use Rattle.votes.proofs.ConcludeWays.{conclude-long, conclude-table, conclude-one, conclude-more}
+use borrow.Author.Needs.{needs}
 use Rattle.votes.proofs.conclude.Statement.{statement}
 use Rattle.votes.proofs.conclude.Tie as tie
 
@@ -23,14 +24,10 @@ same-length-2 : tie.Need-same-length-2
 same-length-2 c = search needs
 
 returns : tie.Need-returns
-returns c =
-    let v : (c .before .before .before .before .before .before .before .before .before .before .before .args .view) < 256 ^ 4 = omega arith in
-    conclude-long _ _ (c .before .before .before .before .before .before .before .before .before .before .before .args .message .now) (c .before .before .before .before .before .before .before .before .before .before .before .args .view) (c .before .before .before .before .before .before .before .before .before .before .before .args .cast) ((c .before .before .before .before .before .before .before .before .before .before .before .pre) .0) (bytes-known (c .before .before .before .before .before .before .before .before .before .before .before .args .message .now) (λ i. (c .before .before .before .before .before .before .before .before .before .shared-slice-known .given) i .fits)) v _ _ _ (c .before .before .before .before .rebuild .ensures) (c .enum-told .given .1)
+returns c = let v : (c .before .before .before .before .before .before .before .before .before .before .before .args .view) < 256 ^ 4 = omega arith in conclude-long _ _ (c .before .before .before .before .before .before .before .before .before .before .before .args .message .now) (c .before .before .before .before .before .before .before .before .before .before .before .args .view) (c .before .before .before .before .before .before .before .before .before .before .before .args .cast) (c .before .before .before .before .before .before .before .before .before .before .before .pre .0) (bytes-known (c .before .before .before .before .before .before .before .before .before .before .before .args .message .now) (λ i. (c .before .before .before .before .before .before .before .before .before .shared-slice-known .given) i .fits)) v _ _ _ (c .before .before .before .before .rebuild .ensures) (c .enum-told .given .1)
 
 start-leading-requires : tie.Need-start-leading-requires
-start-leading-requires c κs =
-    let v : (c .before .before .before .before .before .before .before .before .before .before .before .before .before .before .before .before .before .args .view) < 256 ^ 4 = omega arith in
-    (((c .before .before .before .before .before .before .before .before .before .before .before .before .before .before .before .before .before .pre) .0 .given .sent .stands), ((c .before .before .before .before .before .before .before .before .before .before .before .before .before .before .before .before .before .pre) .0 .views), conclude-table _ _ (c .before .before .before .before .before .before .before .before .before .before .before .before .before .before .before .before .before .args .message .now) (c .before .before .before .before .before .before .before .before .before .before .before .before .before .before .before .before .before .args .view) (c .before .before .before .before .before .before .before .before .before .before .before .before .before .before .before .before .before .args .cast) ((c .before .before .before .before .before .before .before .before .before .before .before .before .before .before .before .before .before .pre) .0) (bytes-known (c .before .before .before .before .before .before .before .before .before .before .before .before .before .before .before .before .before .args .message .now) (λ i. (c .before .before .before .before .before .before .before .before .before .before .before .before .before .before .before .shared-slice-known .given) i .fits)) v (c .before .before .before .before .before .before .before .before .before .before .before .before .before .before .before .before .before .args .out .now) _ _ (c .before .before .before .before .before .before .before .before .before .before .rebuild .ensures) _ (c .before .before .before .before .before .before .rebuilt .given .1))
+start-leading-requires c κs = let v : (c .before .before .before .before .before .before .before .before .before .before .before .before .before .before .before .before .before .args .view) < 256 ^ 4 = omega arith in (c .before .before .before .before .before .before .before .before .before .before .before .before .before .before .before .before .before .pre .0 .given .sent .stands, c .before .before .before .before .before .before .before .before .before .before .before .before .before .before .before .before .before .pre .0 .views, conclude-table _ _ (c .before .before .before .before .before .before .before .before .before .before .before .before .before .before .before .before .before .args .message .now) (c .before .before .before .before .before .before .before .before .before .before .before .before .before .before .before .before .before .args .view) (c .before .before .before .before .before .before .before .before .before .before .before .before .before .before .before .before .before .args .cast) (c .before .before .before .before .before .before .before .before .before .before .before .before .before .before .before .before .before .pre .0) (bytes-known (c .before .before .before .before .before .before .before .before .before .before .before .before .before .before .before .before .before .args .message .now) (λ i. (c .before .before .before .before .before .before .before .before .before .before .before .before .before .before .before .shared-slice-known .given) i .fits)) v (c .before .before .before .before .before .before .before .before .before .before .before .before .before .before .before .before .before .args .out .now) _ _ (c .before .before .before .before .before .before .before .before .before .before .rebuild .ensures) _ (c .before .before .before .before .before .before .rebuilt .given .1))
 
 same-length-3 : tie.Need-same-length-3
 same-length-3 c = search needs
@@ -42,14 +39,10 @@ same-length-5 : tie.Need-same-length-5
 same-length-5 c = search needs
 
 returns-2 : tie.Need-returns-2
-returns-2 c =
-    let v : (c .before .before .before .before .before .before .before .before .before .before .before .before .before .before .before .before .before .before .before .before .before .before .args .view) < 256 ^ 4 = omega arith in
-    conclude-one _ _ (c .before .before .before .before .before .before .before .before .before .before .before .before .before .before .before .before .before .before .before .before .before .before .args .message .now) (c .before .before .before .before .before .before .before .before .before .before .before .before .before .before .before .before .before .before .before .before .before .before .args .view) (c .before .before .before .before .before .before .before .before .before .before .before .before .before .before .before .before .before .before .before .before .before .before .args .cast) ((c .before .before .before .before .before .before .before .before .before .before .before .before .before .before .before .before .before .before .before .before .before .before .pre) .0) (bytes-known (c .before .before .before .before .before .before .before .before .before .before .before .before .before .before .before .before .before .before .before .before .before .before .args .message .now) (λ i. (c .before .before .before .before .before .before .before .before .before .before .before .before .before .before .before .before .before .before .before .before .shared-slice-known .given) i .fits)) v _ _ _ (c .before .before .before .before .before .before .before .before .before .before .before .before .before .before .before .rebuild .ensures) _ (c .before .before .before .before .before .before .before .before .before .before .before .rebuilt .given .1) _ (c .before .before .before .before .before .before .before .before .if1 .taken) (c .before .before .before .before .start-leading .ensures)
+returns-2 c = let v : (c .before .before .before .before .before .before .before .before .before .before .before .before .before .before .before .before .before .before .before .before .before .before .args .view) < 256 ^ 4 = omega arith in conclude-one _ _ (c .before .before .before .before .before .before .before .before .before .before .before .before .before .before .before .before .before .before .before .before .before .before .args .message .now) (c .before .before .before .before .before .before .before .before .before .before .before .before .before .before .before .before .before .before .before .before .before .before .args .view) (c .before .before .before .before .before .before .before .before .before .before .before .before .before .before .before .before .before .before .before .before .before .before .args .cast) (c .before .before .before .before .before .before .before .before .before .before .before .before .before .before .before .before .before .before .before .before .before .before .pre .0) (bytes-known (c .before .before .before .before .before .before .before .before .before .before .before .before .before .before .before .before .before .before .before .before .before .before .args .message .now) (λ i. (c .before .before .before .before .before .before .before .before .before .before .before .before .before .before .before .before .before .before .before .before .shared-slice-known .given) i .fits)) v _ _ _ (c .before .before .before .before .before .before .before .before .before .before .before .before .before .before .before .rebuild .ensures) _ (c .before .before .before .before .before .before .before .before .before .before .before .rebuilt .given .1) _ (c .before .before .before .before .before .before .before .before .if1 .taken) (c .before .before .before .before .start-leading .ensures)
 
 ask-all-requires : tie.Need-ask-all-requires
-ask-all-requires c κs =
-    let v : (c .before .before .before .before .before .before .before .before .before .before .before .before .before .before .before .before .before .args .view) < 256 ^ 4 = omega arith in
-    ((c .before .before .before .before .before .before .before .before .before .before .before .before .before .before .before .before .before .pre) .0, conclude-table _ _ (c .before .before .before .before .before .before .before .before .before .before .before .before .before .before .before .before .before .args .message .now) (c .before .before .before .before .before .before .before .before .before .before .before .before .before .before .before .before .before .args .view) (c .before .before .before .before .before .before .before .before .before .before .before .before .before .before .before .before .before .args .cast) ((c .before .before .before .before .before .before .before .before .before .before .before .before .before .before .before .before .before .pre) .0) (bytes-known (c .before .before .before .before .before .before .before .before .before .before .before .before .before .before .before .before .before .args .message .now) (λ i. (c .before .before .before .before .before .before .before .before .before .before .before .before .before .before .before .shared-slice-known .given) i .fits)) v (c .before .before .before .before .before .before .before .before .before .before .before .before .before .before .before .before .before .args .out .now) _ _ (c .before .before .before .before .before .before .before .before .before .before .rebuild .ensures) _ (c .before .before .before .before .before .before .rebuilt .given .1))
+ask-all-requires c κs = let v : (c .before .before .before .before .before .before .before .before .before .before .before .before .before .before .before .before .before .args .view) < 256 ^ 4 = omega arith in (c .before .before .before .before .before .before .before .before .before .before .before .before .before .before .before .before .before .pre .0, conclude-table _ _ (c .before .before .before .before .before .before .before .before .before .before .before .before .before .before .before .before .before .args .message .now) (c .before .before .before .before .before .before .before .before .before .before .before .before .before .before .before .before .before .args .view) (c .before .before .before .before .before .before .before .before .before .before .before .before .before .before .before .before .before .args .cast) (c .before .before .before .before .before .before .before .before .before .before .before .before .before .before .before .before .before .pre .0) (bytes-known (c .before .before .before .before .before .before .before .before .before .before .before .before .before .before .before .before .before .args .message .now) (λ i. (c .before .before .before .before .before .before .before .before .before .before .before .before .before .before .before .shared-slice-known .given) i .fits)) v (c .before .before .before .before .before .before .before .before .before .before .before .before .before .before .before .before .before .args .out .now) _ _ (c .before .before .before .before .before .before .before .before .before .before .rebuild .ensures) _ (c .before .before .before .before .before .before .rebuilt .given .1))
 
 same-length-6 : tie.Need-same-length-6
 same-length-6 c = search needs
@@ -61,9 +54,7 @@ same-length-8 : tie.Need-same-length-8
 same-length-8 c = search needs
 
 returns-3 : tie.Need-returns-3
-returns-3 c =
-    let v : (c .before .before .before .before .before .before .before .before .before .before .before .before .before .before .before .before .before .before .before .before .before .before .args .view) < 256 ^ 4 = omega arith in
-    conclude-more _ _ (c .before .before .before .before .before .before .before .before .before .before .before .before .before .before .before .before .before .before .before .before .before .before .args .message .now) (c .before .before .before .before .before .before .before .before .before .before .before .before .before .before .before .before .before .before .before .before .before .before .args .view) (c .before .before .before .before .before .before .before .before .before .before .before .before .before .before .before .before .before .before .before .before .before .before .args .cast) ((c .before .before .before .before .before .before .before .before .before .before .before .before .before .before .before .before .before .before .before .before .before .before .pre) .0) (bytes-known (c .before .before .before .before .before .before .before .before .before .before .before .before .before .before .before .before .before .before .before .before .before .before .args .message .now) (λ i. (c .before .before .before .before .before .before .before .before .before .before .before .before .before .before .before .before .before .before .before .before .shared-slice-known .given) i .fits)) v _ _ _ (c .before .before .before .before .before .before .before .before .before .before .before .before .before .before .before .rebuild .ensures) _ (c .before .before .before .before .before .before .before .before .before .before .before .rebuilt .given .1) _ (c .before .before .before .before .before .before .before .before .if1 .left) (c .before .before .before .before .ask-all .ensures)
+returns-3 c = let v : (c .before .before .before .before .before .before .before .before .before .before .before .before .before .before .before .before .before .before .before .before .before .before .args .view) < 256 ^ 4 = omega arith in conclude-more _ _ (c .before .before .before .before .before .before .before .before .before .before .before .before .before .before .before .before .before .before .before .before .before .before .args .message .now) (c .before .before .before .before .before .before .before .before .before .before .before .before .before .before .before .before .before .before .before .before .before .before .args .view) (c .before .before .before .before .before .before .before .before .before .before .before .before .before .before .before .before .before .before .before .before .before .before .args .cast) (c .before .before .before .before .before .before .before .before .before .before .before .before .before .before .before .before .before .before .before .before .before .before .pre .0) (bytes-known (c .before .before .before .before .before .before .before .before .before .before .before .before .before .before .before .before .before .before .before .before .before .before .args .message .now) (λ i. (c .before .before .before .before .before .before .before .before .before .before .before .before .before .before .before .before .before .before .before .before .shared-slice-known .given) i .fits)) v _ _ _ (c .before .before .before .before .before .before .before .before .before .before .before .before .before .before .before .rebuild .ensures) _ (c .before .before .before .before .before .before .before .before .before .before .before .rebuilt .given .1) _ (c .before .before .before .before .before .before .before .before .if1 .left) (c .before .before .before .before .ask-all .ensures)
 
 pub conclude-spec : {M : Type 1} → statement M
 conclude-spec =

@@ -1,7 +1,8 @@
 -- `votes::conclude_few` meets its contract. Assumes nothing.
+-- Made by tools/answers from the file `answers` beside it: change that one.
 use mathlib.Core.Path.{refl}
-use borrow.Author.Needs.{needs}
 use Rattle.views.proofs.Aside.{aside-long}
+use borrow.Author.Needs.{needs}
 use Rattle.votes.proofs.conclude_few.Statement.{statement}
 use Rattle.votes.proofs.conclude_few.Tie as tie
 
@@ -21,7 +22,7 @@ part-scratch-end : tie.Need-part-scratch-end
 part-scratch-end c = search needs
 
 conclude-requires : tie.Need-conclude-requires
-conclude-requires c κs = ((c .before .before .before .before .before .before .pre .0), aside-long ((c .before .before .before .before .before .before .args .shape) .c) 256 6148 (c .before .before .before .before .before .before .pre .1) refl)
+conclude-requires c κs = (c .before .before .before .before .before .before .pre .0, aside-long (c .before .before .before .before .before .before .args .shape .c) 256 6148 (c .before .before .before .before .before .before .pre .1) refl)
 
 same-length : tie.Need-same-length
 same-length c = search needs

@@ -1,7 +1,8 @@
 -- `votes::conclude_many` meets its contract. Assumes nothing.
+-- Made by tools/answers from the file `answers` beside it: change that one.
 use mathlib.Core.Path.{refl}
-use borrow.Author.Needs.{needs}
 use Rattle.views.proofs.Aside.{aside-long}
+use borrow.Author.Needs.{needs}
 use Rattle.votes.proofs.conclude_many.Statement.{statement}
 use Rattle.votes.proofs.conclude_many.Tie as tie
 
@@ -21,7 +22,7 @@ part-scratch-end : tie.Need-part-scratch-end
 part-scratch-end c = search needs
 
 conclude-requires : tie.Need-conclude-requires
-conclude-requires c κs = ((c .before .before .before .before .before .before .pre), aside-long ((c .before .before .before .before .before .before .args .shape) .c) 4096 98308 ((c .before .before .before .before .before .before .pre) .given .sent .stands .fits .small) refl)
+conclude-requires c κs = (c .before .before .before .before .before .before .pre, aside-long (c .before .before .before .before .before .before .args .shape .c) 4096 98308 (c .before .before .before .before .before .before .pre .given .sent .stands .fits .small) refl)
 
 same-length : tie.Need-same-length
 same-length c = search needs

@@ -1,7 +1,8 @@
 -- `votes::count_with` meets its contract. Assumes nothing.
+-- Made by tools/answers from the file `answers` beside it: change that one.
 use native.Mathlib.Omega.{arith}
-use borrow.Author.Needs.{needs}
 use Rattle.votes.proofs.Counted.{count-entering, count-small, count-kept}
+use borrow.Author.Needs.{needs}
 use Rattle.votes.proofs.count_with.Statement.{statement}
 use Rattle.votes.proofs.count_with.Tie as tie
 

@@ -1,6 +1,7 @@
 -- `votes::is_second` meets its contract. Assumes nothing.
-use borrow.Author.Needs.{needs}
+-- Made by tools/answers from the file `answers` beside it: change that one.
 use Rattle.votes.proofs.Counted.{second-kept}
+use borrow.Author.Needs.{needs}
 use Rattle.votes.proofs.is_second.Statement.{statement}
 use Rattle.votes.proofs.is_second.Tie as tie
 

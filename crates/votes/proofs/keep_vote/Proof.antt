@@ -1,10 +1,11 @@
 -- `votes::keep_vote` meets its contract. Assumes nothing.
+-- Made by tools/answers from the file `answers` beside it: change that one.
 use Prim.Native.Nat.{_^_, _<_}
 use mathlib.Core.Path.{refl}
 use native.Mathlib.Omega.{arith}
-use borrow.Author.Needs.{needs}
 use Rattle.octets.proofs.Laws.{bytes-known}
 use Rattle.votes.proofs.Came.{kept}
+use borrow.Author.Needs.{needs}
 use Rattle.votes.proofs.keep_vote.Statement.{statement}
 use Rattle.votes.proofs.keep_vote.Tie as tie
 
@@ -30,9 +31,7 @@ same-length : tie.Need-same-length
 same-length c = search needs
 
 returns : tie.Need-returns
-returns c =
-    let v : (c .before .before .before .before .before .before .before .before .before .before .before .before .args .view) < 256 ^ 4 = omega arith in
-    kept _ _ (c .before .before .before .before .before .before .before .before .before .before .before .before .args .message .now) (c .before .before .before .before .before .before .before .before .before .before .before .before .args .view) (c .before .before .before .before .before .before .before .before .before .before .before .before .args .cast) (c .before .before .before .before .before .before .before .before .before .before .before .before .pre) (bytes-known (c .before .before .before .before .before .before .before .before .before .before .before .before .args .message .now) (λ i. (c .before .before .before .before .before .before .before .before .before .before .shared-slice-known .given) i .fits)) v _ _ _ _ _ (c .before .before .before .before .before .before .come-to .ensures) refl (c .before .before .before .before .before .before .before .before .before .get32 .ensures) refl (c .before .before .keep-vote .ensures)
+returns c = let v : (c .before .before .before .before .before .before .before .before .before .before .before .before .args .view) < 256 ^ 4 = omega arith in kept _ _ (c .before .before .before .before .before .before .before .before .before .before .before .before .args .message .now) (c .before .before .before .before .before .before .before .before .before .before .before .before .args .view) (c .before .before .before .before .before .before .before .before .before .before .before .before .args .cast) (c .before .before .before .before .before .before .before .before .before .before .before .before .pre) (bytes-known (c .before .before .before .before .before .before .before .before .before .before .before .before .args .message .now) (λ i. (c .before .before .before .before .before .before .before .before .before .before .shared-slice-known .given) i .fits)) v _ _ _ _ _ (c .before .before .before .before .before .before .come-to .ensures) refl (c .before .before .before .before .before .before .before .before .before .get32 .ensures) refl (c .before .before .keep-vote .ensures)
 
 pub keep-vote-spec : {M : Type 1} → statement M
 keep-vote-spec =

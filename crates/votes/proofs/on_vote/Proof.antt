@@ -1,11 +1,12 @@
 -- `votes::on_vote` meets its contract: one law for each way through it. Assumes nothing.
+-- Made by tools/answers from the file `answers` beside it: change that one.
 use mathlib.Core.Path.{refl}
-use borrow.Author.Needs.{needs}
 use Rattle.octets.proofs.Laws.{bytes-known}
 use Rattle.rules.specs.Step.{onVote}
 use Rattle.handler.proofs.Closes.{handled-other}
 use Rattle.handler.proofs.OtherKind.{not-tag}
 use Rattle.votes.proofs.VoteWays.{vote-counted, vote-sender, vote-second, vote-past, vote-kept, vote-few, vote-enough}
+use borrow.Author.Needs.{needs}
 use Rattle.votes.proofs.on_vote.Statement.{statement}
 use Rattle.votes.proofs.on_vote.Tie as tie
 

@@ -1,6 +1,7 @@
 -- `votes::take_draft` meets its contract. Assumes nothing.
-use borrow.Author.Needs.{needs}
+-- Made by tools/answers from the file `answers` beside it: change that one.
 use Rattle.votes.proofs.Came.{draft-taken}
+use borrow.Author.Needs.{needs}
 use Rattle.votes.proofs.take_draft.Statement.{statement}
 use Rattle.votes.proofs.take_draft.Tie as tie
 
@@ -23,7 +24,7 @@ same-length : tie.Need-same-length
 same-length c = search needs
 
 returns : tie.Need-returns
-returns c = draft-taken _ _ _ _ _ _ _ _ _ ((c .before .before .before .before .before .before .before .before .before .before .before .before .before .before .before .before .pre) .1) (c .before .before .before .before .before .before .before .before .before .before .before .before .before .places-of .ensures .draft) (c .before .before .before .before .before .before .before .before .before .before .before .before .count .ensures) (c .before .before .before .before .before .before .before .before .before .before .put-table .ensures) (c .before .before .before .before .before .before .put-boundary .ensures) (c .before .before .put-status .ensures)
+returns c = draft-taken _ _ _ _ _ _ _ _ _ (c .before .before .before .before .before .before .before .before .before .before .before .before .before .before .before .before .pre .1) (c .before .before .before .before .before .before .before .before .before .before .before .before .before .places-of .ensures .draft) (c .before .before .before .before .before .before .before .before .before .before .before .before .count .ensures) (c .before .before .before .before .before .before .before .before .before .before .put-table .ensures) (c .before .before .before .before .before .before .put-boundary .ensures) (c .before .before .put-status .ensures)
 
 pub take-draft-spec : {M : Type 1} → statement M
 take-draft-spec =

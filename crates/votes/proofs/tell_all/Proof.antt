@@ -1,7 +1,8 @@
 -- `votes::tell_all` meets its contract. Assumes nothing.
+-- Made by tools/answers from the file `answers` beside it: change that one.
 use mathlib.Core.Path.{refl}
-use borrow.Author.Needs.{needs}
 use Rattle.handler.proofs.Leaders.{asks-verify}
+use borrow.Author.Needs.{needs}
 use Rattle.votes.proofs.tell_all.Statement.{statement}
 use Rattle.votes.proofs.tell_all.Tie as tie
 
@@ -15,7 +16,7 @@ part-tell-leaders-end : tie.Need-part-tell-leaders-end
 part-tell-leaders-end c = search needs
 
 tell-leaders-requires : tie.Need-tell-leaders-requires
-tell-leaders-requires c κs = (((c .before .before .before .before .pre) .0), asks-verify _ refl, ((c .before .before .before .before .pre) .1))
+tell-leaders-requires c κs = (c .before .before .before .before .pre .0, asks-verify _ refl, c .before .before .before .before .pre .1)
 
 same-length : tie.Need-same-length
 same-length c = search needs

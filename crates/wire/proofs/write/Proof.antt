@@ -1,11 +1,12 @@
 -- `wire::write` meets its contract. Assumes nothing.
-use borrow.Author.Needs.{needs}
-use Rattle.wire.proofs.write.Statement.{statement}
-use Rattle.wire.proofs.write.Tie as tie
+-- Made by tools/answers from the file `answers` beside it: change that one.
 use native.Mathlib.Omega.{arith}
 use Rattle.octets.proofs.Laws.{bytes-known}
 use Rattle.wire.proofs.Reader.{groups}
 use Rattle.wire.proofs.Formed.{sizes-wrong, parts-wrong, small, room-for, no-room, all-done}
+use borrow.Author.Needs.{needs}
+use Rattle.wire.proofs.write.Statement.{statement}
+use Rattle.wire.proofs.write.Tie as tie
 
 sizes-fit-requires : tie.Need-sizes-fit-requires
 sizes-fit-requires c κs = search needs
@@ -23,9 +24,7 @@ size-of-requires : tie.Need-size-of-requires
 size-of-requires c κs = small (c .before .before .before .before .before .before .before .args .n) (c .before .before .before .before .before .before .before .args .s) (c .before .before .before .before .before .before .before .args .m) (c .before .before .before .before .before .before .before .args .views .now) (c .before .before .before .before .before .before .before .args .entries .now) (c .before .before .before .before .before .before .before .args .out .now) (c .before .before .before .sizes-fit .result) (c .before .before .before .sizes-fit .ensures) (c .before .before .if1 .left) (c .before .parts-formed .result) (c .before .parts-formed .ensures) (c .if2 .left)
 
 returns-3 : tie.Need-returns-3
-returns-3 c =
-    no-room (c .before .before .before .before .before .before .before .before .before .args .n) (c .before .before .before .before .before .before .before .before .before .args .s) (c .before .before .before .before .before .before .before .before .before .args .m) (c .before .before .before .before .before .before .before .before .before .args .views .now) (c .before .before .before .before .before .before .before .before .before .args .entries .now) (c .before .before .before .before .before .before .before .before .before .args .out .now) (c .before .before .before .before .before .sizes-fit .result) (c .before .before .before .before .before .sizes-fit .ensures) (c .before .before .before .before .if1 .left) (c .before .before .before .parts-formed .result) (c .before .before .before .parts-formed .ensures) (c .before .before .if2 .left)
-    (bytes-known (c .before .before .before .before .before .before .before .before .before .args .views .now) (λ i. (c .before .before .before .before .before .before .before .before .shared-slice-known .given) i .fits)) (bytes-known (c .before .before .before .before .before .before .before .before .before .args .entries .now) (λ i. (c .before .before .before .before .before .before .before .shared-slice-known2 .given) i .fits)) (c .before .size-of .result) (c .before .size-of .ensures) (c .if3 .taken)
+returns-3 c = no-room (c .before .before .before .before .before .before .before .before .before .args .n) (c .before .before .before .before .before .before .before .before .before .args .s) (c .before .before .before .before .before .before .before .before .before .args .m) (c .before .before .before .before .before .before .before .before .before .args .views .now) (c .before .before .before .before .before .before .before .before .before .args .entries .now) (c .before .before .before .before .before .before .before .before .before .args .out .now) (c .before .before .before .before .before .sizes-fit .result) (c .before .before .before .before .before .sizes-fit .ensures) (c .before .before .before .before .if1 .left) (c .before .before .before .parts-formed .result) (c .before .before .before .parts-formed .ensures) (c .before .before .if2 .left) (bytes-known (c .before .before .before .before .before .before .before .before .before .args .views .now) (λ i. (c .before .before .before .before .before .before .before .before .shared-slice-known .given) i .fits)) (bytes-known (c .before .before .before .before .before .before .before .before .before .args .entries .now) (λ i. (c .before .before .before .before .before .before .before .shared-slice-known2 .given) i .fits)) (c .before .size-of .result) (c .before .size-of .ensures) (c .if3 .taken)
 
 put-message-requires : tie.Need-put-message-requires
 put-message-requires c κs = room-for (c .before .before .before .before .before .before .before .before .before .before .args .n) (c .before .before .before .before .before .before .before .before .before .before .args .s) (c .before .before .before .before .before .before .before .before .before .before .args .m) (c .before .before .before .before .before .before .before .before .before .before .args .views .now) (c .before .before .before .before .before .before .before .before .before .before .args .entries .now) (c .before .before .before .before .before .before .before .before .before .before .args .out .now) (c .before .before .before .before .before .before .sizes-fit .result) (c .before .before .before .before .before .before .sizes-fit .ensures) (c .before .before .before .before .before .if1 .left) (c .before .before .before .before .parts-formed .result) (c .before .before .before .before .parts-formed .ensures) (c .before .before .before .if2 .left) (c .before .before .size-of .result) (c .before .before .size-of .ensures) (c .before .if3 .left)
@@ -34,9 +33,7 @@ same-length : tie.Need-same-length
 same-length c = search needs
 
 returns-4 : tie.Need-returns-4
-returns-4 c =
-    all-done (c .before .before .before .before .before .before .before .before .before .before .before .before .before .args .n) (c .before .before .before .before .before .before .before .before .before .before .before .before .before .args .s) (c .before .before .before .before .before .before .before .before .before .before .before .before .before .args .m) (c .before .before .before .before .before .before .before .before .before .before .before .before .before .args .views .now) (c .before .before .before .before .before .before .before .before .before .before .before .before .before .args .entries .now) (c .before .before .before .before .before .before .before .before .before .before .before .before .before .args .out .now) (c .before .before .before .before .before .before .before .before .before .sizes-fit .result) (c .before .before .before .before .before .before .before .before .before .sizes-fit .ensures) (c .before .before .before .before .before .before .before .before .if1 .left) (c .before .before .before .before .before .before .before .parts-formed .result) (c .before .before .before .before .before .before .before .parts-formed .ensures) (c .before .before .before .before .before .before .if2 .left)
-    (bytes-known (c .before .before .before .before .before .before .before .before .before .before .before .before .before .args .views .now) (λ i. (c .before .before .before .before .before .before .before .before .before .before .before .before .shared-slice-known .given) i .fits)) (bytes-known (c .before .before .before .before .before .before .before .before .before .before .before .before .before .args .entries .now) (λ i. (c .before .before .before .before .before .before .before .before .before .before .before .shared-slice-known2 .given) i .fits)) (c .before .before .before .before .before .size-of .result) (c .before .before .put-message .result) _ (c .before .before .before .before .before .size-of .ensures) (c .before .before .before .before .if3 .left) (c .before .before .put-message .ensures .0) (c .before .before .put-message .ensures .1)
+returns-4 c = all-done (c .before .before .before .before .before .before .before .before .before .before .before .before .before .args .n) (c .before .before .before .before .before .before .before .before .before .before .before .before .before .args .s) (c .before .before .before .before .before .before .before .before .before .before .before .before .before .args .m) (c .before .before .before .before .before .before .before .before .before .before .before .before .before .args .views .now) (c .before .before .before .before .before .before .before .before .before .before .before .before .before .args .entries .now) (c .before .before .before .before .before .before .before .before .before .before .before .before .before .args .out .now) (c .before .before .before .before .before .before .before .before .before .sizes-fit .result) (c .before .before .before .before .before .before .before .before .before .sizes-fit .ensures) (c .before .before .before .before .before .before .before .before .if1 .left) (c .before .before .before .before .before .before .before .parts-formed .result) (c .before .before .before .before .before .before .before .parts-formed .ensures) (c .before .before .before .before .before .before .if2 .left) (bytes-known (c .before .before .before .before .before .before .before .before .before .before .before .before .before .args .views .now) (λ i. (c .before .before .before .before .before .before .before .before .before .before .before .before .shared-slice-known .given) i .fits)) (bytes-known (c .before .before .before .before .before .before .before .before .before .before .before .before .before .args .entries .now) (λ i. (c .before .before .before .before .before .before .before .before .before .before .before .shared-slice-known2 .given) i .fits)) (c .before .before .before .before .before .size-of .result) (c .before .before .put-message .result) _ (c .before .before .before .before .before .size-of .ensures) (c .before .before .before .before .if3 .left) (c .before .before .put-message .ensures .0) (c .before .before .put-message .ensures .1)
 
 pub write-spec : {M : Type 1} → statement M
 write-spec =

@@ -1,8 +1,9 @@
 -- `writer::put_header` meets its contract. Assumes nothing.
+-- Made by tools/answers from the file `answers` beside it: change that one.
+use Rattle.writer.proofs.Writer.{header-put}
 use borrow.Author.Needs.{needs}
 use Rattle.writer.proofs.put_header.Statement.{statement}
 use Rattle.writer.proofs.put_header.Tie as tie
-use Rattle.writer.proofs.Writer.{header-put}
 
 put8-requires : tie.Need-put8-requires
 put8-requires c κs = search needs

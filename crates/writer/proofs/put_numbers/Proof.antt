@@ -1,75 +1,68 @@
 -- `writer::put_numbers` meets its contract. Assumes nothing.
+-- Made by tools/answers from the file `answers` beside it: change that one.
+use Prim.Native.Nat.{_≤_, _-_, _+_, _*_}
+use mathlib.Core.Path.{_≡_, refl}
+use native.Mathlib.Omega.{arith}
+use lib.ListN.{length, take}
+use Rattle.octets.specs.Bytes.{le, flat, splice}
+use Rattle.writer.proofs.Writer.{number-put, no-number-put, all-numbers-put}
 use borrow.Author.Needs.{needs}
 use Rattle.writer.proofs.put_numbers.Statement.{statement}
 use Rattle.writer.proofs.put_numbers.Tie as tie
-use native.Mathlib.Omega.{arith}
-use Rattle.writer.proofs.Writer.{none-put, one-put, two-put, three-put}
 
-cast-put32 : tie.Need-cast-put32
-cast-put32 c = search needs
+abbrev Inv-loop : tie.InvT-loop
+Inv-loop out₀ at numbers i₀ out i = (i ≤ length numbers) × (length out ≡ length out₀) × (out ≡ splice out₀ at (flat (le 8) (take i numbers)))
 
-put32-requires : tie.Need-put32-requires
-put32-requires c κs = search needs
+abbrev μ-loop : tie.MeasureT-loop
+μ-loop out₀ at numbers i₀ out i = length numbers - i
 
-same-length : tie.Need-same-length
-same-length c = search needs
+loop-holds : tie.Need-loop-holds Inv-loop μ-loop
+loop-holds c = (omega arith, refl, no-number-put (c .before .before .args .out .now) (c .before .before .args .at) (c .before .before .args .numbers .now))
 
-returns : tie.Need-returns
-returns c = none-put _ _ (c .before .before .before .before .before .before .before .before .args .p) _ (omega arith) (c .before .before .before .before .put32 .ensures)
+mul-put64 : tie.Need-mul-put64 Inv-loop μ-loop
+mul-put64 c = search needs
 
-add-put64 : tie.Need-add-put64
+add-put64 : tie.Need-add-put64 Inv-loop μ-loop
 add-put64 c = search needs
 
-put64-requires : tie.Need-put64-requires
+mul-put64-2 : tie.Need-mul-put64-2 Inv-loop μ-loop
+mul-put64-2 c = search needs
+
+shared-slice-read-put64 : tie.Need-shared-slice-read-put64 Inv-loop μ-loop
+shared-slice-read-put64 c = search needs
+
+put64-requires : tie.Need-put64-requires Inv-loop μ-loop
 put64-requires c κs = search needs
 
-same-length-2 : tie.Need-same-length-2
-same-length-2 c = search needs
+add-i : tie.Need-add-i Inv-loop μ-loop
+add-i c = search needs
 
-returns-2 : tie.Need-returns-2
-returns-2 c = one-put _ _ (c .before .before .before .before .before .before .before .before .before .before .before .before .before .before .args .p) _ _ (c .before .before .before .before .before .before .before .before .before .before .before .before .before .before .pre .1) (omega arith) (c .before .before .before .before .before .before .before .before .before .before .put32 .ensures) (c .before .before .before .before .put64 .ensures)
+loop-less : tie.Need-loop-less Inv-loop μ-loop
+loop-less c = search needs
 
-add-put64-2 : tie.Need-add-put64-2
-add-put64-2 c = search needs
+loop-again : tie.Need-loop-again Inv-loop μ-loop
+loop-again c = (omega arith, omega (arith, c .before .before .put64 .kept), number-put (c .before .before .before .before .before .before .before .before .before .args .out .now) (c .before .before .before .before .before .before .before .before .before .args .at) (c .before .before .before .before .before .before .loop .i) _ (c .before .before .before .before .before .before .before .before .before .args .numbers .now) (c .before .before .before .before .before .before .loop .out) _ (c .before .before .before .before .before .before .before .before .before .pre) (c .before .before .before .before .before .loop-test .taken) refl (c .before .before .before .before .before .before .loop .inv .2) (c .before .before .put64 .ensures))
 
-put64-requires-2 : tie.Need-put64-requires-2
-put64-requires-2 c κs = search needs
+same-length : tie.Need-same-length Inv-loop μ-loop
+same-length c = search needs
 
-same-length-3 : tie.Need-same-length-3
-same-length-3 c = search needs
-
-returns-3 : tie.Need-returns-3
-returns-3 c = two-put _ _ (c .before .before .before .before .before .before .before .before .before .before .before .before .before .before .before .before .before .before .before .before .args .p) _ _ _ (c .before .before .before .before .before .before .before .before .before .before .before .before .before .before .before .before .before .before .before .before .pre .1) (omega arith) (c .before .before .before .before .before .before .before .before .before .before .before .before .before .before .before .before .put32 .ensures) (c .before .before .before .before .before .before .before .before .before .before .put64 .ensures) (c .before .before .before .before .put642 .ensures)
-
-add-put64-3 : tie.Need-add-put64-3
-add-put64-3 c = omega (arith, (c .before .before .before .before .before .before .before .before .before .before .before .before .before .before .before .before .before .before .before .before .before .pre .0), (c .before .before .before .before .before .before .before .before .before .before .before .before .before .before .before .before .before .before .before .before .before .pre .1), (c .before .if3 .left), (c .before .before .before .before .before .before .before .before .before .before .before .before .before .before .before .before .before .before .before .before .before .good))
-
-put64-requires-3 : tie.Need-put64-requires-3
-put64-requires-3 c κs = omega (arith, (c .before .before .before .before .before .before .before .before .before .before .before .before .before .before .before .before .before .before .before .before .before .pre .0), (c .before .before .before .before .before .before .before .before .before .before .before .before .before .before .before .before .before .before .before .before .before .pre .1), (c .before .if3 .left), (c .before .before .before .before .before .before .before .before .before .before .before .before .before .before .before .before .before .put32 .kept .0), (c .before .before .before .before .before .before .before .before .before .before .before .put64 .kept .0), (c .before .before .before .before .before .put642 .kept .0))
-
-same-length-4 : tie.Need-same-length-4
-same-length-4 c = search needs
-
-returns-4 : tie.Need-returns-4
-returns-4 c = three-put _ _ (c .before .before .before .before .before .before .before .before .before .before .before .before .before .before .before .before .before .before .before .before .before .before .before .before .args .p) _ _ _ _ (c .before .before .before .before .before .before .before .before .before .before .before .before .before .before .before .before .before .before .before .before .before .before .before .before .pre .1) (omega (arith, (c .before .before .before .before .before .before .before .before .before .before .before .before .before .before .before .before .before .before .before .before .before .before .before .before .pre .0), (c .before .before .before .before .if3 .left))) (c .before .before .before .before .before .before .before .before .before .before .before .before .before .before .before .before .before .before .before .before .put32 .ensures) (c .before .before .before .before .before .before .before .before .before .before .before .before .before .before .put64 .ensures) (c .before .before .before .before .before .before .before .before .put642 .ensures) (c .before .before .put643 .ensures)
+returns : tie.Need-returns Inv-loop μ-loop
+returns c = all-numbers-put (c .before .before .before .before .args .out .now) (c .before .before .before .before .args .at) (c .before .loop .i) (c .before .before .before .before .args .numbers .now) _ (c .before .loop .inv .0) (omega arith) (c .before .loop .inv .2)
 
 pub put-numbers-spec : {M : Type 1} → statement M
 put-numbers-spec =
     tie.close
     (tie.spec
-    cast-put32
-    put32-requires
-    same-length
-    returns
+    Inv-loop
+    μ-loop
+    loop-holds
+    mul-put64
     add-put64
+    mul-put64-2
+    shared-slice-read-put64
     put64-requires
-    same-length-2
-    returns-2
-    add-put64-2
-    put64-requires-2
-    same-length-3
-    returns-3
-    add-put64-3
-    put64-requires-3
-    same-length-4
-    returns-4)
+    add-i
+    loop-less
+    loop-again
+    same-length
+    returns)

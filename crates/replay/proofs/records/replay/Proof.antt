@@ -1,5 +1,6 @@
 -- `replay::records::replay` is safe and ends. The measure is the number of turns that are left; both slices keep their lengths.
 -- Assumes nothing.
+-- Made by tools/answers from the file `answers` beside it: change that one.
 use Prim.Native.Nat.{_-_}
 use mathlib.Core.Path.{_≡_, refl}
 use lib.ListN.{length}

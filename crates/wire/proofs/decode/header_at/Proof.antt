@@ -1,4 +1,5 @@
 -- `wire::decode::header_at` meets its contract. Assumes nothing.
+-- Made by tools/answers from the file `answers` beside it: change that one.
 use borrow.Author.Needs.{needs}
 use Rattle.wire.proofs.decode.header_at.Statement.{statement}
 use Rattle.wire.proofs.decode.header_at.Tie as tie

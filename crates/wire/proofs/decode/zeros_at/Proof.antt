@@ -1,8 +1,9 @@
 -- `wire::decode::zeros_at` meets its contract. Assumes nothing.
+-- Made by tools/answers from the file `answers` beside it: change that one.
+use Rattle.octets.proofs.Laws.{get-two}
 use borrow.Author.Needs.{needs}
 use Rattle.wire.proofs.decode.zeros_at.Statement.{statement}
 use Rattle.wire.proofs.decode.zeros_at.Tie as tie
-use Rattle.octets.proofs.Laws.{get-two}
 
 look16-requires : tie.Need-look16-requires
 look16-requires c κs = search needs

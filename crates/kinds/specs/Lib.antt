@@ -1,0 +1,2 @@
+-- The rows of the table of kinds as the code has them.
+pub mod Rows

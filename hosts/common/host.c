@@ -1,0 +1,157 @@
+#define _POSIX_C_SOURCE 200809L
+
+#include "host.h"
+
+#include <errno.h>
+#include <stdarg.h>
+#include <stdio.h>
+#include <stdlib.h>
+#include <string.h>
+#include <time.h>
+#include <unistd.h>
+
+_Noreturn void stop(const char *format, ...)
+{
+    va_list words;
+    va_start(words, format);
+    fflush(stdout);
+    fprintf(stderr, "%s: ", program_name);
+    vfprintf(stderr, format, words);
+    fprintf(stderr, "\n");
+    va_end(words);
+    exit(2);
+}
+
+void *enlarged(void *lent, size_t length)
+{
+    lent = realloc(lent, length);
+    if (lent == NULL)
+        stop("out of memory");
+    return lent;
+}
+
+void *memory(size_t length)
+{
+    size_t exact = length == 0 ? 1 : length; /* and no more, so that a tool sees what is read past it */
+    return memset(enlarged(NULL, exact), 0, exact);
+}
+
+uint8_t *read_file(const char *path, size_t *length)
+{
+    FILE *file = strcmp(path, "-") == 0 ? stdin : fopen(path, "rb");
+    size_t room = 0;
+    uint8_t *bytes = NULL;
+    if (file == NULL)
+        stop("'%s' cannot be opened", path);
+    *length = 0;
+    do {
+        room = 2 * room + (1 << 16);
+        bytes = enlarged(bytes, room);
+        *length += fread(bytes + *length, 1, room - *length, file);
+    } while (*length == room);
+    if (ferror(file))
+        stop("'%s' cannot be read", path);
+    if (file != stdin)
+        fclose(file);
+    return bytes;
+}
+
+/* ---- the command line --------------------------------------------------------------------------------- */
+
+static uint64_t number_in(const option *asked, const char *text)
+{
+    char *end = NULL;
+    errno = 0;
+    unsigned long long value = strtoull(text, &end, 10);
+    if (*text < '0' || *text > '9' || *end != 0 || errno != 0 || value < asked->least || value > asked->most)
+        stop("%s takes a number from %" PRIu64 " to %" PRIu64 ", not '%s'", asked->name, asked->least, asked->most,
+             text);
+    return value;
+}
+
+/* Takes one option with what stands behind it; gives how many words that were. */
+static int take_option(const option *asked, const char *next)
+{
+    if (asked->flag != NULL) {
+        *asked->flag = true;
+        return 1;
+    }
+    if (next == NULL)
+        stop("%s takes a %s behind it; ./jallumere %s --help lists the options", asked->name,
+             asked->number != NULL ? "number" : "word", program_name);
+    if (asked->number != NULL)
+        *asked->number = number_in(asked, next);
+    else
+        *asked->word = next;
+    return 2;
+}
+
+void read_words(int count, char **words, const option *options, const char **bare)
+{
+    for (int i = 1; i < count;) {
+        const option *asked = options;
+        while (asked->name != NULL && strcmp(asked->name, words[i]) != 0)
+            asked++;
+        if (asked->name != NULL)
+            i += take_option(asked, i + 1 < count ? words[i + 1] : NULL);
+        else if (bare == NULL || (words[i][0] == '-' && words[i][1] != 0))
+            stop("unknown option '%s'; ./jallumere %s --help lists the options", words[i], program_name);
+        else if (*bare != NULL)
+            stop("one at a time: '%s' and '%s' are two", *bare, words[i]);
+        else
+            *bare = words[i++];
+    }
+}
+
+/* ---- chance ------------------------------------------------------------------------------------------- */
+
+static uint64_t chance_state;
+
+void seed_chance(uint64_t seed)
+{
+    chance_state = seed;
+}
+
+/* SplitMix64. */
+uint64_t draw(void)
+{
+    uint64_t mixed = chance_state += UINT64_C(0x9e3779b97f4a7c15);
+    mixed = (mixed ^ mixed >> 30) * UINT64_C(0xbf58476d1ce4e5b9);
+    mixed = (mixed ^ mixed >> 27) * UINT64_C(0x94d049bb133111eb);
+    return mixed ^ mixed >> 31;
+}
+
+uint64_t below(uint64_t limit)
+{
+    return limit == 0 ? 0 : draw() % limit;
+}
+
+bool chance(uint64_t percent)
+{
+    return below(100) < percent;
+}
+
+/* ---- time --------------------------------------------------------------------------------------------- */
+
+double seconds(void)
+{
+    static struct timespec first;
+    struct timespec time;
+    clock_gettime(CLOCK_MONOTONIC, &time);
+    if (first.tv_sec == 0)
+        first = time;
+    return (double)(time.tv_sec - first.tv_sec) + 1e-9 * (double)(time.tv_nsec - first.tv_nsec);
+}
+
+void show_progress(uint64_t done, uint64_t wanted, const char *what)
+{
+    static double last;
+    bool terminal = isatty(2) == 1;
+    double time = seconds();
+    if (time - last < (last == 0 ? 2 : terminal ? 0.5 : 5))
+        return;
+    last = time;
+    fprintf(stderr, "%s%s: %" PRIu64 " of %" PRIu64 " %s, %.0f s%s", terminal ? "\r" : "", program_name, done,
+            wanted, what, time, terminal ? " " : "\n");
+    fflush(stderr);
+}

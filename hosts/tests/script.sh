@@ -1,0 +1,508 @@
+#!/usr/bin/env bash
+# Tries ./jallumere in a copy of this tree, with a stand-in for rt that proves nothing and makes the core's archive of the C
+# model, so that all takes a minute or two. What another kind of machine needs is tried with stand-ins for its commands.
+# The last line is 'N passed, M failed'; the exit status is 1 if any failed. With words, only the tests named.
+# shellcheck disable=SC2016
+set -u
+tree=$(cd "$(dirname "$0")/../.." && pwd -P)
+room=$(mktemp -d)
+trap 'chmod -R u+w "$room"; rm -rf "$room"' EXIT
+passed=0 failed=0
+
+# ---- the stand-ins
+
+make_rt() {
+    mkdir -p "$room/bin"
+    cp "$(command -v sleep)" "$room/bin/rattle"
+    cat >"$room/bin/rt" <<'END'
+#!/usr/bin/env bash
+# Proves a crate by sleeping; says what rt says.
+room=$(dirname "$(dirname "$0")")
+[ "$1" != version ] || { cat "$room/tree/KIT"; exit; }
+echo "rt $*" >>"$room/calls"
+[ "$1" != ci ] || { "$room/bin/rattle" "$(cat "$room/pause")"; echo "3 passed, 0 failed"; exit; }
+[ ! -e "$room/broken" ] || { echo "rt: octets NOT PROVED (exit 1, 0 s)"; exit 1; }
+mkdir -p target/stamp target/staticlib target/bin
+below='group places' seen=''
+[ "$2" != replay ] || below="$below replica replay"
+for crate in $below; do
+    stamp=$(cat crates/$crate/src/*.rt $seen | sha256sum)
+    seen="$seen target/stamp/$crate"
+    if [ "$(cat target/stamp/$crate 2>/dev/null)" = "$stamp" ]; then
+        echo "rt: $crate proved (unchanged since it was last proved)"
+        continue
+    fi
+    "$room/bin/rattle" "$(cat "$room/pause")" || exit 2
+    echo "$stamp" >target/stamp/$crate
+    echo "rt: $crate proved (1 s)"
+done
+printf '#!/bin/sh\nls traces.bin\necho "9098 steps, 0 differences"\n' >target/bin/replay
+chmod +x target/bin/replay
+[ "$1" != staticlib ] || "$room/bin/rattle" "$(cat "$room/pause")" && cp "$room/model.a" target/staticlib/libreplica.a
+END
+    chmod +x "$room/bin/rt"
+    gcc -O0 -I "$tree/include" -I "$tree/hosts/common" -Djallumere_is_model=of_the_model -c -o "$room/model.o" "$tree/hosts/model/core.c"
+    echo 'unsigned long jallumere_is_model(void) { return 0; }' | gcc -x c -c -o "$room/proved.o" - && ar rcs "$room/model.a" "$room/model.o" "$room/proved.o"
+}
+
+# Compilers and emulators. Without optimisation, for the time; each call is kept, and what is passed can be looked at.
+make_tools() {
+    local kit=$room/kit/on/aarch64/toolchain/bin
+    mkdir -p "$room/bin" "$room/arm" "$room/kit/bin" "$kit"
+    cat >"$room/bin/gcc" <<END
+#!/usr/bin/env bash
+case \$* in *-o*) echo "gcc \$*" >>"$room/calls" ;; esac
+exec $(command -v gcc) "\${@/#-O3/-O0}"
+END
+    printf '#!/bin/sh\n[ "$1" != -m ] || { echo aarch64; exit; }\nexec %s "$@"\n' "$(command -v uname)" >"$room/arm/uname"
+    printf '#!/bin/sh\nexec "%s/bin/gcc" "$@"\n' "$room" >"$room/arm/x86_64-linux-gnu-gcc"
+    printf '#!/bin/sh\necho "qemu $*" >>"%s/calls"\nwhile [ "${1#*ld-linux}" != "$1" ]; do shift 3; done\nexec "$@"\n' "$room" >"$room/arm/qemu-x86_64"
+    sed 's/echo "qemu/echo "kit-qemu/' "$room/arm/qemu-x86_64" >"$kit/qemu-x86_64"
+    printf '#!/bin/sh\nexec "%s/bin/rt" "$@"\n' "$room" >"$room/kit/bin/rt"
+    chmod +x "$room"/bin/* "$room"/arm/* "$room/kit/bin/rt" "$kit/qemu-x86_64"
+}
+
+# A folder with the commands that every machine has, and none of rt, compilers and emulators.
+make_bare_commands() {
+    local name
+    mkdir -p "$room/bare"
+    for name in bash sh env awk sed cat cut grep find sort head tail wc stat date dirname basename readlink mkdir mv cp rm ln chmod sleep \
+        sha256sum cksum uname flock as ld; do
+        ln -sf "$(type -P "$name")" "$room/bare/$name"
+    done
+}
+
+fresh_tree() {
+    chmod -R u+w "$room/tree" 2>/dev/null
+    rm -rf "$room/tree" "$room/broken"
+    mkdir -p "$room/tree/crates"
+    cp -R "$tree/jallumere" "$tree/hosts" "$tree/include" "$tree/KIT" "$tree/.ci" "$room/tree"
+    echo 'group:
+places: group
+replica: group places
+replay: replica' >"$room/tree/crates.txt"
+    for crate in group places replica replay; do
+        mkdir -p "$room/tree/crates/$crate/src" "$room/tree/crates/$crate/data"
+        echo "fn $crate() {}" >"$room/tree/crates/$crate/src/lib.rt"
+    done
+    : >"$room/tree/crates/replay/data/traces.bin"
+    : >"$room/calls"
+    echo 0.1 >"$room/pause"
+    cd "$room" || exit 2
+}
+
+# ---- how a test is told
+
+# Runs ./jallumere of the copy; leaves its output in out, its messages in said, its exit status in status.
+jallumere() {
+    PATH=${path:-$room/bin:$PATH} "$room/tree/jallumere" "$@" >"$room/out" 2>"$room/said"
+    status=$?
+}
+
+check() { # WORDS COMMAND...
+    local words=$1
+    shift
+    if "$@"; then
+        passed=$((passed + 1))
+    else
+        failed=$((failed + 1))
+        echo "FAILED: $words (status ${status:-none})"
+        sed 's/^/    /' "$room/said" | tail -n 8
+    fi
+}
+
+said() { grep -q -e "$1" "$room/said"; }
+printed() { grep -q -e "$1" "$room/out"; }
+calls_of() { grep -c "^$1 " "$room/calls"; }
+called() { [ "$(calls_of "$1")" -gt 0 ]; }
+first_call() { grep -n -e "$1" "$room/calls" | head -n 1 | cut -d: -f1; }
+not() { ! "$@"; }
+is_status() { [ "$status" -eq "$1" ]; }
+nothing_built() { [ ! -e "$room/tree/target" ] && [ ! -s "$room/calls" ]; }
+runs_printed() { [ "$(grep -c ' group.* of .* sites' "$room/out")" -eq "$1" ]; }
+prover_runs() { grep -qsa "^$room/bin/rattle" /proc/[0-9]*/cmdline; }
+no_prover_left() { ! prover_runs; }
+within() { # SECONDS COMMAND...
+    local turn most=$(($1 * 10))
+    shift
+    for ((turn = 0; turn < most; turn++)); do
+        "$@" && return
+        sleep 0.1
+    done
+    return 1
+}
+
+# ---- the tests
+
+test_help() {
+    fresh_tree
+    for words in --help -h help --version 'simulate --help' 'inspect -h' 'compare --steps 5 --help' 'bench --help' 'replay --help' 'test -h'; do
+        # shellcheck disable=SC2086
+        jallumere $words
+        check "'$words' answers" is_status 0
+    done
+    jallumere simulate --help
+    check "simulate --help lists its options" printed '--page FILE'
+    jallumere --version
+    check "--version tells the version" printed '^jallumere [0-9]*\.[0-9]*\.[0-9]*$'
+    check "--version tells the kit" printed "^kit: $(cat "$tree/KIT")"
+    check "--version tells that there is no core" printed '^core: not built'
+    check "nothing is built for help" nothing_built
+}
+
+refused() { # WORDS, and a part of the sentence
+    # shellcheck disable=SC2086
+    jallumere $1
+    check "'$1' is refused" is_status 2
+    check "'$1' is refused with a sentence" said "$2"
+    check "nothing is built for '$1'" nothing_built
+}
+
+test_bad_words() {
+    fresh_tree
+    refused '' 'simulate'
+    refused 'simulat' "no task 'simulat'"
+    refused '--version now' 'takes no words'
+    refused 'simulate --sead 1' "takes no '--sead'"
+    refused 'simulate --seed' '--seed takes a N behind it'
+    refused 'simulate --seed 18446744073709551616' 'out of range'
+    refused 'simulate --seed 99999999999999999999999' 'out of range'
+    refused 'simulate --seed -1' 'takes a number'
+    refused 'simulate --sites 4' 'one of 3, 5, 7'
+    refused 'simulate --capacity 15' 'from 16 to 4096'
+    refused 'simulate --page nowhere/run.html' 'cannot be written'
+    refused 'simulate --states nowhere' 'is no folder'
+    refused 'inspect' 'which state'
+    refused 'inspect nowhere.state' 'cannot be read'
+    refused 'inspect calls --sites 3' 'go together'
+    refused 'inspect calls calls' 'one state at a time'
+    refused 'compare --traces nowhere.bin' 'cannot be read'
+    refused 'compare 5' "takes no '5'"
+    refused 'bench --svg' '--svg takes a FILE behind it'
+    refused 'bench --svg --csv' '--svg takes a FILE behind it'
+    refused 'bench --svg a.svg --markdown' 'draws'
+    refused 'replay again' "takes no 'again'"
+    refused 'test all' "takes no 'all'"
+}
+
+test_first_command() {
+    fresh_tree
+    echo 5 >"$room/pause" # the script tells at most every five seconds
+    jallumere simulate --steps 30 --seed 18446744073709551615
+    echo 0.1 >"$room/pause"
+    check "the first command ends well" is_status 0
+    check "it runs twice" runs_printed 2
+    check "it says that the first is the model" said 'First the same run on the C model'
+    check "it tells how far the proof is" said 'crate [0-9] of 3 proved'
+    check "it names a crate" said 'crate [12] of 3 proved ([a-z]*), [0-9]* s gone'
+    check "the model is built before anything is proved" [ "$(first_call simulate-model)" -lt "$(first_call '^rt ')" ]
+    check "no program is linked with libm" not grep -q -e -lm "$room/calls"
+    check "the times are kept" grep -q '^places 1$' "$room/tree/target/hosts/times.txt"
+    jallumere --version
+    check "--version tells that the core is built" printed '^core: built'
+    test_nothing_changed
+    test_changes
+}
+
+test_nothing_changed() {
+    find "$room/tree" -type f -exec touch -d tomorrow {} +
+    : >"$room/calls"
+    jallumere simulate --steps 30
+    check "a second run ends well" is_status 0
+    check "with nothing changed it runs once" runs_printed 1
+    check "with nothing changed nothing is compiled, however new the files are" not called gcc
+    check "with nothing changed no archive is made" not grep -q '^rt staticlib' "$room/calls"
+    check "with nothing changed nothing is said" [ ! -s "$room/said" ]
+}
+
+test_changes() {
+    echo '// more' >>"$room/tree/crates/places/src/lib.rt"
+    touch -d yesterday "$room/tree/crates/places/src/lib.rt"
+    echo 4 >"$room/pause" # the script shows the model after five seconds
+    jallumere simulate --steps 30
+    echo 0.1 >"$room/pause"
+    check "a changed crate is proved again, however old the file is" grep -q '^rt: places proved (1 s)' "$room/tree/target/hosts/replica.log"
+    check "a crate below a changed one is not" grep -q '^rt: group proved (unchanged' "$room/tree/target/hosts/replica.log"
+    check "with a changed crate the model is shown meanwhile" runs_printed 2
+    check "the archive is made again" grep -q '^rt staticlib' "$room/calls"
+    : >"$room/calls"
+    echo '/* more */' >>"$room/tree/hosts/simulate/simulate.c"
+    touch -d yesterday "$room/tree/hosts/simulate/simulate.c"
+    jallumere simulate --steps 30
+    check "a changed host program is compiled again" called gcc
+    check "a changed host program needs no proof" not grep -q '^rt staticlib' "$room/calls"
+    echo damaged >"$room/tree/target/staticlib/libreplica.a"
+    jallumere simulate --steps 30
+    check "another archive in its place is noticed" is_status 0
+}
+
+test_not_proved() {
+    fresh_tree
+    touch "$room/broken"
+    jallumere simulate --steps 30
+    check "what is not proved does not run" is_status 2
+    check "what is not proved is shown" said 'octets NOT PROVED'
+    rm "$room/broken"
+    echo 'not C' >>"$room/tree/hosts/model/core.c"
+    : >"$room/calls"
+    jallumere simulate --steps 30
+    check "a program that cannot be compiled is told" said 'was not built'
+    check "a program that cannot be compiled is told before anything is proved" not called rt
+}
+
+test_other_core() {
+    fresh_tree
+    JALLUMERE_CORE=model jallumere simulate --steps 30
+    check "the model can be the core" is_status 0
+    check "then it is said" said 'nothing tells that it is proved'
+    check "then nothing is proved" not called rt
+    JALLUMERE_CORE=$room/model.a jallumere simulate --steps 30
+    check "another archive can be the core" runs_printed 1
+    JALLUMERE_CORE=nowhere.a jallumere simulate --steps 30
+    check "another archive must be there" said "'nowhere.a', which cannot be read"
+}
+
+test_missing() {
+    local path=$room/bare
+    fresh_tree
+    jallumere simulate
+    check "without anything: refused" is_status 2
+    check "without anything rt is named first" eval 'head -n 1 "$room/said" | grep -q "missing: the command .rt."'
+    check "without gcc the packages are named" said '^    apt-get install gcc libc6-dev$'
+    jallumere replay
+    check "replay names rt" said "missing: the command 'rt'"
+    jallumere test
+    check "test names rt" said "missing: the command 'rt'"
+    path=$room/arm-bare
+    mkdir -p "$path"
+    cp -P "$room"/bare/* "$path"
+    rm "$path/uname"
+    cp "$room/arm/uname" "$path"
+    jallumere simulate
+    check "on Arm rt is named first" eval 'head -n 1 "$room/said" | grep -q "missing: the command .rt."'
+    check "on Arm all packages are named in one line" said '^    apt-get install gcc-x86-64-linux-gnu libc6-dev-amd64-cross qemu-user$'
+    check "nothing is built where something is missing" nothing_built
+    cp "$room/arm/x86_64-linux-gnu-gcc" "$path"
+    path=$room/kit/bin:$path
+    jallumere simulate --steps 30
+    check "on Arm the kit's emulator is found" grep -q '^kit-qemu .*target/hosts/simulate --steps 30' "$room/calls"
+    rm -r "$room/kit/on"
+    jallumere simulate
+    check "on Arm the emulator alone is named where it alone is missing" said '^    apt-get install qemu-user$'
+    check "then rt is not named" not said "command 'rt'"
+}
+
+test_arm() {
+    local path=$room/arm:$room/bin:$PATH
+    fresh_tree
+    jallumere simulate --steps 30
+    check "on Arm the first command ends well" is_status 0
+    check "on Arm the model and the core are run" runs_printed 2
+    check "on Arm programs are linked statically" grep -q '^gcc .* -static .*simulate-model' "$room/calls"
+    check "on Arm programs are linked without libm" not grep -q -e -lm "$room/calls"
+    check "on Arm programs run by the emulator" grep -q '^qemu .*target/hosts/simulate --steps 30' "$room/calls"
+    jallumere replay
+    check "on Arm replay runs by the emulator and prints its count" printed '9098 steps, 0 differences'
+    jallumere replay
+    check "on Arm replay runs a second time" printed '9098 steps, 0 differences'
+    fresh_tree
+    printf '#!/bin/sh\ncase $* in *print-file-name*) echo libc.a; exit ;; esac\nexit 1\n' >"$room/arm/x86_64-linux-gnu-gcc"
+    jallumere simulate
+    check "on Arm a missing C library is named" said '^    apt-get install libc6-dev-amd64-cross$'
+    printf '#!/bin/sh\ncase $* in *print-file-name*) echo /libc.a; exit ;; esac\necho ld: cannot find crt1.o\nexit 1\n' >"$room/arm/x86_64-linux-gnu-gcc"
+    jallumere simulate
+    check "on Arm a wrong compiler is told by what it says" said 'cannot build the smallest program: ld: cannot find crt1.o'
+    check "a wrong compiler is told before anything is proved" not called rt
+    printf '#!/bin/sh\nexec "%s/bin/gcc" "$@"\n' "$room" >"$room/arm/x86_64-linux-gnu-gcc"
+    mv "$room/arm/qemu-x86_64" "$room/arm/qemu"
+    printf '#!/bin/sh\necho not for this machine\nexit 1\n' >"$room/arm/qemu-x86_64"
+    chmod +x "$room/arm/qemu-x86_64"
+    jallumere simulate
+    check "on Arm a wrong emulator is told by what it says" said 'does not run here by qemu-x86_64: not for this machine'
+    mv "$room/arm/qemu" "$room/arm/qemu-x86_64"
+}
+
+test_lock() { # with flock, or without it
+    local path=$room/bin:$PATH first
+    fresh_tree
+    if [ "$1" = without ]; then
+        path=$room/bin:$room/bare
+        rm "$room/bare/flock"
+        ln -s '999999 1' "$room/tree/.jallumere-lock"
+    fi
+    echo 1 >"$room/pause"
+    PATH=$path "$room/tree/jallumere" simulate --steps 30 >"$room/first.out" 2>"$room/first.said" &
+    first=$!
+    check "$1 flock: a first run gets the lock" within 30 prover_runs
+    jallumere simulate --steps 30
+    check "$1 flock: a second run ends well" is_status 0
+    check "$1 flock: a second run says that it waits" said 'another run of ./jallumere builds in .*; waiting'
+    check "$1 flock: a second run goes on" runs_printed 1
+    check "$1 flock: one of two runs proves" eval '[ "$(grep -c "^rt staticlib" "$room/calls")" -eq 1 ]'
+    wait "$first"
+    status=$?
+    check "$1 flock: the first run ends well" is_status 0
+    check "$1 flock: no lock is left" [ ! -L "$room/tree/.jallumere-lock" ]
+    ln -sf "$(type -P flock)" "$room/bare/flock"
+}
+
+test_signals() {
+    local signal run number
+    for signal in TERM INT HUP; do
+        fresh_tree
+        echo 60 >"$room/pause"
+        # Job control, since the shell has INT ignored in what it starts without.
+        set -m
+        PATH=$room/bin:$PATH "$room/tree/jallumere" simulate --steps 30 >"$room/out" 2>"$room/said" &
+        run=$!
+        set +m
+        check "$signal: a prover runs" within 30 prover_runs
+        kill -s "$signal" "$run"
+        wait "$run" 2>/dev/null
+        status=$?
+        number=$(kill -l "$signal")
+        check "$signal ends the script by it" is_status $((128 + number))
+        check "$signal ends the provers" within 5 no_prover_left
+        echo 0.1 >"$room/pause"
+        jallumere simulate --steps 30
+        check "after $signal the next run ends well" is_status 0
+    done
+}
+
+test_closed_pipe() {
+    fresh_tree
+    echo 60 >"$room/pause"
+    PATH=$room/bin:$PATH "$room/tree/jallumere" simulate --steps 30 2>&1 >/dev/null | head -n 2 >"$room/said"
+    check "nobody reads: the provers end" within 5 no_prover_left
+    fresh_tree
+    PATH=$room/bin:$PATH "$room/tree/jallumere" simulate --steps 2000 2>"$room/said" | head -n 1 >"$room/out"
+    status=${PIPESTATUS[0]}
+    check "nobody reads the model's run: ends by PIPE" is_status 141
+    check "nobody reads the model's run: nothing is proved" not called rt
+    fresh_tree
+    echo 60 >"$room/pause"
+    (trap '' PIPE && PATH=$room/bin:$PATH exec "$room/tree/jallumere" simulate --steps 30 2>&1 >/dev/null) | head -n 2 >"$room/said"
+    check "nobody reads, and the signal is ignored: the provers end" within 70 no_prover_left
+}
+
+test_read_only() {
+    local path=$room/bin:$PATH as=() before
+    fresh_tree
+    rm -rf "$room/elsewhere"
+    mkdir "$room/elsewhere"
+    if [ "$(id -u)" -eq 0 ]; then # root writes anywhere
+        as=(setpriv --reuid=65534 --regid=65534 --clear-groups)
+        chmod 755 "$room"
+        chmod 777 "$room/elsewhere" "$room/calls"
+    fi
+    chmod -R a-w "$room/tree"
+    before=$(find "$room/tree" | sort)
+    (cd / && PATH=$path "${as[@]}" "$room/tree/jallumere" simulate --steps 30) >"$room/out" 2>"$room/said"
+    status=$?
+    check "a tree that cannot be written is told" said 'cannot be written to; JALLUMERE_BUILD=DIR'
+    (cd "$room" && PATH=$path JALLUMERE_BUILD=elsewhere "${as[@]}" "$room/tree/jallumere" simulate --steps 30 --page elsewhere/run.html) >"$room/out" 2>"$room/said"
+    status=$?
+    check "a tree that cannot be written is built elsewhere" is_status 0
+    check "elsewhere the core runs too" runs_printed 2
+    check "elsewhere the core is built" [ -s "$room/elsewhere/target/staticlib/libreplica.a" ]
+    check "a path is meant from where the command was given" [ -s "$room/elsewhere/run.html" ]
+    check "nothing is written to the tree" [ "$before" = "$(find "$room/tree" | sort)" ]
+    (cd "$room" && PATH=$path JALLUMERE_BUILD=elsewhere "${as[@]}" "$room/tree/jallumere" test) >"$room/out" 2>"$room/said"
+    status=$?
+    check "the gate runs elsewhere" printed '3 passed, 0 failed'
+    chmod -R u+w "$room/tree"
+    mkdir -p "$room/elsewhere/else/crates"
+    JALLUMERE_BUILD=$room/elsewhere/else jallumere simulate
+    check "a folder with crates of its own is not built in" said 'is there and is no link'
+}
+
+test_bench() {
+    fresh_tree
+    rm "$room"/tree/hosts/common/*.c
+    cat >"$room/tree/hosts/bench/bench.c" <<'END'
+#include <stdio.h>
+#include <string.h>
+int main(int count, char **words)
+{
+    printf("%s", count > 1 && strcmp(words[1], "--csv") == 0 ? "the figures\n" : "a table\n");
+    return count > 2 && strcmp(words[2], "--turns") == 0;
+}
+END
+    echo '{ print "<svg>" $0 "</svg>" } END { print "drawn" }' >"$room/tree/hosts/bench/draw.awk"
+    jallumere bench --svg speed.svg
+    check "bench draws its figures" grep -q '<svg>the figures</svg>' speed.svg
+    check "bench tells of the drawing" said "'speed.svg' has the drawing"
+    echo old >speed.svg
+    jallumere bench --svg speed.svg --turns 3
+    check "a bench that fails gives its status" is_status 1
+    check "a bench that fails leaves the drawing" grep -q old speed.svg
+    jallumere bench
+    check "bench prints its table" printed 'a table'
+    check "bench runs no model first" not said 'First the same run'
+    path=$room/arm:$room/bin:$PATH jallumere bench
+    check "under an emulator bench gives ratios" grep -q '^qemu .*bench --ratios' "$room/calls"
+}
+
+test_replay_and_gate() {
+    fresh_tree
+    jallumere replay
+    check "replay prints its count" printed '9098 steps, 0 differences'
+    check "replay runs where its traces are" printed traces.bin
+    jallumere replay
+    check "a second replay prints its count" printed '9098 steps, 0 differences'
+    check "a second replay proves nothing" [ ! -s "$room/said" ]
+    rm "$room/tree/target/bin/replay"
+    jallumere replay
+    check "replay comes back where its program is gone" printed '9098 steps, 0 differences'
+    jallumere test
+    check "the gate's last line is printed" printed '3 passed, 0 failed'
+    echo 60 >"$room/pause"
+    PATH=$room/bin:$PATH "$room/tree/jallumere" test >"$room/out" 2>"$room/said" &
+    check "the gate runs a prover" within 10 prover_runs
+    kill -TERM $!
+    check "TERM ends the gate's provers" within 5 no_prover_left
+}
+
+progress() { # LOG-LINES GONE SINCE
+    printf '%b' "$1" >"$room/log"
+    awk -v gone="$2" -v since="$3" -f "$tree/hosts/tools/progress.awk" part=times "$room/times" part=crates "$room/crates" part=log "$room/log" >"$room/said"
+}
+
+test_progress() {
+    printf 'one 50\ntwo 100\nthree 50\nfour 200\n' >"$room/crates"
+    printf '# seconds\none 100\ntwo 200\nthree 100\npace 50\n' >"$room/times"
+    progress '' 0 0
+    check "at first by the last times; a crate without one by its lines" said '^crate 0 of 4 proved, 0 s gone, about 6 min 40 s left$'
+    progress 'rt: one proved (99 s)\n' 100 0
+    check "then by the pace seen now" said '^crate 1 of 4 proved (one), 1 min 40 s gone, about 8 min 10 s left$'
+    progress 'rt: one proved (99 s)\n' 160 60
+    check "time passes between crates" said '^crate 1 of 4 proved (one), 2 min 40 s gone, about 7 min 10 s left$'
+    progress 'rt: one proved (unchanged since it was last proved)\n' 1 0
+    check "what was proved before has no pace" said '^crate 1 of 4 proved (one), 1 s gone, about 5 min 50 s left$'
+    progress 'rt: one proved (9 s)\nrt: two proved (9 s)\nrt: three proved (9 s)\njallumere: four proved (9 s)\n' 30 0
+    check "at the end nothing is left" said '^crate 4 of 4 proved (four), 30 s gone, nearly done$'
+    : >"$room/times"
+    progress '' 5 5
+    check "without any time nothing is promised" said '^crate 0 of 4 proved, 5 s gone$'
+    progress 'rt: one proved (9 s)\n' 10 0
+    check "without any time it goes by lines" said '^crate 1 of 4 proved (one), 10 s gone, about 1 min 10 s left$'
+}
+
+test_terminal() {
+    fresh_tree
+    if ! command -v script >/dev/null; then return; fi
+    PATH=$room/bin:$PATH script -qec "$room/tree/jallumere compare --help; $room/tree/jallumere simulate --quiet --steps 30" /dev/null >"$room/said" 2>&1 </dev/null
+    check "on a terminal one line is written over" eval 'grep -q "$(printf "\r\033\[Kjallumere: crate . of 3 proved")" "$room/said"'
+}
+
+make_rt
+make_tools
+make_bare_commands
+[ $# -gt 0 ] || set -- help bad_words first_command not_proved other_core missing arm 'lock with' 'lock without' signals closed_pipe read_only bench \
+    replay_and_gate progress terminal
+for name in "$@"; do
+    # shellcheck disable=SC2086
+    test_$name
+done
+echo "$passed passed, $failed failed"
+[ "$failed" -eq 0 ]
