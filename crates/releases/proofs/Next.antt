@@ -17,8 +17,8 @@ use Rattle.rules.specs.declared.Shape.{Shape}
 use Rattle.repeats.specs.Rows.{countOf, keyOf, Inside}
 use Rattle.repeats.specs.Table.{Filled}
 use Rattle.repeats.specs.declared.Spots.{Spots}
-use Rattle.due.specs.Due.{Reached, DueAt}
-use Rattle.leaving.specs.Listed.{spotsOf, listedIn, Lookup}
+use Rattle.early.specs.Due.{Reached, DueAt}
+use Rattle.early.specs.Listed.{spotsOf, listedIn, Lookup}
 use Rattle.places.specs.Layout.{Marks}
 use Rattle.places.specs.declared.Places.{Places}
 use Rattle.places.specs.With.{withLog, withEarly, withNotes}

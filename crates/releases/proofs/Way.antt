@@ -19,9 +19,9 @@ use Rattle.entries.specs.Table.{Holds, Table}
 use Rattle.entries.proofs.Table.{decoded, is-table, and-then}
 use Rattle.notes.specs.Notes.{notesAt, NotesHold, Notes}
 use Rattle.notes.proofs.Notes as noted
-use Rattle.leaving.specs.Listed.{chosen}
-use Rattle.leaving.proofs.Entries.{without-is}
-use Rattle.due.proofs.Kept.{keep-distinct}
+use Rattle.early.specs.Listed.{chosen}
+use Rattle.early.proofs.Entries.{without-is}
+use Rattle.early.proofs.Kept.{keep-distinct}
 use Rattle.places.specs.Layout.{Marks, Fits, Laid, Stands}
 use Rattle.places.specs.declared.Places.{Places}
 use Rattle.places.specs.With.{withLog, withEarly, withNotes}

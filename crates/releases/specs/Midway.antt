@@ -11,7 +11,7 @@ use Rattle.rules.specs.Image.{stateLength, stateOf}
 use Rattle.rules.specs.Early.{notesWithout}
 use Rattle.rules.specs.declared.Shape.{Shape}
 use Rattle.rules.proofs.Image.{StateFits}
-use Rattle.leaving.specs.declared.Listed.{Listed}
+use Rattle.early.specs.declared.Listed.{Listed}
 use Rattle.places.specs.Layout.{Fits, Laid}
 use Rattle.places.specs.With.{withEarly, withNotes}
 

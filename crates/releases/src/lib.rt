@@ -1,5 +1,5 @@
 // The release of early entries that are due: how many there are and how many are agreed, one after the other to the log with the log's digest run on over it, and all of them out of early and the notes.
-use leaving::Listed;
+use early::Listed;
 use rules::Entry;
 use rules::Shape;
 ghost use mathlib.Core.Path.{_≡_};
@@ -15,9 +15,9 @@ ghost use Rattle.rules.specs.Digest.{digest};
 ghost use Rattle.rules.specs.Early.{dueOf, notesWithout};
 ghost use Rattle.rules.specs.Entry.{entryOf, without};
 ghost use Rattle.rules.specs.Read.{entryAt};
-ghost use Rattle.due.specs.Due.{Reached};
+ghost use Rattle.early.specs.Due.{Reached};
 ghost use Rattle.lookups.specs.Rows.{NoteRows};
-ghost use Rattle.leaving.specs.Listed.{listedIn, Lookup};
+ghost use Rattle.early.specs.Listed.{listedIn, Lookup};
 ghost use Rattle.places.specs.Layout.{startOf, Fits};
 ghost use Rattle.places.specs.With.{withLog, withEarly, withNotes};
 ghost use Rattle.releases.specs.Waiting.{Waiting, runIn};
@@ -33,7 +33,7 @@ pub fn due_count(shape: Shape, state: &[u8], time: u64) -> usize
     let layout = places::places_of(shape);
     let start = layout.early;
     let end = layout.late;
-    due::count_due(&state[start..end], shape.c as usize, time)
+    early::count_due(&state[start..end], shape.c as usize, time)
 }
 
 // Of the `due` entries that are due by a time, how many come before the first that is not agreed. The table has the rows of the notes where it is filled.
@@ -59,7 +59,7 @@ fn run_of(
     };
     let mut i = 0;
     while i < due {
-        last = entries::entry_of(early, c, due::due_at(early, c, time, i, last));
+        last = entries::entry_of(early, c, early::due_at(early, c, time, i, last));
         let row = lookups::note_row(notes, c, s, table, filled, last.request, last.coordinator);
         if !notes::agreed_from(notes, c, s, last, row) {
             return i;
@@ -168,7 +168,7 @@ fn due_place(shape: Shape, state: &[u8], time: u64, i: usize, last: Entry) -> us
     let layout = places::places_of(shape);
     let start = layout.early;
     let end = layout.late;
-    due::due_at(&state[start..end], shape.c as usize, time, i, last)
+    early::due_at(&state[start..end], shape.c as usize, time, i, last)
 }
 
 // The place in early of the first entry due by a time.
@@ -252,7 +252,7 @@ fn early_leaves(shape: Shape, state: &mut [u8], b: &[u8], listed: Listed, table:
     let layout = places::places_of(shape);
     let start = layout.early;
     let end = layout.late;
-    leaving::leave(
+    early::leave(
         &mut state[start..end],
         shape.c as usize,
         b,
@@ -270,7 +270,7 @@ fn notes_leave(shape: Shape, state: &mut [u8], b: &[u8], listed: Listed, table: 
     let layout = places::places_of(shape);
     let start = layout.notes;
     let end = layout.votes;
-    leaving::leave_notes(
+    early::leave_notes(
         &mut state[start..end],
         shape.c as usize,
         shape.s as usize,
@@ -303,7 +303,7 @@ fn fill_released(gone: &[u8], k: usize, table: &mut [u16]) -> bool
         count: k,
         filled: false,
     };
-    repeats::fill(gone, leaving::spots_of(bare), table)
+    repeats::fill(gone, early::spots_of(bare), table)
 }
 
 // The last k entries of the log leave early, and their notes go. They are copied first: the log and the tables that change are parts of one slice.

@@ -25,10 +25,10 @@ use Rattle.places.proofs.Sections.{stands-fits, stands-laid}
 use Rattle.places.proofs.Tables as tables
 use Rattle.places.proofs.Head.{put-sync}
 use Rattle.handler.proofs.NotesLent.{notes-lent, notes-home}
-use Rattle.leaving.specs.Listed.{chosen}
-use Rattle.syncs.specs.Buffers.{BothHold, earlyIn, lateIn, Both}
+use Rattle.early.specs.Listed.{chosen}
+use Rattle.early.specs.Buffers.{BothHold, earlyIn, lateIn, Both}
 use Rattle.syncs.specs.Takes.{lateBy, syncedBy}
-use Rattle.syncs.proofs.Buffers as buffers
+use Rattle.early.proofs.Buffers as buffers
 use Rattle.syncs.proofs.Rule.{stays-is, late-is, late-long}
 
 module _ {sh : Shape} {st : State} {b : List ℕ} (l : Laid sh st b) (at n : ℕ) (e : at ≡ startOf sh atEarly) (m : n ≡ tableLength (sh .c) + tableLength (sh .c)) where

@@ -32,9 +32,9 @@ use Rattle.places.proofs.Rows.{within}
 use Rattle.handler.specs.Sending.{messageBytes, headedIn}
 use Rattle.handler.proofs.Rows.{sends-below, sends-more}
 use Rattle.handler.proofs.Sends.{sender, message-sent, sent-length}
-use Rattle.leaving.specs.Listed.{listedIn}
+use Rattle.early.specs.Listed.{listedIn}
 use Rattle.syncs.specs.Takes.{slowReplies, Coming}
-use Rattle.leaving.specs.declared.Listed.{Listed}
+use Rattle.early.specs.declared.Listed.{Listed}
 
 -- how long it is
 pub one-long : (s : ℕ) → lengthFor s 6 1 ≡ 56 + 4 * s

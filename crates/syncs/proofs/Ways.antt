@@ -30,9 +30,9 @@ use Rattle.places.proofs.Head.{sync-of}
 use Rattle.handler.specs.Handler.{Ready, handled}
 use Rattle.handler.proofs.Told.{Told, told-length, told-entries, ready-told}
 use Rattle.handler.proofs.Closes.{closes-refused, closes-sent, closes-tight, handled-own}
-use Rattle.leaving.specs.Listed.{spotsOf, listedIn, Lookup}
+use Rattle.early.specs.Listed.{spotsOf, listedIn, Lookup}
 use Rattle.syncs.specs.Takes.{lateBy, syncedBy, slowReplies, takes, Coming}
-use Rattle.leaving.specs.declared.Listed.{Listed}
+use Rattle.early.specs.declared.Listed.{Listed}
 use Rattle.syncs.proofs.Slow.{all-long}
 
 -- ---- the rule

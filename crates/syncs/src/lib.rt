@@ -1,5 +1,5 @@
 // Kind 4, replica sync: the leader's log is taken over, and the entries that it synced leave early, late and the notes.
-use leaving::Listed;
+use early::Listed;
 use rules::Answer;
 use rules::Entry;
 use rules::Message;
@@ -22,9 +22,9 @@ ghost use Rattle.rules.specs.Bytes.{left, closes};
 ghost use Rattle.rules.specs.Image.{image, stateOf};
 ghost use Rattle.places.specs.Layout.{Stands};
 ghost use Rattle.handler.specs.Handler.{Ready, handled};
-ghost use Rattle.leaving.specs.Listed as listing;
-ghost use Rattle.leaving.specs.Listed.{listedIn, Lookup};
-ghost use Rattle.syncs.specs.Buffers.{BothHold, earlyIn, lateIn, Both};
+ghost use Rattle.early.specs.Listed as listing;
+ghost use Rattle.early.specs.Listed.{listedIn, Lookup};
+ghost use Rattle.early.specs.Buffers.{BothHold, earlyIn, lateIn, Both};
 ghost use Rattle.syncs.specs.Takes.{lateBy, syncedBy, slowReplies, takes, Coming};
 
 // ---- early and late, one after the other in a slice
@@ -36,8 +36,8 @@ fn late_after(t: &[u8], c: usize, message: &[u8], log: Listed, table: &[u16], la
 {
     let half = 4 + 24 * c;
     let end = half + half;
-    let stay = leaving::count_chosen(&t[half..end], c, message, log, table, false, 0);
-    stay + leaving::count_chosen(&t[0..half], c, message, log, table, true, last)
+    let stay = early::count_chosen(&t[half..end], c, message, log, table, false, 0);
+    stay + early::count_chosen(&t[0..half], c, message, log, table, true, last)
 }
 
 // Puts early entry i after the last of late where it is not synced and below the new log's last.
@@ -47,7 +47,7 @@ fn fall(t: &mut [u8], c: usize, i: usize, message: &[u8], log: Listed, table: &[
 {
     let half = 4 + 24 * c;
     let e = entries::entry_of(&t[0..half], c, i);
-    if !leaving::chosen(message, log, table, true, last, e) {
+    if !early::chosen(message, log, table, true, last, e) {
         return;
     }
     let end = half + half;
@@ -76,9 +76,9 @@ fn sync_buffers(t: &mut [u8], c: usize, message: &[u8], log: Listed, table: &[u1
 {
     let half = 4 + 24 * c;
     let end = half + half;
-    leaving::leave(&mut t[half..end], c, message, log, table, 0);
+    early::leave(&mut t[half..end], c, message, log, table, 0);
     fall_late(t, c, message, log, table, last);
-    leaving::leave(&mut t[0..half], c, message, log, table, last);
+    early::leave(&mut t[0..half], c, message, log, table, last);
 }
 
 // ---- the state
@@ -119,7 +119,7 @@ fn sync_state(shape: Shape, state: &mut [u8], message: &[u8], log: Listed, table
     let votes = places.votes;
     let c = shape.c as usize;
     sync_buffers(&mut state[early..notes], c, message, log, table, last);
-    leaving::leave_notes(
+    early::leave_notes(
         &mut state[notes..votes],
         c,
         shape.s as usize,
@@ -217,7 +217,7 @@ fn sync_with(
     requires { ⌜ Coming shape (now state) (now message) log ⌝ }
     ensures { λ r. ⌜ left r (now (state .exit)) (now (out .exit)) ≡ closes shape (now (state .entry)) (now (out .entry)) (takes shape (stateOf shape (now (state .entry))) (listedIn (now (message .entry)) log)) ⌝ }
 {
-    let filled = repeats::fill(message, leaving::spots_of(log), table);
+    let filled = repeats::fill(message, early::spots_of(log), table);
     let known = Listed {
         at: log.at,
         count: log.count,

@@ -18,7 +18,7 @@ use Rattle.rules.specs.Step.{sends, sendOut, released, placedReply, placedRepli
 use Rattle.rules.specs.Early.{dueOf, notesWithout}
 use Rattle.rules.specs.declared.Entry.{Entry}
 use Rattle.rules.proofs.Choice.{all-map}
-use Rattle.due.proofs.Kept.{without-none}
+use Rattle.early.proofs.Kept.{without-none}
 use Rattle.notes.proofs.Leaving as notes
 use Rattle.places.specs.With.{withLog, withEarly, withNotes}
 use Rattle.handler.proofs.Rows.{all-below, flat-ext, sends-flat, sends-below, sends-more}

@@ -25,8 +25,8 @@ use Rattle.rules.specs.declared.Entry.{Entry}
 use Rattle.rules.specs.declared.Shape.{Shape}
 use Rattle.rules.specs.declared.Answer.the-variants.{Done}
 use Rattle.rules.proofs.Choice.{pick-true, pick-false}
-use Rattle.due.proofs.Kept.{without-none}
-use Rattle.due.proofs.Leading.{leading-take, leading-length}
+use Rattle.early.proofs.Kept.{without-none}
+use Rattle.early.proofs.Leading.{leading-take, leading-length}
 use Rattle.notes.proofs.Leaving as notes
 use Rattle.places.specs.With.{withClock, withSync}
 use Rattle.handler.proofs.Rows.{flat-snoc}

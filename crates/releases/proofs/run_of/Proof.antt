@@ -6,8 +6,8 @@ use Rattle.rules.specs.State.{agreed}
 use Rattle.rules.specs.Image.{tableAt}
 use Rattle.repeats.proofs.Laws.{first-start}
 use Rattle.notes.specs.Notes.{sized, notesAt}
-use Rattle.due.specs.Due.{Reached}
-use Rattle.due.proofs.Search.{reached-none, reached-next}
+use Rattle.early.specs.Due.{Reached}
+use Rattle.early.proofs.Search.{reached-none, reached-next}
 use Rattle.releases.proofs.Run.{Passed, run-stops, run-goes, run-ends}
 use borrow.Author.Needs.{needs}
 use Rattle.releases.proofs.run_of.Statement.{statement}

@@ -7,7 +7,7 @@ use lib.ListN.{length}
 use Rattle.octets.proofs.Codecs.{length-items}
 use Rattle.rules.specs.Image.{noteLength}
 use Rattle.rules.specs.Read.{entryAt}
-use Rattle.leaving.specs.Listed.{listedIn}
+use Rattle.early.specs.Listed.{listedIn}
 use Rattle.syncs.proofs.Home.{is-both, late-asked, notes-asked, taken-over}
 use borrow.Author.Needs.{needs}
 use Rattle.syncs.proofs.sync_state.Statement.{statement}

@@ -8,7 +8,7 @@ use Rattle.octets.specs.Bytes.{splice}
 use Rattle.rules.specs.Image.{stateOf}
 use Rattle.rules.specs.Read.{lengthFor}
 use Rattle.places.proofs.Head.{sync-of}
-use Rattle.leaving.specs.Listed.{listedIn}
+use Rattle.early.specs.Listed.{listedIn}
 use Rattle.syncs.proofs.Slow.{toldBytes, told-start, told-room, told-turn, told-all}
 use borrow.Author.Needs.{needs}
 use Rattle.syncs.proofs.tell_synced.Statement.{statement}
