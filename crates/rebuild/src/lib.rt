@@ -61,7 +61,9 @@ fn index_vote<'a>(
     slots: &mut [u16],
     r: u64,
 ) -> Index
-    requires { ⌜ Given shape (now state) (now message) (count .cast) × (r < shape .n) × Indexed (votesIn shape (now state) (now message) (count .cast)) r (count .index) (now slots) ⌝ }
+    requires { ⌜
+        Given shape (now state) (now message) (count .cast) × (r < shape .n)
+        × Indexed (votesIn shape (now state) (now message) (count .cast)) r (count .index) (now slots) ⌝ }
     ensures { λ x. ⌜ Indexed (votesIn shape (now (state .entry)) (now (message .entry)) (count .cast)) (r + 1) x (now (slots .exit)) ⌝ }
 {
     let cast = count.cast;

@@ -1,4 +1,5 @@
-// The release of early entries that are due: how many there are and how many are agreed, one after the other to the log with the log's digest run on over it, and all of them out of early and the notes.
+// The release of early entries that are due: how many there are and how many are agreed, one after the other to the log with the log's digest run on over
+// it, and all of them out of early and the notes.
 use early::Listed;
 use rules::Entry;
 use rules::Shape;

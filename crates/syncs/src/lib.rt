@@ -54,7 +54,9 @@ fn late_length(
 
 // Takes the log over: synced entries leave early, late and the notes, and the sync point becomes the log's length.
 fn sync_state(shape: Shape, state: &mut [u8], message: &[u8], log: Listed, slots: &[u16], last: u64)
-    requires { ⌜ Stands shape (stateOf shape (now state)) (now state) × Lookup (now message) log (now slots) × (last ≡ lastStamp (listedIn (now message) log)) × (log .count ≤ shape .c) × (length (lateBy (stateOf shape (now state)) (listedIn (now message) log)) ≤ shape .c) ⌝ }
+    requires { ⌜ (let st = stateOf shape (now state) in
+        Stands shape st (now state) × Lookup (now message) log (now slots) × (last ≡ lastStamp (listedIn (now message) log)) × (log .count ≤ shape .c)
+        × (length (lateBy st (listedIn (now message) log)) ≤ shape .c)) ⌝ }
     ensures { λ _. ⌜ now (state .exit) ≡ image shape (syncedBy (stateOf shape (now (state .entry))) (listedIn (now (message .entry)) log)) ⌝ }
 {
     let places = places::places_of(shape);
@@ -88,7 +90,9 @@ fn tell_slow(
     i: usize,
 ) -> usize
     requires { ⌜ Coming shape (now state) (now message) log × (i < log .count) × (at + lengthFor (shape .s) 6 1 ≤ length (now out)) ⌝ }
-    ensures { λ r. ⌜ (r ≡ at + lengthFor (shape .s) 6 1) × (now (out .exit) ≡ splice (now (out .entry)) at (wireBytes (slowReply (stateOf shape (now (state .entry))) (listedIn (now (message .entry)) log) i))) ⌝ }
+    ensures { λ r. ⌜
+        (r ≡ at + lengthFor (shape .s) 6 1)
+        × (now (out .exit) ≡ splice (now (out .entry)) at (wireBytes (slowReply (stateOf shape (now (state .entry))) (listedIn (now (message .entry)) log) i))) ⌝ }
 {
     let from = log.at + 24 * i;
     let end = from + 24;
@@ -109,7 +113,9 @@ fn slow_length(shape: Shape, state: &[u8], message: &[u8], log: Listed) -> usize
 // Writes kind 6 for each position past the sync point, and says where the last ends.
 fn tell_synced(shape: Shape, state: &[u8], out: &mut [u8], message: &[u8], log: Listed) -> usize
     requires { ⌜ Coming shape (now state) (now message) log × (lengthFor (shape .s) 6 1 * (log .count - stateOf shape (now state) .logged .sync) ≤ length (now out)) ⌝ }
-    ensures { λ r. ⌜ (r ≡ length (flat wireBytes (slowReplies (stateOf shape (now (state .entry))) (listedIn (now (message .entry)) log)))) × (now (out .exit) ≡ splice (now (out .entry)) 0 (flat wireBytes (slowReplies (stateOf shape (now (state .entry))) (listedIn (now (message .entry)) log)))) ⌝ }
+    ensures { λ r. ⌜ (let st = stateOf shape (now (state .entry)) in
+        (r ≡ length (flat wireBytes (slowReplies st (listedIn (now (message .entry)) log))))
+        × (now (out .exit) ≡ splice (now (out .entry)) 0 (flat wireBytes (slowReplies st (listedIn (now (message .entry)) log))))) ⌝ }
 {
     let sync = places::get_sync(state) as usize;
     let n = log.count - sync;
@@ -134,7 +140,8 @@ fn sync_by(
     slots: &[u16],
 ) -> Answer
     requires { ⌜ Coming shape (now state) (now message) log × Lookup (now message) log (now slots) ⌝ }
-    ensures { λ r. ⌜ left r (now (state .exit)) (now (out .exit)) ≡ closes shape (now (state .entry)) (now (out .entry)) (takes shape (stateOf shape (now (state .entry))) (listedIn (now (message .entry)) log)) ⌝ }
+    ensures { λ r. ⌜ (let b = now (state .entry) in
+        left r (now (state .exit)) (now (out .exit)) ≡ closes shape b (now (out .entry)) (takes shape (stateOf shape b) (listedIn (now (message .entry)) log))) ⌝ }
 {
     let last = octets::get64(message, log.at + 24 * (log.count - 1));
     let late = late_length(shape, state, message, log, slots, last);

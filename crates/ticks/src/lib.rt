@@ -28,7 +28,9 @@ ghost use Rattle.ticks.specs.Released.{Released};
 // Writes at `at` that entry n of the log is placed: its position, and the digest of the log up to it. Says where the message ends.
 fn tell_placed(shape: Shape, state: &[u8], out: &mut [u8], at: usize, n: usize, sum: u64) -> usize
     requires { ⌜ Releasing shape (now state) × (n < length (stateOf shape (now state) .logged .log)) × (at + lengthFor (shape .s) 5 1 ≤ length (now out)) ⌝ }
-    ensures { λ r. ⌜ (r ≡ at + lengthFor (shape .s) 5 1) × (now (out .exit) ≡ splice (now (out .entry)) at (wireBytes (sendOut (stateOf shape (now (state .entry))) 5 (1 ∷ (n + 1) ∷ sum ∷ []) (entryOf (stateOf shape (now (state .entry)) .logged .log) n)))) ⌝ }
+    ensures { λ r. ⌜ (let st = stateOf shape (now (state .entry)) in
+        (r ≡ at + lengthFor (shape .s) 5 1)
+        × (now (out .exit) ≡ splice (now (out .entry)) at (wireBytes (sendOut st 5 (1 ∷ (n + 1) ∷ sum ∷ []) (entryOf (st .logged .log) n))))) ⌝ }
 {
     let from = places::log_place(shape, n);
     let end = from + 24;
@@ -44,7 +46,9 @@ fn tell_placed(shape: Shape, state: &[u8], out: &mut [u8], at: usize, n: usize, 
 // Writes from the start of the outgoing buffer on that the first entry due by a time is not placed, with the digest of the log. Says where the message ends.
 fn tell_unplaced(shape: Shape, state: &[u8], out: &mut [u8], time: u64) -> usize
     requires { ⌜ Releasing shape (now state) × (0 < length (dueOf time (stateOf shape (now state) .waiting .early))) × (lengthFor (shape .s) 5 1 ≤ length (now out)) ⌝ }
-    ensures { λ r. ⌜ (r ≡ lengthFor (shape .s) 5 1) × (now (out .exit) ≡ splice (now (out .entry)) 0 (wireBytes (unplacedReply (stateOf shape (now (state .entry))) (entryOf (dueOf time (stateOf shape (now (state .entry)) .waiting .early)) 0)))) ⌝ }
+    ensures { λ r. ⌜ (let st = stateOf shape (now (state .entry)) in
+        (r ≡ lengthFor (shape .s) 5 1)
+        × (now (out .exit) ≡ splice (now (out .entry)) 0 (wireBytes (unplacedReply st (entryOf (dueOf time (st .waiting .early)) 0))))) ⌝ }
 {
     let from = releases::early_place(shape, releases::first_due(shape, state, time));
     let end = from + 24;
@@ -61,7 +65,9 @@ fn tell_unplaced(shape: Shape, state: &[u8], out: &mut [u8], time: u64) -> usize
 // Writes the log at `at`, to all followers. Says where the message ends.
 fn tell_log(shape: Shape, state: &[u8], out: &mut [u8], at: usize) -> usize
     requires { ⌜ Releasing shape (now state) × (at + lengthFor (shape .s) 4 (length (stateOf shape (now state) .logged .log)) ≤ length (now out)) ⌝ }
-    ensures { λ r. ⌜ (r ≡ at + lengthFor (shape .s) 4 (length (stateOf shape (now (state .entry)) .logged .log))) × (now (out .exit) ≡ splice (now (out .entry)) at (wireBytes (sendFollowers shape (stateOf shape (now (state .entry))) 4 (stateOf shape (now (state .entry)) .logged .log)))) ⌝ }
+    ensures { λ r. ⌜ (let st = stateOf shape (now (state .entry)) in
+        (r ≡ at + lengthFor (shape .s) 4 (length (st .logged .log)))
+        × (now (out .exit) ≡ splice (now (out .entry)) at (wireBytes (sendFollowers shape st 4 (st .logged .log))))) ⌝ }
 {
     let from = places::places_of(shape).log + 4;
     let end = from + 24 * places::log_length(shape, state);
@@ -78,7 +84,9 @@ fn tell_log(shape: Shape, state: &[u8], out: &mut [u8], at: usize) -> usize
 // Writes the sync point at `at`, to the leader of the own group. Says where the message ends.
 fn tell_status(shape: Shape, state: &[u8], out: &mut [u8], at: usize) -> usize
     requires { ⌜ Releasing shape (now state) × (at + lengthFor (shape .s) 10 0 ≤ length (now out)) ⌝ }
-    ensures { λ r. ⌜ (r ≡ at + lengthFor (shape .s) 10 0) × (now (out .exit) ≡ splice (now (out .entry)) at (wireBytes (sendLeader shape (stateOf shape (now (state .entry))) 10 (stateOf shape (now (state .entry)) .site .group) (stateOf shape (now (state .entry)) .logged .sync ∷ []) []))) ⌝ }
+    ensures { λ r. ⌜ (let st = stateOf shape (now (state .entry)) in
+        (r ≡ at + lengthFor (shape .s) 10 0)
+        × (now (out .exit) ≡ splice (now (out .entry)) at (wireBytes (sendLeader shape st 10 (st .site .group) (st .logged .sync ∷ []) [])))) ⌝ }
 {
     let view = places::view_at(shape, state, places::get_group(state));
     let leader = group::only(view as u64 % shape.n);
@@ -89,7 +97,8 @@ fn tell_status(shape: Shape, state: &[u8], out: &mut [u8], at: usize) -> usize
 
 // ---- the release
 
-// Releases the first k entries due by a time, each with its reply, from the start of the outgoing buffer on: one after the other to the log, then all at once out of early and the notes. Says where the last reply ends. n is the log's length.
+// Releases the first k entries due by a time, each with its reply, from the start of the outgoing buffer on: one after the other to the log, then all at
+// once out of early and the notes. Says where the last reply ends. n is the log's length.
 fn release(
     shape: Shape,
     state: &mut [u8],
@@ -99,7 +108,9 @@ fn release(
     k: usize,
     slots: &mut [u16],
 ) -> usize
-    requires { ⌜ Releasing shape (now state) × (n ≡ length (stateOf shape (now state) .logged .log)) × (k ≤ length (dueOf time (stateOf shape (now state) .waiting .early))) × (n + k ≤ shape .c) × (lengthFor (shape .s) 5 1 * k ≤ length (now out)) ⌝ }
+    requires { ⌜ (let st = stateOf shape (now state) in
+        Releasing shape (now state) × (n ≡ length (st .logged .log)) × (k ≤ length (dueOf time (st .waiting .early))) × (n + k ≤ shape .c)
+        × (lengthFor (shape .s) 5 1 * k ≤ length (now out))) ⌝ }
     ensures { λ r. ⌜ Released shape (now (state .entry)) (now (out .entry)) time k r (now (state .exit)) (now (out .exit)) ⌝ }
 {
     if k == 0 {
@@ -156,8 +167,11 @@ fn leader_waits(
     n: usize,
     due: usize,
 ) -> Answer
-    requires { ⌜ Releasing shape (now state) × (n ≡ length (stateOf shape (now state) .logged .log)) × (due ≡ length (dueOf time (stateOf shape (now state) .waiting .early))) ⌝ }
-    ensures { λ r. ⌜ left r (now (state .exit)) (now (out .exit)) ≡ closes shape (now (state .entry)) (now (out .entry)) (leaderReleases shape (stateOf shape (now (state .entry))) time (dueOf time (stateOf shape (now (state .entry)) .waiting .early)) []) ⌝ }
+    requires { ⌜ (let st = stateOf shape (now state) in
+        Releasing shape (now state) × (n ≡ length (st .logged .log)) × (due ≡ length (dueOf time (st .waiting .early)))) ⌝ }
+    ensures { λ r. ⌜ (let st = stateOf shape (now (state .entry)) in
+        let due = dueOf time (st .waiting .early) in
+        left r (now (state .exit)) (now (out .exit)) ≡ closes shape (now (state .entry)) (now (out .entry)) (leaderReleases shape st time due [])) ⌝ }
 {
     if due == 0 {
         settle(shape, state, time, n as u64);
@@ -180,7 +194,10 @@ fn leader_releases(
     slots: &mut [u16],
 ) -> Answer
     requires { ⌜ Releasing shape (now state) ⌝ }
-    ensures { λ r. ⌜ left r (now (state .exit)) (now (out .exit)) ≡ closes shape (now (state .entry)) (now (out .entry)) (leaderReleases shape (stateOf shape (now (state .entry))) time (dueOf time (stateOf shape (now (state .entry)) .waiting .early)) (leading (agreed shape (stateOf shape (now (state .entry)) .waiting .notes)) (dueOf time (stateOf shape (now (state .entry)) .waiting .early)))) ⌝ }
+    ensures { λ r. ⌜ (let st = stateOf shape (now (state .entry)) in
+        let due = dueOf time (st .waiting .early) in
+        let run = leading (agreed shape (st .waiting .notes)) due in
+        left r (now (state .exit)) (now (out .exit)) ≡ closes shape (now (state .entry)) (now (out .entry)) (leaderReleases shape st time due run)) ⌝ }
 {
     let n = places::log_length(shape, state);
     let due = releases::due_count(shape, state, time);
@@ -212,7 +229,9 @@ fn follower_releases(
     slots: &mut [u16],
 ) -> Answer
     requires { ⌜ Releasing shape (now state) ⌝ }
-    ensures { λ r. ⌜ left r (now (state .exit)) (now (out .exit)) ≡ closes shape (now (state .entry)) (now (out .entry)) (followerReleases shape (stateOf shape (now (state .entry))) time (dueOf time (stateOf shape (now (state .entry)) .waiting .early))) ⌝ }
+    ensures { λ r. ⌜ (let st = stateOf shape (now (state .entry)) in
+        let due = dueOf time (st .waiting .early) in
+        left r (now (state .exit)) (now (out .exit)) ≡ closes shape (now (state .entry)) (now (out .entry)) (followerReleases shape st time due)) ⌝ }
 {
     let n = places::log_length(shape, state);
     let due = releases::due_count(shape, state, time);

@@ -101,7 +101,9 @@ fn all_groups(s: u64) -> u16
 // Kind 18 with the boundary to the leader of each other group in the mask: says where the last ends.
 fn tell_all(shape: Shape, state: &[u8], out: &mut [u8], boundary: u64, mask: u16) -> usize
     requires { ⌜ Sized shape (now state) × (lengthFor (shape .s) 18 0 * length (othersIn shape (now state) mask) ≤ length (now out)) ⌝ }
-    ensures { λ r. ⌜ (r ≡ length (flat (leaderBytes shape (now (state .entry)) 18 boundary []) (othersIn shape (now (state .entry)) mask))) × (now (out .exit) ≡ splice (now (out .entry)) 0 (flat (leaderBytes shape (now (state .entry)) 18 boundary []) (othersIn shape (now (state .entry)) mask))) ⌝ }
+    ensures { λ r. ⌜ (let b = now (state .entry) in
+        (r ≡ length (flat (leaderBytes shape b 18 boundary []) (othersIn shape b mask)))
+        × (now (out .exit) ≡ splice (now (out .entry)) 0 (flat (leaderBytes shape b 18 boundary []) (othersIn shape b mask)))) ⌝ }
 {
     handler::tell_leaders(
         shape,
