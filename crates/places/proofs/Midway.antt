@@ -4,7 +4,7 @@ use mathlib.Core.Path.{_≡_}
 use mathlib.Core.List.{List, _++_}
 use native.Mathlib.Omega.{arith}
 use lib.ListN.{take, drop}
-use Rattle.rules.specs.State.{Note, State, withWaiting}
+use Rattle.rules.specs.State.{Note, State, withLogged, withWaiting}
 use Rattle.rules.specs.Image.{tableAt, stateOf, atDraft, atEarly, atLate, atLog, atNotes, atReplies, atVotes}
 use Rattle.rules.specs.declared.Entry.{Entry}
 use Rattle.rules.specs.declared.Shape.{Shape}
@@ -16,7 +16,7 @@ use Rattle.notes.specs.Notes.{notesAt, NotesHold, Notes}
 use Rattle.notes.proofs.Notes as noted
 use Rattle.places.specs.Layout.{startOf, Midway}
 use Rattle.places.proofs.Sections.{midway-laid, laid-midway}
-use Rattle.places.proofs.Lent.{holds-fits, notes-fit, log-lent, early-lent, late-lent, draft-lent, notes-lent, early-home, late-home, notes-home}
+use Rattle.places.proofs.Lent.{holds-fits, notes-fit, log-lent, early-lent, late-lent, draft-lent, notes-lent, log-home, early-home, late-home, notes-home}
 
 -- ---- what waits fits its bytes anew
 
@@ -47,6 +47,34 @@ fits-waiting early late notes f e l n =
       replies = f .replies;
     }
 
+-- and so does the log
+fits-log : {sh : Shape} {st : State} (log : List Entry) → StateFits sh st → TableFits (sh .c) log → StateFits sh (withLogged (record { log = log; sync = st .logged .sync; commit = st .logged .commit }) st)
+fits-log log f l =
+    record {
+      group = f .group;
+      replica = f .replica;
+      status = f .status;
+      view = f .view;
+      normal = f .normal;
+      clock = f .clock;
+      sync = f .sync;
+      commit = f .commit;
+      boundary = f .boundary;
+      gVecPlaces = f .gVecPlaces;
+      gVec = f .gVec;
+      heardPlaces = f .heardPlaces;
+      heard = f .heard;
+      log = l;
+      early = f .early;
+      late = f .late;
+      notes = f .notes;
+      votePlaces = f .votePlaces;
+      votes = f .votes;
+      draft = f .draft;
+      replyPlaces = f .replyPlaces;
+      replies = f .replies;
+    }
+
 module _ {sh : Shape} {st : State} {b : List ℕ} (m : Midway sh st b) where
   -- ---- lent
   pub log-here : (at end : ℕ) → at ≡ startOf sh atLog → end ≡ startOf sh atEarly → Holds (sh .c) (st .logged .log) (take (end - at) (drop at b))
@@ -65,6 +93,9 @@ module _ {sh : Shape} {st : State} {b : List ℕ} (m : Midway sh st b) where
   notes-here at end e f = notes-lent (midway-laid m) at (end - at) (m .fits) (m .holds .notes) e (omega arith)
 
   -- ---- come home
+  pub log-comes : {b′ x : List ℕ} (at end : ℕ) (es : List Entry) → Holds (sh .c) es x → at ≡ startOf sh atLog → end ≡ startOf sh atEarly → b′ ≡ take at b ++ (x ++ drop (end - at) (drop at b)) → Midway sh (withLogged (record { log = es; sync = st .logged .sync; commit = st .logged .commit }) st) b′
+  log-comes at end es h e f w = laid-midway (m .fits) (fits-log es (m .holds) (holds-fits h)) (log-home (midway-laid m) at (end - at) es h e (omega arith) w)
+
   pub early-comes : {b′ x : List ℕ} (at end : ℕ) (es : List Entry) → Holds (sh .c) es x → at ≡ startOf sh atEarly → end ≡ startOf sh atLate → b′ ≡ take at b ++ (x ++ drop (end - at) (drop at b)) → Midway sh (withWaiting (record { early = es; late = st .waiting .late; notes = st .waiting .notes }) st) b′
   early-comes at end es h e f w =
       laid-midway (m .fits) (fits-waiting es (st .waiting .late) (st .waiting .notes) (m .holds) (holds-fits h) (m .holds .late) (m .holds .notes))
