@@ -15,7 +15,7 @@ use Rattle.repeats.specs.Rows.{countOf, spotOf, keyOf, Inside}
 use Rattle.repeats.specs.Table.{Indexed}
 use Rattle.repeats.specs.declared.Spots.{Spots}
 use Rattle.repeats.proofs.Places.{spot-first}
-use Rattle.repeats.proofs.Table.{indexed-agree}
+use Rattle.repeats.proofs.Slots.{indexed-agree}
 use Rattle.entries.specs.First.{findRow}
 use Rattle.entries.specs.Rows.{entrySpots, keyIn, FoundTo, Found}
 use Rattle.entries.proofs.Keys.{key-at, keyed-at, row-keyed}

@@ -289,8 +289,8 @@ fn served_by(slots: &[u16]) -> usize
     row(slots[0])
 }
 
-// Marks that no hash serves.
-fn mark_none(slots: &mut [u16])
+// Marks that no hash serves: for a few searches that costs less than putting every row in.
+pub fn mark_none(slots: &mut [u16])
     ensures { λ _. ⌜ servedBy (now (slots .exit)) ≡ 5 ⌝ }
 {
     if 0 < slots.len() {
