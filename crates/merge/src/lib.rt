@@ -45,14 +45,7 @@ fn take_in(t: &mut [u8], c: usize, e: Entry, slots: &mut [u16]) -> bool
 }
 
 // Takes in, one after the other, the `count` entries that stand in `src` from `at` on, until one has no place.
-fn take_all(
-    t: &mut [u8],
-    c: usize,
-    src: &[u8],
-    at: usize,
-    count: usize,
-    slots: &mut [u16],
-) -> bool
+fn take_all(t: &mut [u8], c: usize, src: &[u8], at: usize, count: usize, slots: &mut [u16]) -> bool
     requires { ⌜ Table c (now t) × (at + 24 * count ≤ length (now src)) × Found (tableAt c (now t) 0) (now slots) ⌝ }
     ensures { λ r. ⌜ Took c (takeAll (tableAt c (now (t .entry)) 0) (items (entryAt (now (src .entry))) 24 at count)) r (now (t .exit)) (now (slots .exit)) ⌝ }
 {

@@ -78,13 +78,7 @@ fn run_of(
 }
 
 // How many of those due by a time a leader may release: those before the first that is not agreed.
-pub fn run_length(
-    shape: Shape,
-    state: &[u8],
-    time: u64,
-    due: usize,
-    slots: &mut [u16],
-) -> usize
+pub fn run_length(shape: Shape, state: &[u8], time: u64, due: usize, slots: &mut [u16]) -> usize
     requires { ⌜ Releasing shape (now state) × (due ≡ length (dueOf time (stateOf shape (now state) .waiting .early))) ⌝ }
     ensures { λ r. ⌜ (let waiting = stateOf shape (now (state .entry)) .waiting in
         r ≡ length (leading (agreed shape (waiting .notes)) (dueOf time (waiting .early)))) ⌝ }

@@ -13,10 +13,10 @@ use Rattle.early.proofs.due_at.Statement.{statement}
 use Rattle.early.proofs.due_at.Tie as tie
 
 abbrev Inv-loop : tie.InvT-loop
-Inv-loop t c time i last n best₀ k₀ best k = (k ≤ n) × (n ≡ length (tableAt c t 0)) × Least (isNext time i last) (entryOf (tableAt c t 0)) n k best
+Inv-loop t c time i n next best₀ k₀ best k = (k ≤ n) × (n ≡ length (tableAt c t 0)) × Least (isNext (next .time) (next .i) (next .last)) (entryOf (tableAt c t 0)) n k best
 
 abbrev μ-loop : tie.MeasureT-loop
-μ-loop t c time i last n best₀ k₀ best k = n - k
+μ-loop t c time i n next best₀ k₀ best k = n - k
 
 count-requires : tie.Need-count-requires Inv-loop μ-loop
 count-requires c κs = search needs

@@ -13,7 +13,7 @@ before-requires c κs = search needs
 
 returns : tie.Need-returns
 unfolding isNext
-returns c = let a = c .before .before .args in ap (λ (b : Bool). leb (a .e .stamp) (a .time) && (eqb (a .i) 0 || b)) (c .before2 .ensures)
+returns c = let a = c .before .before .before .before .before .args in ap (λ (b : Bool). leb (a .e .stamp) (a .next .time) && (eqb (a .next .i) 0 || b)) (c .before2 .ensures)
 
 pub is-next-spec : {M : Type 1} → statement M
 is-next-spec = tie.close (tie.spec before-requires returns)

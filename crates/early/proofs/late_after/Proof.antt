@@ -1,10 +1,10 @@
--- `syncs::late_after` meets its contract. Assumes nothing.
+-- `early::late_after` meets its contract. Assumes nothing.
 -- Made by tools/answers from the file `answers` beside it: change that one.
 use native.Mathlib.Omega.{arith}
 use Rattle.early.proofs.Buffers.{first-asked, last-asked, counted, counted-fits}
 use borrow.Author.Needs.{needs}
-use Rattle.syncs.proofs.late_after.Statement.{statement}
-use Rattle.syncs.proofs.late_after.Tie as tie
+use Rattle.early.proofs.late_after.Statement.{statement}
+use Rattle.early.proofs.late_after.Tie as tie
 
 mul-half : tie.Need-mul-half
 mul-half c = search needs

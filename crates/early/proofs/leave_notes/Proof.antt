@@ -15,10 +15,10 @@ use Rattle.early.proofs.leave_notes.Statement.{statement}
 use Rattle.early.proofs.leave_notes.Tie as tie
 
 abbrev Inv-loop : tie.InvT-loop
-Inv-loop t₀ c s b listed table n kept₀ i₀ t kept i = (i ≤ n) × (n ≡ length (notesAt c s t₀)) × (length t ≡ length t₀) × Notes c s t × Sifted (stays (listedIn b listed)) (notesAt c s t₀) i kept (notesAt c s t)
+Inv-loop t₀ c s b listed slots n kept₀ i₀ t kept i = (i ≤ n) × (n ≡ length (notesAt c s t₀)) × (length t ≡ length t₀) × Notes c s t × Sifted (stays (listedIn b listed)) (notesAt c s t₀) i kept (notesAt c s t)
 
 abbrev μ-loop : tie.MeasureT-loop
-μ-loop t₀ c s b listed table n kept₀ i₀ t kept i = n - i
+μ-loop t₀ c s b listed slots n kept₀ i₀ t kept i = n - i
 
 count-requires : tie.Need-count-requires Inv-loop μ-loop
 count-requires c κs = omega (arith, c .before .before .before .before .pre .0 .size)

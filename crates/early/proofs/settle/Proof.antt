@@ -1,9 +1,9 @@
--- `syncs::sync_buffers` meets its contract: late is left, early falls to it, and early is left. Assumes nothing.
+-- `early::settle` meets its contract: late is left, early falls to it, and early is left. Assumes nothing.
 -- Made by tools/answers from the file `answers` beside it: change that one.
 use Rattle.early.proofs.Buffers.{last-asked, then-fall, then-leave, settled}
 use borrow.Author.Needs.{needs}
-use Rattle.syncs.proofs.sync_buffers.Statement.{statement}
-use Rattle.syncs.proofs.sync_buffers.Tie as tie
+use Rattle.early.proofs.settle.Statement.{statement}
+use Rattle.early.proofs.settle.Tie as tie
 
 mul-half : tie.Need-mul-half
 mul-half c = search needs
@@ -47,8 +47,8 @@ same-length c = search needs
 returns : tie.Need-returns
 returns c = settled _ _ (c .before .before .before .before .before .before .before .before .before .before .before .before .before .before .before .pre .0) _ (c .before .before .before .before .before .before .before .before .before .before .leave .ensures) _ (c .before .before .before .before .before .before .fall-late .ensures) _ _ (c .before .before .leave2 .ensures)
 
-pub sync-buffers-spec : {M : Type 1} → statement M
-sync-buffers-spec =
+pub settle-spec : {M : Type 1} → statement M
+settle-spec =
     tie.close
     (tie.spec
     mul-half

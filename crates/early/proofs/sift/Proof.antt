@@ -33,7 +33,7 @@ same-length-2 : tie.Need-same-length-2
 same-length-2 c = search needs
 
 returns-2 : tie.Need-returns-2
-returns-2 c = moved-yes _ noEntry (λ (ws : List Entry). Holds (c .before .before .before .before .before .before .before .before .before .before .before .args .c) ws (c .before .before .replace-at .last .0)) _ _ _ _ _ (c .before .before .before .before .before .before .entry-of .ensures) (c .before .before .before .before .before .chosen .ensures) (not-false _ (c .before .before .before .before .if1 .left)) (c .before .before .replace-at .ensures)
+returns-2 c = moved-yes _ noEntry (λ (ws : List Entry). Holds (c .before .before .before .before .before .before .before .before .before .before .before .before .args .c) ws (c .before .before .before .replace-at .last .0)) _ _ _ _ _ (c .before .before .before .before .before .before .before .entry-of .ensures) (c .before .before .before .before .before .before .chosen .ensures) (not-false _ (c .before .before .before .before .before .if1 .left)) (c .before .before .before .replace-at .ensures)
 
 pub sift-spec : {M : Type 1} → statement M
 sift-spec =

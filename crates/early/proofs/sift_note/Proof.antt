@@ -31,7 +31,7 @@ same-length-2 : tie.Need-same-length-2
 same-length-2 c = search needs
 
 returns-2 : tie.Need-returns-2
-returns-2 c = moved-yes (stays (listedIn (c .before .before .before .before .before .before .before .before .before .before .args .b .now) (c .before .before .before .before .before .before .before .before .before .before .args .listed))) noNote (λ (ys : List Note). NotesHold (c .before .before .before .before .before .before .before .before .before .before .args .c) (c .before .before .before .before .before .before .before .before .before .before .args .s) ys (c .before .before .move-note .last .0)) _ _ _ _ _ refl (ap not (c .before .before .before .before .before .note-listed .ensures)) (ap not (c .before .before .before .before .if1 .left)) (c .before .before .move-note .ensures)
+returns-2 c = moved-yes (stays (listedIn (c .before .before .before .before .before .before .before .before .before .before .before .args .b .now) (c .before .before .before .before .before .before .before .before .before .before .before .args .listed))) noNote (λ (ys : List Note). NotesHold (c .before .before .before .before .before .before .before .before .before .before .before .args .c) (c .before .before .before .before .before .before .before .before .before .before .before .args .s) ys (c .before .before .before .move-note .last .0)) _ _ _ _ _ refl (ap not (c .before .before .before .before .before .before .note-listed .ensures)) (ap not (c .before .before .before .before .before .if1 .left)) (c .before .before .before .move-note .ensures)
 
 pub sift-note-spec : {M : Type 1} → statement M
 sift-note-spec =
