@@ -1,10 +1,10 @@
--- `keeping::keep_own_vote` meets its contract. Assumes nothing.
+-- `views::keep_own_vote` meets its contract. Assumes nothing.
 -- Made by tools/answers from the file `answers` beside it: change that one.
 use native.Mathlib.Omega.{arith}
-use Rattle.keeping.proofs.Writes.{own-kept}
+use Rattle.views.proofs.Kept.{own-kept}
 use borrow.Author.Needs.{needs}
-use Rattle.keeping.proofs.keep_own_vote.Statement.{statement}
-use Rattle.keeping.proofs.keep_own_vote.Tie as tie
+use Rattle.views.proofs.keep_own_vote.Statement.{statement}
+use Rattle.views.proofs.keep_own_vote.Tie as tie
 
 get-normal-requires : tie.Need-get-normal-requires
 get-normal-requires c κs = search needs

@@ -1,12 +1,12 @@
--- `keeping::keep_vote` meets its contract. Assumes nothing.
+-- `views::keep_vote` meets its contract. Assumes nothing.
 -- Made by tools/answers from the file `answers` beside it: change that one.
 use Prim.Native.Nat.{_+_, _≤_}
 use native.Mathlib.Omega.{arith}
 use lib.ListN.{length}
-use Rattle.keeping.proofs.Writes.{vote-kept}
+use Rattle.views.proofs.Kept.{vote-kept}
 use borrow.Author.Needs.{needs}
-use Rattle.keeping.proofs.keep_vote.Statement.{statement}
-use Rattle.keeping.proofs.keep_vote.Tie as tie
+use Rattle.views.proofs.keep_vote.Statement.{statement}
+use Rattle.views.proofs.keep_vote.Tie as tie
 
 vote-place-requires : tie.Need-vote-place-requires
 vote-place-requires c κs = search needs

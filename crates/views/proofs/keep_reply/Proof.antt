@@ -1,12 +1,12 @@
--- `keeping::keep_reply` meets its contract. Assumes nothing.
+-- `views::keep_reply` meets its contract. Assumes nothing.
 -- Made by tools/answers from the file `answers` beside it: change that one.
 use Prim.Native.Nat.{_+_, _≤_}
 use native.Mathlib.Omega.{arith}
 use lib.ListN.{length}
-use Rattle.keeping.proofs.Writes.{reply-kept}
+use Rattle.views.proofs.Kept.{reply-kept}
 use borrow.Author.Needs.{needs}
-use Rattle.keeping.proofs.keep_reply.Statement.{statement}
-use Rattle.keeping.proofs.keep_reply.Tie as tie
+use Rattle.views.proofs.keep_reply.Statement.{statement}
+use Rattle.views.proofs.keep_reply.Tie as tie
 
 reply-place-requires : tie.Need-reply-place-requires
 reply-place-requires c κs = search needs

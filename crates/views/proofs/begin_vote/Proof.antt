@@ -1,9 +1,9 @@
--- `keeping::begin_vote` meets its contract: three writes in a row. Assumes nothing.
+-- `views::begin_vote` meets its contract: three writes in a row. Assumes nothing.
 -- Made by tools/answers from the file `answers` beside it: change that one.
-use Rattle.keeping.proofs.Writes.{vote-begun}
+use Rattle.views.proofs.Kept.{vote-begun}
 use borrow.Author.Needs.{needs}
-use Rattle.keeping.proofs.begin_vote.Statement.{statement}
-use Rattle.keeping.proofs.begin_vote.Tie as tie
+use Rattle.views.proofs.begin_vote.Statement.{statement}
+use Rattle.views.proofs.begin_vote.Tie as tie
 
 put8-requires : tie.Need-put8-requires
 put8-requires c κs = search needs
