@@ -28,14 +28,20 @@ struct Mix {
     turn_high: u64,
 }
 
-// The number that marks a free slot, no row's.
+// The number in a free slot, no row's.
 const FREE: u16 = 65535;
+
+// How many rows a slot can number at most, and how many slots a table has at most.
+const MOST: usize = 65535;
+
+// How many slots a path has.
+const PATH: usize = 64;
 
 // How many rows are searched at less cost than that of a table.
 const FEW: usize = 12;
 
 // How many hashes there are, and the number in slot 0 that says that none serves.
-const HASHES: u16 = 5;
+const HASHES: usize = 5;
 
 // How many keys there are.
 fn count(sp: Spots) -> usize
@@ -199,7 +205,7 @@ fn slot(h: usize, x: u64, size: usize) -> usize
     requires { ⌜ (64 ≤ size) × (size ≤ 65535) ⌝ }
     ensures { λ r. ⌜ (r ≡ slotOf h size x) × (r + 64 ≤ size) ⌝ }
 {
-    (hash(h, x) * (size - 64) as u64 / 4294967296) as usize
+    (hash(h, x) * (size - PATH) as u64 / 4294967296) as usize
 }
 
 // ---- a table
@@ -219,7 +225,7 @@ fn path_end(b: &[u8], sp: Spots, h: usize, table: &[u16], x: u64) -> usize
     let m = count(sp);
     let start = slot(h, x, table.len());
     let mut n = 0;
-    while n < 64 {
+    while n < PATH {
         let e = row(table[start + n]);
         if m <= e {
             return start + n;
@@ -284,7 +290,7 @@ fn served_by(slots: &[u16]) -> usize
     ensures { λ r. ⌜ r ≡ servedBy (now (slots .entry)) ⌝ }
 {
     if slots.len() == 0 {
-        return row(HASHES);
+        return HASHES;
     }
     row(slots[0])
 }
@@ -294,7 +300,7 @@ pub fn mark_none(slots: &mut [u16])
     ensures { λ _. ⌜ servedBy (now (slots .exit)) ≡ 5 ⌝ }
 {
     if 0 < slots.len() {
-        slots[0] = HASHES;
+        slots[0] = HASHES as u16;
     }
 }
 
@@ -315,13 +321,17 @@ fn size_for(len: usize, m: usize, most: usize) -> usize
     if rows <= FEW {
         return 0;
     }
-    if 65535 < m {
+    if MOST < m {
         return 0;
     }
-    if len < 66 {
+    if len < 2 + PATH {
         return 0;
     }
-    let wanted = if rows < 32735 { 64 + 2 * rows } else { 65535 };
+    let wanted = if rows < MOST / 2 - PATH {
+        PATH + 2 * rows
+    } else {
+        MOST
+    };
     if len - 2 < wanted {
         return len - 2;
     }
@@ -338,7 +348,7 @@ fn serve(b: &[u8], sp: Spots, slots: &mut [u16], size: usize, first: usize) -> u
     let m = count(sp);
     let end = 2 + size;
     let mut h = first;
-    while h < 5 {
+    while h < HASHES {
         let place = lay_all(b, sp, h, &mut slots[2..end]);
         if place < m {
             mark_none(slots);
@@ -363,7 +373,7 @@ pub fn index(b: &[u8], sp: Spots, most: usize, slots: &mut [u16]) -> usize
 {
     let m = count(sp);
     let size = size_for(slots.len(), m, most);
-    if size < 64 {
+    if size < PATH {
         mark_none(slots);
         return nested(b, sp);
     }
@@ -380,11 +390,11 @@ pub fn add(b: &[u8], sp: Spots, slots: &mut [u16])
     ensures { λ _. ⌜ Indexed (keyOf (now (b .entry)) sp) (countOf sp) (now (slots .exit)) ⌝ }
 {
     let h = served_by(slots);
-    if 5 <= h {
+    if HASHES <= h {
         return;
     }
     let m = count(sp);
-    if 65535 < m {
+    if MOST < m {
         mark_none(slots);
         return;
     }
@@ -406,7 +416,7 @@ pub fn find(b: &[u8], sp: Spots, slots: &[u16], x: u64) -> usize
     ensures { λ r. ⌜ r ≡ rowOf (keyOf (now (b .entry)) sp) x (countOf sp) ⌝ }
 {
     let h = served_by(slots);
-    if 5 <= h {
+    if HASHES <= h {
         return search(b, sp, x);
     }
     let m = count(sp);

@@ -6,6 +6,9 @@ use borrow.Author.Needs.{needs}
 use Rattle.repeats.proofs.mark_none.Statement.{statement}
 use Rattle.repeats.proofs.mark_none.Tie as tie
 
+cast-slots : tie.Need-cast-slots
+cast-slots c = search needs
+
 slice-write-slots : tie.Need-slice-write-slots
 slice-write-slots c = search needs
 
@@ -19,4 +22,4 @@ returns-2 : tie.Need-returns-2
 returns-2 c = unmarked (c .before .args .slots .now) (omega arith)
 
 pub mark-none-spec : {M : Type 1} → statement M
-mark-none-spec = tie.close (tie.spec slice-write-slots same-length returns returns-2)
+mark-none-spec = tie.close (tie.spec cast-slots slice-write-slots same-length returns returns-2)

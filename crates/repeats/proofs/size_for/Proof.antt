@@ -12,8 +12,14 @@ returns c = search needs
 returns-2 : tie.Need-returns-2
 returns-2 c = search needs
 
+add-if4 : tie.Need-add-if4
+add-if4 c = search needs
+
 returns-3 : tie.Need-returns-3
 returns-3 c = search needs
+
+sub-if5 : tie.Need-sub-if5
+sub-if5 c = search needs
 
 mul-wanted : tie.Need-mul-wanted
 mul-wanted c = search needs
@@ -39,7 +45,9 @@ size-for-spec =
     (tie.spec
     returns
     returns-2
+    add-if4
     returns-3
+    sub-if5
     mul-wanted
     add-wanted
     sub-if6
