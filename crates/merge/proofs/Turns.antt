@@ -24,7 +24,7 @@ use Rattle.entries.specs.Table.{Holds}
 use Rattle.entries.specs.Rows.{Found}
 use Rattle.entries.proofs.Table.{decoded, and-then, rows-read}
 use Rattle.places.specs.Layout.{startOf, PlaceAt, Stands}
-use Rattle.places.proofs.Sections.{stands-fits, stands-laid}
+use Rattle.places.proofs.Sections.{stands-fits, stands-laid, stands-midway}
 use Rattle.places.proofs.Kept.{reply-at}
 use Rattle.places.proofs.Lent.{draft-lent, reply-lent}
 use Rattle.merge.specs.Taken.{Taken, Took}
@@ -51,7 +51,7 @@ module _ {sh : Shape} {st : State} {b : List ℕ} (s : Stands sh st b) (j : ℕ)
       let w = some-is (replyAt (sh .c) b (startOf sh atReplies + replyLength (sh .c) * j)) (sym g ∙ q) in
       let e : a + 1 ≡ startOf sh atReplies + replyLength (sh .c) * j + 1 = ap (λ (n : ℕ). n + 1) (ha .at) in
       let m : a + 1 + len - (a + 1) ≡ tableLength (sh .c) = omega arith in
-      (w .0, w .1, reply-lent s j (w .0) (a + 1) (a + 1 + len - (a + 1)) h (sym (reply-at s j h) ∙ w .1) e m)
+      (w .0, w .1, reply-lent (stands-midway s) j (w .0) (a + 1) (a + 1 + len - (a + 1)) h (sym (reply-at (stands-midway s) j h) ∙ w .1) e m)
 
   pub kept-room : (n : ℕ) → n ≡ num (take (a + 1 + len - (a + 1)) (drop (a + 1) b)) 0 4 → 4 + 24 * n ≤ length (take (a + 1 + len - (a + 1)) (drop (a + 1) b))
   kept-room n hn = let k = kept-table .2 in omega (arith, k .count, k .size, k .room)
@@ -64,7 +64,7 @@ module _ {sh : Shape} {st : State} {b : List ℕ} (s : Stands sh st b) (from : �
       rw q (getD-set-same (st .change .replies) from (some es) none l)
 
   other : (j : ℕ) → j < sh .s → (j ≡ from → ⊥) → getD (withReply st from es) j none ≡ replyAt (sh .c) b (startOf sh atReplies + replyLength (sh .c) * j)
-  other j h n = getD-set-other (st .change .replies) from j (some es) none n ∙ sym (reply-at s j h)
+  other j h n = getD-set-other (st .change .replies) from j (some es) none n ∙ sym (reply-at (stands-midway s) j h)
 
   -- the ways of taking it in
   module _ (j c : ℕ) (h : j < sh .s) (ds : List Entry) where
