@@ -35,7 +35,7 @@ pub record Counted (sh : Shape) (b msg : List ℕ) (k : Count) (slots : List ℕ
 pub record Looks (log : List ℕ) (number : ℕ) (x : Index) (slots : List ℕ) (r : ℕ) : Type 0 where
   pub long : 4 + 24 * number ≤ length log
   pub few : number ≤ 4096
-  pub replica : r < length (x .place)
+  pub replica : r < 7
   pub small : x .size ≤ 8258
   pub seven : getD (x .place) r 0 ≤ 7
   pub room : 0 < getD (x .place) r 0 → x .size * (getD (x .place) r 0 - 1) + x .size ≤ length slots

@@ -238,10 +238,10 @@ fn in_prefix<'a>(
     if shape.n <= basis.replica {
         return false;
     }
-    let count = basis.count;
-    let log = ballots::log_of(shape, state, message, count.cast, basis.replica);
+    let counting = basis.count;
+    let log = ballots::log_of(shape, state, message, counting.cast, basis.replica);
     let number = entries::count(log);
-    find_row(log, number, count.index, slots, basis.replica, e) < basis.length
+    find_row(log, number, counting.index, slots, basis.replica, e) < basis.length
 }
 
 // Whether e, of replica r's vote, is to be added: it is later than the boundary, no lower vote holds it, R votes hold it, and it is not in the prefix.
@@ -260,11 +260,11 @@ fn is_new<'a>(
     if e.stamp <= basis.boundary {
         return false;
     }
-    let count = basis.count;
-    if held_below(shape, state, message, count, slots, r, e) {
+    let counting = basis.count;
+    if held_below(shape, state, message, counting, slots, r, e) {
         return false;
     }
-    let all = holders_from(shape, state, message, count, slots, r, e);
+    let all = holders_from(shape, state, message, counting, slots, r, e);
     if all < GroupSize(shape.n).recovery() {
         return false;
     }
@@ -302,11 +302,11 @@ fn add_from<'a>(
     ensures { λ t. ⌜ (let votes = votesIn shape (now (state .entry)) (now (message .entry)) (basis .count .cast) in
         Adds (shape .c) (tableAt (shape .c) (now (table .entry)) 0) (newFrom (shape .n) (basis .count .top) votes r) (now (table .exit)) t) ⌝ }
 {
-    let count = basis.count;
-    if !ballots::counted(shape, state, count.cast, count.top, r) {
+    let counting = basis.count;
+    if !ballots::counted(shape, state, counting.cast, counting.top, r) {
         return true;
     }
-    let log = ballots::log_of(shape, state, message, count.cast, r);
+    let log = ballots::log_of(shape, state, message, counting.cast, r);
     let number = entries::count(log);
     let mut i = 0;
     while i < number {

@@ -1,80 +1,39 @@
--- `rebuild::rebuild_by` meets its contract. The invariant: the table holds the prefix, and in order what the votes of the replicas passed add. Assumes nothing.
+-- `rebuild::rebuild` meets its contract: its parts, over the vote that came. Assumes nothing.
 -- Made by tools/answers from the file `answers` beside it: change that one.
-use Prim.Native.Nat.{_≤_, _-_}
-use native.Mathlib.Omega.{arith}
-use Rattle.rules.specs.Entry.{placeAll}
-use Rattle.rules.specs.Rebuild.{withNormal, prefix}
-use Rattle.entries.specs.Table.{Holds}
-use Rattle.entries.proofs.Table.{is-table}
-use Rattle.ballots.specs.Ballots.{votesIn}
-use Rattle.ballots.proofs.Votes.{votes-long}
-use Rattle.ballots.proofs.Sound.{lower-good}
-use Rattle.rebuild.proofs.Climbing.{climbs-on}
-use Rattle.rebuild.proofs.Whole.{addedBelow, front-climbs, whole-start, whole-turn, whole-stop, whole-end}
-use Rattle.rebuild.proofs.rebuild_by.Statement.{statement}
-use Rattle.rebuild.proofs.rebuild_by.Tie as tie
+use Rattle.rebuild.proofs.Begun.{top-is, starts, prefixed, given-back}
+use borrow.Author.Needs.{needs}
+use Rattle.rebuild.proofs.rebuild.Statement.{statement}
+use Rattle.rebuild.proofs.rebuild.Tie as tie
 
-abbrev Inv-loop : tie.InvT-loop
-Inv-loop shape state message cast size rows table₀ basis index r₀ table r = (r ≤ shape .n) × Holds (shape .c) (placeAll (prefix (withNormal (basis .top) (votesIn shape state message cast))) (addedBelow (shape .n) (basis .top) (votesIn shape state message cast) r)) table
+top-normal-requires : tie.Need-top-normal-requires
+top-normal-requires c κs = search needs
 
-abbrev μ-loop : tie.MeasureT-loop
-μ-loop shape state message cast size rows table₀ basis index r₀ table r = shape .n - r
+index-votes-requires : tie.Need-index-votes-requires
+index-votes-requires c κs = search needs
 
-take-prefix-requires : tie.Need-take-prefix-requires Inv-loop μ-loop
-take-prefix-requires c κs = (c .before .before .before .before .before .pre .0, c .before .before .before .before .before .pre .3)
+take-prefix-requires : tie.Need-take-prefix-requires
+take-prefix-requires c κs = (c .before .before .before .index-votes .ensures .2 .given, c .before .before .before .before .before .before .before .before .before .before .pre .1, top-is _ _ _ _ _ (c .before .before .before .index-votes .result) (c .before .before .before .index-votes .ensures .0) (c .before .before .before .index-votes .ensures .1) (c .before .before .before .before .before .top-normal .ensures (c .before .before .before .before .before .before .before .before .before .before .args .message .now)))
 
-index-votes-requires : tie.Need-index-votes-requires Inv-loop μ-loop
-index-votes-requires c κs = (c .before .before .before .before .before .before .before .before .before .pre .0, c .before .before .before .before .before .before .before .before .before .pre .1, c .before .before .before .before .before .before .before .before .before .pre .2)
+add-all-requires : tie.Need-add-all-requires
+add-all-requires c κs = (starts _ _ _ (c .before .before .before .before .before .before .before .before .index-votes .result) (c .before .before .before .before .take-prefix .result) _ (c .before .before .before .before .before .before .before .before .index-votes .ensures .2) (c .before .before .before .before .take-prefix .ensures .0) (c .before .before .before .before .take-prefix .ensures .1), prefixed _ _ _ (c .before .before .before .before .before .before .before .before .index-votes .result) (c .before .before .before .before .take-prefix .result) _ (c .before .before .before .before .take-prefix .ensures .0) (c .before .before .before .before .take-prefix .ensures .2))
 
-loop-holds : tie.Need-loop-holds Inv-loop μ-loop
-loop-holds c = (omega arith, whole-start _ _ _ _ _ _ (c .before .before .before .before .before .before .take-prefix .ensures .1))
+same-length : tie.Need-same-length
+same-length c = search needs
 
-add-from-requires : tie.Need-add-from-requires Inv-loop μ-loop
-add-from-requires c κs = (c .before .before .before .before .before .before .before .before .before .before .before .before .before .before .before .before .before .pre .0, c .before .before .before .before .before .before .before .before .before .before .before .take-prefix .ensures .0, c .before .before .before .before .before .before .before .index-votes .ensures, c .before .before .if1 .taken, is-table _ _ _ (c .before .before .before .before .loop .inv .1), climbs-on _ _ _ _ _ (front-climbs _ _ (c .before .before .before .before .before .before .before .before .before .before .before .before .before .before .before .before .before .args .shape .c) _ _ _ (votes-long _ _ _ _ (c .before .before .before .before .before .before .before .before .before .before .before .before .before .before .before .before .before .pre .0 .sent)) (c .before .before .before .before .before .before .before .before .before .before .before .take-prefix .ensures .0) (lower-good _ _ _ _ (c .before .before .before .before .before .before .before .before .before .before .before .before .before .before .before .before .before .pre .0) _)) (c .before .before .before .before .loop .inv .1))
+same-length-2 : tie.Need-same-length-2
+same-length-2 c = search needs
 
-same-length : tie.Need-same-length Inv-loop μ-loop
-same-length c = omega arith
+returns : tie.Need-returns
+returns c = given-back _ _ _ (c .before .before .before .before .before .before .before .before .before .before .before .index-votes .result) (c .before .before .before .before .before .before .before .take-prefix .result) _ (c .before .before .before .before .before .before .before .take-prefix .ensures .0) (c .before .before .before .before .before .before .before .before .before .before .before .index-votes .ensures .0) _ _ (c .before .before .add-all .ensures)
 
-same-length-2 : tie.Need-same-length-2 Inv-loop μ-loop
-same-length-2 c = omega (arith, c .before .before .before .before .before .before .before .before .before .before .before .before .before .before .before .before .before .before .before .before .before .pre .3, c .before .before .before .before .before .before .before .before .loop .inv .1 .size)
-
-returns : tie.Need-returns Inv-loop μ-loop
-returns c = whole-stop _ _ _ _ _ _ (votes-long _ _ _ _ (c .before .before .before .before .before .before .before .before .before .before .before .before .before .before .before .before .before .before .before .before .before .pre .0 .sent)) (c .before .before .before .before .before .before .before .before .before .before .before .before .before .before .before .take-prefix .ensures .0) (lower-good _ _ _ _ (c .before .before .before .before .before .before .before .before .before .before .before .before .before .before .before .before .before .before .before .before .before .pre .0) _) _ _ _ (c .before .before .before .before .before .before .if1 .taken) (c .before .before .before .before .before .before .before .before .loop .inv .1) (c .before .before .before .add-from .result) (c .before .before .before .add-from .ensures) (c .if2 .taken)
-
-add-r : tie.Need-add-r Inv-loop μ-loop
-add-r c = omega arith
-
-loop-less : tie.Need-loop-less Inv-loop μ-loop
-loop-less c = omega arith
-
-loop-again : tie.Need-loop-again Inv-loop μ-loop
-loop-again c = (omega arith, whole-turn _ _ _ _ _ _ (votes-long _ _ _ _ (c .before .before .before .before .before .before .before .before .before .before .before .before .before .before .before .before .before .before .before .before .before .pre .0 .sent)) (c .before .before .before .before .before .before .before .before .before .before .before .before .before .before .before .take-prefix .ensures .0) (lower-good _ _ _ _ (c .before .before .before .before .before .before .before .before .before .before .before .before .before .before .before .before .before .before .before .before .before .pre .0) _) _ _ _ (c .before .before .before .before .before .before .if1 .taken) (c .before .before .before .before .before .before .before .before .loop .inv .1) (c .before .before .before .add-from .result) (c .before .before .before .add-from .ensures) (c .if2 .left))
-
-same-length-3 : tie.Need-same-length-3 Inv-loop μ-loop
-same-length-3 c = omega arith
-
-same-length-4 : tie.Need-same-length-4 Inv-loop μ-loop
-same-length-4 c = omega (arith, c .before .before .before .before .before .before .before .before .before .before .before .before .before .before .before .pre .3, c .before .before .loop .inv .1 .size)
-
-returns-2 : tie.Need-returns-2 Inv-loop μ-loop
-returns-2 c = whole-end _ _ _ _ _ _ (votes-long _ _ _ _ (c .before .before .before .before .before .before .before .before .before .before .before .before .before .before .before .pre .0 .sent)) (c .before .before .before .before .before .before .before .before .before .take-prefix .ensures .0) (lower-good _ _ _ _ (c .before .before .before .before .before .before .before .before .before .before .before .before .before .before .before .pre .0) _) _ _ (c .if1 .left) (c .before .before .loop .inv .1)
-
-pub rebuild-by-spec : {M : Type 1} → statement M
-rebuild-by-spec =
+pub rebuild-spec : {M : Type 1} → statement M
+rebuild-spec =
     tie.close
     (tie.spec
-    Inv-loop
-    μ-loop
-    take-prefix-requires
+    top-normal-requires
     index-votes-requires
-    loop-holds
-    add-from-requires
+    take-prefix-requires
+    add-all-requires
     same-length
     same-length-2
-    returns
-    add-r
-    loop-less
-    loop-again
-    same-length-3
-    same-length-4
-    returns-2)
+    returns)
