@@ -29,7 +29,7 @@ fn whole_in(len: usize, from: usize) -> usize
 }
 
 // The message that the bytes are, or where they stop being one.
-pub fn read(n: u64, s: u64, b: &[u8]) -> Message
+pub fn read(n: u64, s: u64, b: &[u8], slots: &mut [u16]) -> Message
     ensures { λ r. ⌜ r ≡ reading.decoded n s (now (b .entry)) ⌝ }
 {
     if !group::sizes_fit(n, s) {
@@ -44,7 +44,7 @@ pub fn read(n: u64, s: u64, b: &[u8]) -> Message
     let at = entries_at(s, h.kind) + 4;
     let whole = whole_in(b.len(), at);
     let seen = verdicts::smaller(entries, whole + 1);
-    let v = verdicts::message_wrong(n, s, p, numbers, b, Look { at, whole, seen });
+    let v = verdicts::message_wrong(n, s, p, numbers, b, Look { at, whole, seen }, slots);
     let end = length_for(s, h.kind, entries);
     decode::judged(b.len(), end, decode::case_with(h, numbers), v)
 }
@@ -57,7 +57,7 @@ fn known_wide(numbers: &[u64])
 }
 
 // Whether the case is that of its header, the blocks are whole, and the message is well formed.
-fn parts_formed(n: u64, s: u64, m: Message, views: &[u8], entries: &[u8]) -> bool
+fn parts_formed(n: u64, s: u64, m: Message, views: &[u8], entries: &[u8], slots: &mut [u16]) -> bool
     requires { ⌜ s ≤ 8 ⌝ }
     ensures { λ r. ⌜ r ≡ writing.partsFormed n s m (now (views .entry)) (now (entries .entry)) ⌝ }
 {
@@ -92,7 +92,7 @@ fn parts_formed(n: u64, s: u64, m: Message, views: &[u8], entries: &[u8]) -> boo
         seen: count,
     };
     known_wide(&room[0..most]);
-    let v = verdicts::message_wrong(n, s, p, &room[0..most], entries, look);
+    let v = verdicts::message_wrong(n, s, p, &room[0..most], entries, look, slots);
     match v {
         Verdict::Fine => true,
         Verdict::Wrong(_, _) => false,
@@ -109,13 +109,21 @@ fn size_of(m: Message, views: usize, entries: usize) -> usize
 }
 
 // Writes the message of these parts first into the buffer. All is tested, the room last, before a byte is written.
-pub fn write(n: u64, s: u64, m: Message, views: &[u8], entries: &[u8], out: &mut [u8]) -> Answer
+pub fn write(
+    n: u64,
+    s: u64,
+    m: Message,
+    views: &[u8],
+    entries: &[u8],
+    out: &mut [u8],
+    slots: &mut [u16],
+) -> Answer
     ensures { λ r. ⌜ writing.written r (now (out .exit)) ≡ writing.writes n s m (now (views .entry)) (now (entries .entry)) (now (out .entry)) ⌝ }
 {
     if !group::sizes_fit(n, s) {
         return Answer::Refused(refusal::WRONG_STATE);
     }
-    if !parts_formed(n, s, m, views, entries) {
+    if !parts_formed(n, s, m, views, entries, slots) {
         return Answer::Refused(refusal::MALFORMED);
     }
     if out.len() < size_of(m, views.len(), entries.len()) {
