@@ -1,9 +1,10 @@
 -- A state on the way: its tables and notes as they are lent from one section's start to the next one's, and what a change of them leaves. Assumes nothing.
 use Prim.Native.Nat.{ℕ, _-_}
-use mathlib.Core.Path.{_≡_}
+use mathlib.Core.Path.{_≡_, ap, _∙_}
 use mathlib.Core.List.{List, _++_}
 use native.Mathlib.Omega.{arith}
-use lib.ListN.{take, drop}
+use lib.ListN.{length, take, drop}
+use Rattle.octets.specs.Bytes.{num}
 use Rattle.rules.specs.State.{Note, State, withLogged, withWaiting}
 use Rattle.rules.specs.Image.{tableAt, stateOf, atDraft, atEarly, atLate, atLog, atNotes, atReplies, atVotes}
 use Rattle.rules.specs.declared.Entry.{Entry}
@@ -115,6 +116,9 @@ module _ {sh : Shape} {st : State} {b : List ℕ} (m : Midway sh st b) where
 
 pub table-is : {c : ℕ} {es : List Entry} {t : List ℕ} → Holds c es t → Table c t × (tableAt c t 0 ≡ es)
 table-is {c} {es} {t} h = (is-table c es t h, decoded c es t h)
+
+pub table-count : {c n : ℕ} {es : List Entry} {t : List ℕ} → Table c t → tableAt c t 0 ≡ es → n ≡ num t 0 4 → n ≡ length es
+table-count h e q = q ∙ h .count ∙ ap length e
 
 pub notes-are : {c s : ℕ} {xs : List Note} {t : List ℕ} → NotesHold c s xs t → Notes c s t × (notesAt c s t ≡ xs)
 notes-are {c} {s} {xs} {t} h = (noted.is-notes c s xs t h, noted.decoded c s xs t h)

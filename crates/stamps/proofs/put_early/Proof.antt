@@ -6,7 +6,7 @@ use mathlib.Core.List.{List}
 use lib.ListN.{set}
 use Rattle.rules.specs.declared.Entry.{Entry}
 use Rattle.entries.proofs.Table.{decoded, is-table, and-then}
-use Rattle.stamps.proofs.Midway.{early-here, early-comes}
+use Rattle.places.proofs.Midway.{early-here, early-comes}
 use borrow.Author.Needs.{needs}
 use Rattle.stamps.proofs.put_early.Statement.{statement}
 use Rattle.stamps.proofs.put_early.Tie as tie
