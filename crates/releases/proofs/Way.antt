@@ -64,7 +64,7 @@ module _ {sh : Shape} {b : List ℕ} (m : Releasing sh b) (at end : ℕ) where
   pub log-taken : {b′ x : List ℕ} (e : Entry) → at ≡ startOf sh atLog → end ≡ startOf sh atEarly → Holds (sh .c) (tableAt (sh .c) (take (end - at) (drop at b)) 0 ++ (e ∷ [])) x → b′ ≡ take at b ++ (x ++ drop (end - at) (drop at b)) → Reaches sh (logging (stateOf sh b) e) b′
   log-taken {x = x} e p q h w =
       let j = and-then (sh .c) _ _ (log-here (m .midway) at end p q) (λ es. es ++ (e ∷ [])) x h in
-      arrive (log-comes (m .midway) at end _ j p q w) (m .own) (m .early)
+      arrive (log-comes (m .midway) at end _ j p q w) (record { group = m .own .group; replica = m .own .replica }) (m .early)
 
   -- entries leave early
   pub early-left : {b′ x : List ℕ} (gone : List Entry) → at ≡ startOf sh atEarly → end ≡ startOf sh atLate → Holds (sh .c) (keep (chosen gone false 0) (tableAt (sh .c) (take (end - at) (drop at b)) 0)) x → b′ ≡ take at b ++ (x ++ drop (end - at) (drop at b)) → Reaches sh (earlyLeft (stateOf sh b) gone) b′
@@ -72,10 +72,10 @@ module _ {sh : Shape} {b : List ℕ} (m : Releasing sh b) (at end : ℕ) where
       let es = stateOf sh b .waiting .early in
       let j = and-then (sh .c) es _ (early-here (m .midway) at end p q) (keep (chosen gone false 0)) x h in
       let g : Holds (sh .c) (without gone es) x = subst (λ (ds : List Entry). Holds (sh .c) ds x) (without-is gone es) j in
-      arrive (early-comes (m .midway) at end _ g p q w) (m .own) (keep-distinct _ es (m .early))
+      arrive (early-comes (m .midway) at end _ g p q w) (record { group = m .own .group; replica = m .own .replica }) (keep-distinct _ es (m .early))
 
   -- notes leave
   pub notes-left : {b′ x : List ℕ} (gone : List Entry) → at ≡ startOf sh atNotes → end ≡ startOf sh atVotes → NotesHold (sh .c) (sh .s) (notesWithout gone (notesAt (sh .c) (sh .s) (take (end - at) (drop at b)))) x → b′ ≡ take at b ++ (x ++ drop (end - at) (drop at b)) → Reaches sh (notesLeft (stateOf sh b) gone) b′
   notes-left {x = x} gone p q h w =
       let j = noted.and-then (sh .c) (sh .s) _ _ (notes-here (m .midway) at end p q) (notesWithout gone) x h in
-      arrive (notes-come (m .midway) at end _ j p q w) (m .own) (m .early)
+      arrive (notes-come (m .midway) at end _ j p q w) (record { group = m .own .group; replica = m .own .replica }) (m .early)

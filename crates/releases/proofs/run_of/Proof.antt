@@ -14,10 +14,10 @@ use Rattle.releases.proofs.run_of.Statement.{statement}
 use Rattle.releases.proofs.run_of.Tie as tie
 
 abbrev Inv-loop : tie.InvT-loop
-Inv-loop early notes c s time due table filled last₀ i₀ last i = (i ≤ due) × Reached time (tableAt c early 0) i last × Passed (agreed (sized c s) (notesAt c s notes)) time (tableAt c early 0) i
+Inv-loop early notes c s time due slots last₀ i₀ last i = (i ≤ due) × Reached time (tableAt c early 0) i last × Passed (agreed (sized c s) (notesAt c s notes)) time (tableAt c early 0) i
 
 abbrev μ-loop : tie.MeasureT-loop
-μ-loop early notes c s time due table filled last₀ i₀ last i = due - i
+μ-loop early notes c s time due slots last₀ i₀ last i = due - i
 
 loop-holds : tie.Need-loop-holds Inv-loop μ-loop
 loop-holds c = (omega arith, reached-none _ _ _, first-start _)
