@@ -31,7 +31,7 @@ use Rattle.entries.specs.Table.{Holds, Table}
 use Rattle.entries.proofs.Table.{decoded, is-table}
 use Rattle.places.specs.Layout.{startOf, Stands}
 use Rattle.places.specs.With.{withReplies}
-use Rattle.places.proofs.Sections.{stands-fits, stands-laid}
+use Rattle.places.proofs.Sections.{stands-fits, stands-laid, stands-midway}
 use Rattle.places.proofs.Head.{view-of}
 use Rattle.places.proofs.Kept.{even-replies, put-reply, reply-at}
 use Rattle.handler.specs.Handler.{Ready, handled}
@@ -143,7 +143,7 @@ module _ (sh : Shape) (b msg out : List ℕ) (m : Message) (h : Header) (r : Rea
 
   module _ (f : Bool) (q : f ≡ isSome (replyAt (sh .c) b (startOf sh atReplies + replyLength (sh .c) * from))) where
     flag-is : (v : Bool) → f ≡ v → isSome (getD (st .change .replies) from none) ≡ v
-    flag-is v z = ap isSome (sym (reply-at (r .stands) from from-below)) ∙ sym q ∙ z
+    flag-is v z = ap isSome (sym (reply-at (stands-midway (r .stands)) from from-below)) ∙ sym q ∙ z
 
     pub replied : f ≡ true → leaves 7 b out ≡ handled 19 onVerifyReply sh m b msg out
     replied z = sym (by-rule (refused 7) (second sh st w from (w .entries) from-is refl (flag-is true z)) ∙ closes-refused sh b out 7)

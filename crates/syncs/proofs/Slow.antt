@@ -26,7 +26,7 @@ use Rattle.rules.proofs.Tests.{all-at}
 use Rattle.rules.proofs.Entries.{EntryFits, long-entry, exact-entry}
 use Rattle.entries.proofs.Copies.{read-fits}
 use Rattle.places.specs.Layout.{Sized}
-use Rattle.places.proofs.Sections.{stands-fits, stands-laid}
+use Rattle.places.proofs.Sections.{stands-fits, stands-laid, stands-midway}
 use Rattle.places.proofs.Head.{sync-of}
 use Rattle.places.proofs.Rows.{within}
 use Rattle.handler.specs.Sending.{messageBytes, headedIn}
@@ -153,5 +153,5 @@ module _ {sh : Shape} {b msg : List ℕ} {log : Listed} (g : Coming sh b msg log
 
   pub product : (sync k : ℕ) → sync ≡ num b 24 8 → k ≡ lengthFor (sh .s) 6 1 → (k * (log .count - sync) ≤ 360448) × (k * (log .count - sync) ≡ lengthFor (sh .s) 6 1 * (log .count - stateOf sh b .logged .sync))
   product sync k e f =
-      let z : sync ≡ stateOf sh b .logged .sync = e ∙ sync-of (g .stands) in
+      let z : sync ≡ stateOf sh b .logged .sync = e ∙ sync-of (stands-midway (g .stands)) in
       rw (f, z) (all-fit (sh .s) (log .count - stateOf sh b .logged .sync) (g .stands .fits .few) (omega (arith, g .room, g .stands .fits .small)), refl)

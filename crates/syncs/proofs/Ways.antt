@@ -23,6 +23,7 @@ use Rattle.rules.specs.declared.Header.{Header}
 use Rattle.rules.specs.declared.Shape.{Shape}
 use Rattle.rules.specs.declared.Message.{Message}
 use Rattle.rules.specs.declared.Message.the-variants.{ReplicaSync}
+use Rattle.places.proofs.Sections.{stands-midway}
 use Rattle.places.proofs.Head.{sync-of}
 use Rattle.handler.specs.Handler.{Ready, handled}
 use Rattle.handler.proofs.Told.{Told, told-length, told-entries, ready-told}
@@ -131,7 +132,7 @@ module _ (sh : Shape) (b msg out : List ℕ) (m : Message) (h : Header) (r : Rea
 
     module _ (sync : ℕ) (y : sync ≡ num b 24 8) where
       sync-is : sync ≡ stateOf sh b .logged .sync
-      sync-is = y ∙ sync-of (r .stands)
+      sync-is = y ∙ sync-of (stands-midway (r .stands))
 
       pub not-longer : count ≤ sync → leaves 7 b out ≡ handled 4 onReplicaSync sh m b msg out
       not-longer l = sym (closes-refused sh b out 7) ∙ by-rule (refused 7) (rule-old sh (stateOf sh b) _ (listedIn msg log) entries-are (omega (arith, count-long, sync-is)))

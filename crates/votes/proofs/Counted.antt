@@ -16,6 +16,7 @@ use Rattle.rules.specs.declared.Shape.{Shape}
 use Rattle.rules.proofs.Choice.{by-test, by-cases, pick-true, pick-false}
 use Rattle.rules.proofs.KeptLaws.{count-same, count-none}
 use Rattle.places.specs.Layout.{startOf}
+use Rattle.places.proofs.Sections.{stands-midway}
 use Rattle.places.proofs.Kept.{vote-at, votes-held}
 use Rattle.ballots.specs.Ballots.{Sent}
 use Rattle.ballots.specs.declared.Cast.{Cast}
@@ -67,7 +68,7 @@ module _ (sh : Shape) (b : List ℕ) (k : Cast) where
 
   module _ (g : Sent sh b k) where
     pub second-kept : (t : Bool) → t ≡ isSome (voteAt (sh .c) b (startOf sh atVotes + voteLength (sh .c) * k .sender)) → (not (k .entering) && t) ≡ isSecond sh b k
-    second-kept t e = ap (λ (x : Bool). not (k .entering) && x) (e ∙ ap isSome (vote-at (g .stands) (k .sender) (g .sender)))
+    second-kept t e = ap (λ (x : Bool). not (k .entering) && x) (e ∙ ap isSome (vote-at (stands-midway (g .stands)) (k .sender) (g .sender)))
 
     module _ (m : ℕ) (e : m ≡ count (λ r. isSome (voteAt (sh .c) b (startOf sh atVotes + voteLength (sh .c) * r))) (sh .n)) where
       pub count-small : m ≤ 7

@@ -30,7 +30,7 @@ use Rattle.rules.proofs.Choice.{by-cases, pick-true, pick-false, and-left, and-
 use Rattle.rules.proofs.Tests.{same-true}
 use Rattle.rules.proofs.KeptMessage.{view-wide, vote-parts}
 use Rattle.places.specs.Layout.{Laid}
-use Rattle.places.proofs.Sections.{stands-fits}
+use Rattle.places.proofs.Sections.{stands-fits, stands-midway}
 use Rattle.places.proofs.Head.{view-of}
 use Rattle.handler.specs.Handler.{Ready, handled}
 use Rattle.handler.proofs.Own.{replica-below}
@@ -156,7 +156,7 @@ module _ (sh : Shape) (b msg out : List ℕ) (m : Message) (h : Header) (normal 
   is-right = right sh st w (rw kind-is at (r .view)) (rw kind-is at (r .status)) (rw kind-is at (r .role))
 
   entering-is : newer st w ≡ k .entering
-  entering-is = rw (o ∙ view-of (r .stands), view-is)
+  entering-is = rw (o ∙ view-of (stands-midway (r .stands)), view-is)
 
   leads-is : true ≡ leadsWith sh st (viewsOf sh msg)
   leads-is = rw (← views-said sh b msg m r kind-known kind-views) (sym (is-right .leads))
