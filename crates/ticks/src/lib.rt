@@ -18,10 +18,9 @@ ghost use Rattle.rules.specs.Step.{sendOut, sendLeader, sendFollowers, unplaced
 ghost use Rattle.rules.specs.Early.{dueOf};
 ghost use Rattle.rules.specs.Bytes.{left, closes};
 ghost use Rattle.rules.specs.Entry.{entryOf};
-ghost use Rattle.places.specs.With.{withClock, withSync};
 ghost use Rattle.handler.specs.Handler.{Ready, handled};
 ghost use Rattle.releases.specs.Releasing.{Releasing};
-ghost use Rattle.ticks.specs.Released.{Released};
+ghost use Rattle.ticks.specs.Released.{settledAt, Released};
 
 // ---- what is sent
 
@@ -150,7 +149,7 @@ fn replies_length(s: u64, k: usize) -> usize
 // Puts the clock and the sync point.
 fn settle(shape: Shape, state: &mut [u8], time: u64, sync: u64)
     requires { ⌜ Releasing shape (now state) ⌝ }
-    ensures { λ _. ⌜ now (state .exit) ≡ image shape (withSync (withClock (stateOf shape (now (state .entry))) time) sync) ⌝ }
+    ensures { λ _. ⌜ now (state .exit) ≡ image shape (settledAt (stateOf shape (now (state .entry))) time sync) ⌝ }
 {
     places::put_clock(state, time);
     places::put_sync(state, sync);
