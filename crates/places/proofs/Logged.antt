@@ -24,7 +24,7 @@ module _ (sh : Shape) (b : List ℕ) (z : Sized sh b) where
   abbrev log : List Entry
   log = stateOf sh b .logged .log
 
-  log-long : length log ≡ min (num b (startOf sh atLog) 4) (sh .c)
+  pub log-long : length log ≡ min (num b (startOf sh atLog) 4) (sh .c)
   unfolding tableAt
   log-long = ap length (fields sh b (z .size) .log) ∙ length-items (entryAt b) 24 (startOf sh atLog + 4) (min (num b (startOf sh atLog) 4) (sh .c))
 
