@@ -1,7 +1,7 @@
 -- Why each test of a message at a state's bytes is that of the rules. Assumes nothing.
 use Prim.Native.Nat.{ℕ, suc, _+_, _*_, _%_, _≤_, _<_}
 use mathlib.Core.Path.{_≡_, refl, sym, ap, _∙_}
-use mathlib.Core.Bool.{Bool, true, false, _&&_, _||_, not}
+use mathlib.Core.Bool.{Bool, true, false, _&&_, _||_, not, and-true}
 use mathlib.Core.List.{List, [], _∷_}
 use native.Mathlib.Omega.{arith}
 use lib.ListN.{getD}
@@ -23,7 +23,7 @@ use Rattle.places.specs.Layout.{Stands}
 use Rattle.places.proofs.Sections.{stands-laid, stands-fits, drop-all}
 use Rattle.places.proofs.Head.{group-of, replica-of, status-of, view-of}
 use Rattle.handler.proofs.Own.{own-below}
-use Rattle.form.proofs.Same.{same-append, and-true}
+use Rattle.rules.proofs.Tests.{same-append}
 use Rattle.kinds.specs.Rows.{rowAs}
 use Rattle.kinds.specs.declared.Row.{Row}
 use Rattle.rules.specs.declared.Sender.the-variants.{Outsider, OwnLeader, OwnReplica, OtherLeader, AnyReplica}
