@@ -69,7 +69,7 @@ pub fn on_verify_reply(
         return Answer::Refused(refusal::FULL);
     }
     if places::held_replies(shape, state) + 1 < shape.s - 1 {
-        keeping::keep_reply(shape, state, from, message, at + 4, number);
+        views::keep_reply(shape, state, from, message, at + 4, number);
         return Answer::Done(0);
     }
     let reply = Reply {

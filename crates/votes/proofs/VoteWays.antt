@@ -29,7 +29,7 @@ use Rattle.rules.specs.declared.Message.the-variants as cases
 use Rattle.rules.proofs.Choice.{by-cases, pick-true, pick-false, and-left, and-right, or-cases, clash}
 use Rattle.rules.proofs.Tests.{same-true}
 use Rattle.rules.proofs.KeptMessage.{view-wide, vote-parts}
-use Rattle.places.specs.Layout.{Laid}
+use Rattle.places.proofs.Sections.{Laid}
 use Rattle.places.proofs.Sections.{stands-fits, stands-midway}
 use Rattle.places.proofs.Head.{view-of}
 use Rattle.handler.specs.Handler.{Ready, handled}
@@ -106,7 +106,7 @@ module _ (sh : Shape) (b msg out : List ℕ) (m : Message) (h : Header) (normal 
   w = wireIn (sh .s) msg
 
   abbrev k : Cast
-  k = record { sender = h .«from_replica»; normal = normal; sync = sync; at = at; entering = ltb old (h .view) }
+  k = record { view = h .view; sender = h .«from_replica»; normal = normal; sync = sync; at = at; entering = ltb old (h .view) }
 
   abbrev here : State
   here = cameTo sh b msg (h .view) (k .entering)
