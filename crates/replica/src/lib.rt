@@ -3,7 +3,6 @@ use rules::Answer;
 use rules::Header;
 use rules::Message;
 use rules::Shape;
-use rules::refusal;
 ghost use mathlib.Core.Path.{_≡_};
 ghost use mathlib.Core.List.{[]};
 ghost use Rattle.rules.specs.Choice.{pick};
@@ -21,15 +20,7 @@ ghost use Rattle.replica.specs.Face.{version, codeOf, Gives, Puts, given
 pub fn step(shape: Shape, state: &mut [u8], message: &[u8], out: &mut [u8]) -> Answer
     ensures { λ r. ⌜ left r (now (state .exit)) (now (out .exit)) ≡ stepBytes shape (now (state .entry)) (now (message .entry)) (now (out .entry)) ⌝ }
 {
-    if !good::good(shape, state) {
-        return Answer::Refused(refusal::WRONG_STATE);
-    }
-    let m = wire::read(shape.n, shape.s, message);
-    let number = admit::refusal(shape, state, m, message);
-    if number != 0 {
-        return Answer::Refused(number);
-    }
-    dispatch::handle(shape, state, m, message, out)
+    rooms::step(shape, state, message, out)
 }
 
 // ---- for hosts: the same under C names, every number one of 64 bits, a slice as a pointer and a length
@@ -103,7 +94,7 @@ pub extern "C" fn jallumere_step(
 pub extern "C" fn jallumere_good(n: u64, s: u64, c: u64, state: &[u8]) -> u64
     ensures { λ r. ⌜ r ≡ pick (goodBytes (record { n = n; s = s; c = c }) (now (state .entry))) 0 1 ⌝ }
 {
-    if good::good(Shape { n, s, c }, state) {
+    if rooms::good(Shape { n, s, c }, state) {
         return 0;
     }
     1
@@ -114,7 +105,7 @@ pub extern "C" fn jallumere_good(n: u64, s: u64, c: u64, state: &[u8]) -> u64
 pub extern "C" fn jallumere_read(n: u64, s: u64, message: &[u8]) -> u64
     ensures { λ r. ⌜ r ≡ answerOf (decoded n s (now (message .entry))) ⌝ }
 {
-    let m = wire::read(n, s, message);
+    let m = rooms::read(n, s, message);
     match m {
         Message::WrongSizes => 1,
         Message::Malformed(_) => 2,
@@ -240,5 +231,5 @@ pub extern "C" fn jallumere_write(
         return unfit(n, s);
     }
     let m = wire::decode::case_with(header, numbers);
-    code(wire::write(n, s, m, views, entries, out))
+    code(rooms::write(n, s, m, views, entries, out))
 }
