@@ -158,7 +158,8 @@ fn write_with(n: u64, s: u64, kind: u8, views: usize, entries: usize, out: &mut 
     let gvec = [3u8, 0, 0, 0, 2, 0, 0, 0];
     let block = two_entries(stamp_of(kind));
     let m = message_of(kind);
-    wire::write(n, s, m, &gvec[0..views], &block[0..entries], out)
+    let mut slots = [0u16; 80];
+    wire::write(n, s, m, &gvec[0..views], &block[0..entries], out, &mut slots)
 }
 
 // Writes the message of a kind, with the views and entries that its kind has.
@@ -175,7 +176,8 @@ pub fn read_first(bytes: &[u8], length: usize) -> Message {
     if bytes.len() < length {
         return Message::WrongSizes;
     }
-    wire::read(3, 2, &bytes[0..length])
+    let mut slots = [0u16; 80];
+    wire::read(3, 2, &bytes[0..length], &mut slots)
 }
 
 // Whether two headers are the same.
