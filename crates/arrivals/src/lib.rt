@@ -95,7 +95,7 @@ fn room_for_note(shape: Shape, state: &[u8], e: Entry) -> bool
 
 // ---- taking an entry
 
-// Puts e after the last early entry.
+// Puts e into early.
 fn add_early(shape: Shape, state: &mut [u8], e: Entry)
     requires { ⌜ Midway shape (stateOf shape (now state)) (now state) × (length (stateOf shape (now state) .waiting .early) < shape .c) ⌝ }
     ensures { λ _. ⌜ (let st = stateOf shape (now (state .entry)) in

@@ -159,7 +159,15 @@ fn write_with(n: u64, s: u64, kind: u8, views: usize, entries: usize, out: &mut 
     let block = two_entries(stamp_of(kind));
     let m = message_of(kind);
     let mut slots = [0u16; 80];
-    wire::write(n, s, m, &gvec[0..views], &block[0..entries], out, &mut slots)
+    wire::write(
+        n,
+        s,
+        m,
+        &gvec[0..views],
+        &block[0..entries],
+        out,
+        &mut slots,
+    )
 }
 
 // Writes the message of a kind, with the views and entries that its kind has.

@@ -29,7 +29,7 @@ use Rattle.notes.specs.declared.Point.the-variants.{Unheard, Heard}
 use Rattle.notes.proofs.Row.{ask-found, ask-none}
 use Rattle.places.specs.Layout.{startOf}
 use Rattle.good.specs.Known.{notedRight, entriesGood, earlyRight, notesRight, Lent}
-use Rattle.good.proofs.Fields.{fields}
+use Rattle.places.proofs.Fields.{fields}
 use Rattle.good.proofs.Tables.{and-false, truth}
 
 -- ---- what the notes say of an entry

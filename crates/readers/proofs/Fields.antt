@@ -21,7 +21,7 @@ use Rattle.rules.specs.declared.Shape.{Shape}
 use Rattle.rules.proofs.Tests.{and-l, and-r, and-both, pick-true, pick-false}
 use Rattle.places.specs.Layout.{startOf, Fits, Sized}
 use Rattle.places.proofs.Sections.{fits, state-small}
-use Rattle.good.proofs.Fields.{fields, view-of}
+use Rattle.places.proofs.Fields.{fields, view-of}
 use Rattle.readers.specs.Said.{nothing, fieldOf, entryFieldOf, isSized, fieldIn, groupViewIn, entryIn}
 
 -- a field that was asked for by its number

@@ -12,6 +12,7 @@ ghost use Rattle.rules.specs.Bytes.{left, stepBytes};
 
 // The longest message whose log the 512 slots serve, and the longest that the 4,096 serve: two slots for an entry, and a path's length.
 const SHORT_MESSAGE: usize = 4096;
+
 const MIDDLE_MESSAGE: usize = 48000;
 
 // ---- the check of a state

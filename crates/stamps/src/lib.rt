@@ -77,7 +77,7 @@ fn put_early(shape: Shape, state: &mut [u8], i: usize, d: Entry)
     let layout = places::places_of(shape);
     let start = layout.early;
     let end = layout.late;
-    entries::replace_at(&mut state[start..end], shape.c as usize, i, d);
+    early::lift(&mut state[start..end], shape.c as usize, i, d);
 }
 
 // The early entry of e's transaction, once notes from every group of its mask are held, gets their greatest as its timestamp.

@@ -5,7 +5,7 @@ use borrow.Author.Tests.{ne-eqb}
 use Rattle.rules.specs.Choice.{pick}
 use Prim.Native.Nat.{ℕ}
 use Rattle.rules.specs.Image.{stateOf}
-use Rattle.good.proofs.Fields.{Fields, fields}
+use Rattle.places.proofs.Fields.{Fields, fields}
 use Rattle.readers.specs.Said.{fieldOf}
 use Rattle.readers.proofs.Fields.{asked}
 use borrow.Author.Needs.{needs}
