@@ -21,7 +21,7 @@ use Rattle.rules.specs.declared.Shape.{Shape}
 use Rattle.rules.proofs.Choice.{by-cases, pick-true, pick-false}
 use Rattle.entries.specs.Table.{Table}
 use Rattle.places.specs.Layout.{startOf, Stands}
-use Rattle.places.proofs.Sections.{Laid, stands-fits, stands-laid}
+use Rattle.places.proofs.Sections.{Laid, laid-as, stands-fits, stands-laid, stands-midway}
 use Rattle.places.proofs.Head.{put-boundary, put-status}
 use Rattle.places.proofs.Tables.{put-draft}
 use Rattle.places.proofs.Rows.{Even, even-set}
@@ -29,7 +29,6 @@ use Rattle.places.proofs.Kept.{vote-long, put-vote, even-votes}
 use Rattle.handler.proofs.Own.{replica-below}
 use Rattle.handler.proofs.Sends.{Sender, sender}
 use Rattle.views.specs.Views.{viewsOf}
-use Rattle.views.proofs.Taken.{laid-as}
 use Rattle.changes.specs.Changes.{enteredBy}
 use Rattle.changes.proofs.Entered.{entered-laid, entered-sender}
 use Rattle.changes.proofs.Started.{table-row}
@@ -102,7 +101,7 @@ module _ (sh : Shape) (b msg : List ℕ) (view : ℕ) (k : Cast) (g : Brought sh
     comes-same e =
         record {
           votes = sym (rw e (ballots-kept sh st (k .sender) (said msg k)));
-          even = even-votes stands;
+          even = even-votes (stands-midway stands);
           laid = λ b′ i. laid-as (stands-laid stands) i;
           sends = sender (stands-fits stands);
           status = g .status e;

@@ -14,7 +14,8 @@ use Rattle.rules.specs.State.{Vote, held}
 use Rattle.rules.specs.Image.{voteLength, voteAt, stateOf, atVotes}
 use Rattle.rules.specs.declared.Shape.{Shape}
 use Rattle.rules.proofs.Choice.{by-test, by-cases, pick-true, pick-false}
-use Rattle.rules.proofs.KeptLaws.{count-same, count-none}
+use Rattle.rules.proofs.Choice.{count-none}
+use Rattle.rules.proofs.KeptLaws.{count-same}
 use Rattle.places.specs.Layout.{startOf}
 use Rattle.places.proofs.Sections.{stands-midway}
 use Rattle.places.proofs.Kept.{vote-at, votes-held}
@@ -75,4 +76,4 @@ module _ (sh : Shape) (b : List ℕ) (k : Cast) where
       count-small = omega (arith, count-most (λ r. isSome (voteAt (sh .c) b (startOf sh atVotes + voteLength (sh .c) * r))) (sh .n), g .stands .fits .most)
 
       pub count-kept : k .entering ≡ false → m + 1 ≡ countWith sh b k
-      count-kept f = ap (λ (x : ℕ). x + 1) (e ∙ votes-held (g .stands)) ∙ sym (pick-false (k .entering) 2 (held (stateOf sh b .change .votes) + 1) f)
+      count-kept f = ap (λ (x : ℕ). x + 1) (e ∙ votes-held (stands-midway (g .stands))) ∙ sym (pick-false (k .entering) 2 (held (stateOf sh b .change .votes) + 1) f)

@@ -199,6 +199,7 @@ module _ (sh : Shape) (b msg out : List ℕ) (m : Message) (h : Header) (normal 
       record {
         given = record { sent = vote-sender; long = omega (arith, whole); room = l; good = good; within = omega (arith, p .1, entries-long) };
         normal = omega (arith, p .0);
+        wide = omega (arith, view-is, wide);
         views = views-stand sh b msg m r kind-known kind-views;
         status = λ f. is-right .status (entering-is ∙ f);
         sameView = λ f. sym view-is ∙ is-right .view (entering-is ∙ f);

@@ -24,6 +24,7 @@ use Rattle.ballots.specs.declared.Cast.{Cast}
 pub record Brought (sh : Shape) (b msg : List ℕ) (view : ℕ) (k : Cast) : Type 0 where
   pub given : Given sh b msg k
   pub normal : k .normal < 2 ^ 32
+  pub wide : view < 256 ^ 4
   pub views : 16 + 4 * sh .s ≤ length msg
   pub status : k .entering ≡ false → stateOf sh b .view .status ≡ 2
   pub sameView : k .entering ≡ false → view ≡ stateOf sh b .view .gView

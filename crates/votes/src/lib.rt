@@ -1,5 +1,6 @@
 // The handler of votes (kind 8): each is kept, and with F+1 of them the log is rebuilt.
 use ballots::Cast;
+use handler::Asking;
 use rebuild::Rebuilt;
 use rules::Answer;
 use rules::GroupSize;
@@ -106,15 +107,11 @@ fn tell_all(shape: Shape, state: &[u8], out: &mut [u8], boundary: u64, mask: u16
         (r ≡ length (flat (leaderBytes shape b 18 boundary []) (othersIn shape b mask)))
         × (now (out .exit) ≡ splice (now (out .entry)) 0 (flat (leaderBytes shape b 18 boundary []) (othersIn shape b mask)))) ⌝ }
 {
-    handler::tell_leaders(
-        shape,
-        state,
-        out,
-        kind::VERIFY_REQUEST,
-        boundary,
-        mask,
-        &state[0..0],
-    )
+    let asking = Asking {
+        kind: kind::VERIFY_REQUEST,
+        number: boundary,
+    };
+    handler::tell_leaders(shape, state, out, asking, mask, &state[0..0])
 }
 
 // The rebuilt log becomes the draft, and the leaders of all other groups are asked for what they have past its boundary.
