@@ -13,8 +13,8 @@ use Rattle.rules.specs.Choice.{pick, count, isSome}
 use Rattle.rules.specs.State.{Vote, held}
 use Rattle.rules.specs.Image.{voteLength, voteAt, stateOf, atVotes}
 use Rattle.rules.specs.declared.Shape.{Shape}
-use Rattle.rules.proofs.Choice.{by-test, by-cases, pick-true, pick-false}
-use Rattle.rules.proofs.KeptLaws.{count-same, count-none}
+use Rattle.rules.proofs.Choice.{by-test, by-cases, count-none, pick-true, pick-false}
+use Rattle.rules.proofs.KeptLaws.{count-same}
 use Rattle.places.specs.Layout.{startOf}
 use Rattle.places.proofs.Kept.{vote-at, votes-held}
 use Rattle.ballots.specs.Ballots.{Sent}
