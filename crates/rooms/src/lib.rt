@@ -5,17 +5,25 @@ use rules::Message;
 use rules::Shape;
 use rules::refusal;
 ghost use mathlib.Core.Path.{_≡_};
+ghost use mathlib.Core.Bool.{false};
 ghost use Rattle.rules.specs.Read.{decoded};
 ghost use Rattle.rules.specs.Write.{written, writes};
 ghost use Rattle.rules.specs.Image.{goodBytes};
 ghost use Rattle.rules.specs.Bytes.{left, stepBytes};
 
-// The longest message whose log the 512 slots serve, and the longest that the 4,096 serve: two slots for an entry, and a path's length.
+// The longest message whose log the 512 slots serve, and the longest that the 2,400 serve: two slots for an entry, and a path's length.
 const SHORT_MESSAGE: usize = 4096;
 
-const MIDDLE_MESSAGE: usize = 48000;
+const MIDDLE_MESSAGE: usize = 28000;
 
 // ---- the check of a state
+
+// Whether the bytes are as long as a state of these sizes: what is not is refused before any room is taken.
+fn has_length(shape: Shape, state: &[u8]) -> bool
+    ensures { λ r. ⌜ (r ≡ false → false ≡ goodBytes shape (now (state .entry))) ⌝ }
+{
+    state.len() as u64 == fresh::state_length(shape.n, shape.s, shape.c)
+}
 
 // With room for a capacity of 16: 48 rows at most.
 fn good_few(shape: Shape, state: &[u8]) -> bool
@@ -29,7 +37,7 @@ fn good_few(shape: Shape, state: &[u8]) -> bool
 fn good_more(shape: Shape, state: &[u8]) -> bool
     ensures { λ r. ⌜ r ≡ goodBytes shape (now (state .entry)) ⌝ }
 {
-    let mut slots = [0u16; 4096];
+    let mut slots = [0u16; 2400];
     good::good(shape, state, &mut slots)
 }
 
@@ -45,6 +53,9 @@ fn good_many(shape: Shape, state: &[u8]) -> bool
 pub fn good(shape: Shape, state: &[u8]) -> bool
     ensures { λ r. ⌜ r ≡ goodBytes shape (now (state .entry)) ⌝ }
 {
+    if !has_length(shape, state) {
+        return false;
+    }
     if shape.c <= 16 {
         return good_few(shape, state);
     }
@@ -64,11 +75,11 @@ fn read_few(n: u64, s: u64, message: &[u8]) -> Message
     wire::read(n, s, message, &mut slots)
 }
 
-// With room for one of two thousand entries.
+// With room for one of a thousand entries.
 fn read_more(n: u64, s: u64, message: &[u8]) -> Message
     ensures { λ r. ⌜ r ≡ decoded n s (now (message .entry)) ⌝ }
 {
-    let mut slots = [0u16; 4096];
+    let mut slots = [0u16; 2400];
     wire::read(n, s, message, &mut slots)
 }
 
@@ -103,11 +114,11 @@ fn write_few(n: u64, s: u64, m: Message, views: &[u8], entries: &[u8], out: &mut
     wire::write(n, s, m, views, entries, out, &mut slots)
 }
 
-// With room for two thousand.
+// With room for a thousand.
 fn write_more(n: u64, s: u64, m: Message, views: &[u8], entries: &[u8], out: &mut [u8]) -> Answer
     ensures { λ r. ⌜ written r (now (out .exit)) ≡ writes n s m (now (views .entry)) (now (entries .entry)) (now (out .entry)) ⌝ }
 {
-    let mut slots = [0u16; 4096];
+    let mut slots = [0u16; 2400];
     wire::write(n, s, m, views, entries, out, &mut slots)
 }
 
@@ -163,11 +174,11 @@ fn step_few(shape: Shape, state: &mut [u8], message: &[u8], out: &mut [u8]) -> A
     step_in(shape, state, message, out, &mut slots)
 }
 
-// With room for a capacity of 256, four logs of it for a rebuild, and a message of two thousand entries.
+// With room for a capacity of 256, four logs of it for a rebuild, and a message of a thousand entries.
 fn step_more(shape: Shape, state: &mut [u8], message: &[u8], out: &mut [u8]) -> Answer
     ensures { λ r. ⌜ left r (now (state .exit)) (now (out .exit)) ≡ stepBytes shape (now (state .entry)) (now (message .entry)) (now (out .entry)) ⌝ }
 {
-    let mut slots = [0u16; 4096];
+    let mut slots = [0u16; 2400];
     step_in(shape, state, message, out, &mut slots)
 }
 
@@ -183,6 +194,9 @@ fn step_many(shape: Shape, state: &mut [u8], message: &[u8], out: &mut [u8]) -> 
 pub fn step(shape: Shape, state: &mut [u8], message: &[u8], out: &mut [u8]) -> Answer
     ensures { λ r. ⌜ left r (now (state .exit)) (now (out .exit)) ≡ stepBytes shape (now (state .entry)) (now (message .entry)) (now (out .entry)) ⌝ }
 {
+    if !has_length(shape, state) {
+        return Answer::Refused(refusal::WRONG_STATE);
+    }
     if (shape.c <= 16) & (message.len() <= SHORT_MESSAGE) {
         return step_few(shape, state, message, out);
     }
