@@ -104,7 +104,7 @@ fn add_early(shape: Shape, state: &mut [u8], e: Entry)
     let layout = places::places_of(shape);
     let start = layout.early;
     let end = layout.late;
-    entries::append(&mut state[start..end], shape.c as usize, e);
+    early::put(&mut state[start..end], shape.c as usize, e);
 }
 
 // Puts e after the last late entry.
