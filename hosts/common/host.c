@@ -69,37 +69,27 @@ static uint64_t number_in(const option *asked, const char *text)
     return value;
 }
 
-/* Takes one option with what stands behind it; gives how many words that were. */
-static int take_option(const option *asked, const char *next)
-{
-    if (asked->flag != NULL) {
-        *asked->flag = true;
-        return 1;
-    }
-    if (next == NULL)
-        stop("%s takes a %s behind it; ./jallumere %s --help lists the options", asked->name,
-             asked->number != NULL ? "number" : "word", program_name);
-    if (asked->number != NULL)
-        *asked->number = number_in(asked, next);
-    else
-        *asked->word = next;
-    return 2;
-}
-
 void read_words(int count, char **words, const option *options, const char **bare)
 {
-    for (int i = 1; i < count;) {
+    for (int i = 1; i < count; i++) {
         const option *asked = options;
         while (asked->name != NULL && strcmp(asked->name, words[i]) != 0)
             asked++;
-        if (asked->name != NULL)
-            i += take_option(asked, i + 1 < count ? words[i + 1] : NULL);
-        else if (bare == NULL || (words[i][0] == '-' && words[i][1] != 0))
+        if (asked->name == NULL && (bare == NULL || (words[i][0] == '-' && words[i][1] != 0)))
             stop("unknown option '%s'; ./jallumere %s --help lists the options", words[i], program_name);
-        else if (*bare != NULL)
+        else if (asked->name == NULL && *bare != NULL)
             stop("one at a time: '%s' and '%s' are two", *bare, words[i]);
+        else if (asked->name == NULL)
+            *bare = words[i];
+        else if (asked->flag != NULL)
+            *asked->flag = true;
+        else if (words[++i] == NULL) /* as it is behind the last word */
+            stop("%s takes a %s behind it; ./jallumere %s --help lists the options", asked->name,
+                 asked->number != NULL ? "number" : "word", program_name);
+        else if (asked->number != NULL)
+            *asked->number = number_in(asked, words[i]);
         else
-            *bare = words[i++];
+            *asked->word = words[i];
     }
 }
 
@@ -151,7 +141,7 @@ void show_progress(uint64_t done, uint64_t wanted, const char *what)
     if (time - last < (last == 0 ? 2 : terminal ? 0.5 : 5))
         return;
     last = time;
-    fprintf(stderr, "%s%s: %" PRIu64 " of %" PRIu64 " %s, %.0f s%s", terminal ? "\r" : "", program_name, done,
-            wanted, what, time, terminal ? " " : "\n");
+    fprintf(stderr, "%s%s: %" PRIu64 " of %" PRIu64 " %s, %.0f s%s", terminal ? "\r" : "", program_name, done, wanted,
+            what, time, terminal ? " " : "\n");
     fflush(stderr);
 }
