@@ -63,15 +63,9 @@ static inline void store(uint8_t *bytes, uint64_t value, unsigned width)
 }
 
 /* Sets of groups, replicas or statuses: the set of one, and whether it is in a set. */
-static inline uint64_t bit(uint64_t number)
-{
-    return UINT64_C(1) << number;
-}
+static inline uint64_t bit(uint64_t number) { return UINT64_C(1) << number; }
 
-static inline bool holds(uint64_t set, uint64_t number)
-{
-    return set >> number & 1;
-}
+static inline bool holds(uint64_t set, uint64_t number) { return set >> number & 1; }
 
 /* A slice of length 0 may have a null pointer, which memcpy does not take. */
 static inline void copy(uint8_t *to, const uint8_t *from, size_t length)
@@ -120,10 +114,7 @@ static inline layout lay_out(uint64_t n, uint64_t s, uint64_t c)
 
 /* Offsets in a state of the items of a section; a vote's and a reply's table stand behind their heads. */
 #define PLACE(name, first, width)                                                                                      \
-    static inline size_t name(const layout *at, uint64_t number)                                                       \
-    {                                                                                                                  \
-        return (first) + (width) * (size_t)number;                                                                     \
-    }
+    static inline size_t name(const layout *at, uint64_t number) { return (first) + (width) * (size_t)number; }
 PLACE(heard_place, at->heard, MARKED_LENGTH)
 PLACE(note_place, at->notes + 4, at->note)
 PLACE(vote_place, at->votes, at->vote)
@@ -132,15 +123,9 @@ PLACE(reply_place, at->replies, at->reply)
 PLACE(reply_table, at->replies + 1, at->reply)
 
 /* Offsets in a table, which has a count before its entries, and in a note. */
-static inline size_t entry_place(uint64_t position)
-{
-    return 4 + ENTRY_LENGTH * (size_t)position;
-}
+static inline size_t entry_place(uint64_t position) { return 4 + ENTRY_LENGTH * (size_t)position; }
 
-static inline size_t note_group(uint64_t group)
-{
-    return TRANSACTION_LENGTH + MARKED_LENGTH * (size_t)group;
-}
+static inline size_t note_group(uint64_t group) { return TRANSACTION_LENGTH + MARKED_LENGTH * (size_t)group; }
 
 /* ---- readers and writers ------------------------------------------------------------------------------ */
 
@@ -212,10 +197,7 @@ static inline bool state_leads(const layout *at, const uint8_t *state)
     return state[AT_GROUP] < at->s && leader_of(state + at->views, state[AT_GROUP], at->n) == state[AT_REPLICA];
 }
 
-static inline uint64_t majority_of(uint64_t n)
-{
-    return (n - 1) / 2 + 1;
-}
+static inline uint64_t majority_of(uint64_t n) { return (n - 1) / 2 + 1; }
 
 /* In words, for people: the section with the field, or with the entry, note, vote or reply that a state's byte
  * belongs to, and what that says. */

@@ -43,15 +43,9 @@ static const form forms[KINDS] = {
     [JALLUMERE_TICK] = {"tick", false, INBOUND, 1, NO_ENTRY, NOBODY, 0, IN_1},
 };
 
-static inline bool is_kind(uint64_t kind)
-{
-    return kind < KINDS && forms[kind].name != NULL;
-}
+static inline bool is_kind(uint64_t kind) { return kind < KINDS && forms[kind].name != NULL; }
 
-static inline const char *kind_name(uint64_t kind)
-{
-    return is_kind(kind) ? forms[kind].name : "unknown kind";
-}
+static inline const char *kind_name(uint64_t kind) { return is_kind(kind) ? forms[kind].name : "unknown kind"; }
 
 static inline const char *answer_name(uint64_t answer)
 {

@@ -7,9 +7,6 @@
 #include "../common/messages.h"
 #include "../model/model.h"
 
-#include <stdio.h>
-#include <stdlib.h>
-
 enum { SIDES = 2, GUARD_LENGTH = 64, SHOWN_ROWS = 24, LETTER_ROOM = 1 << 18 };
 
 static const char *const side_names[SIDES] = {"core", "model"};
@@ -48,43 +45,35 @@ enum origin { FROM_RUN, FROM_EDIT, BUILT, DAMAGED_MESSAGE, DAMAGED_STATE, WRONG_
 
 #define BY_ANSWER "        0        1        2        3        4        5        6        7        8        9"
 #define BY_SPAN "            C = 16                 17          18 to 255                256              4,096"
-#define BY_ORIGIN                                                                                                      \
-    {                                                                                                                  \
-        "run", "odd run", "built", "damaged message", "damaged state", "wrong sizes", "recorded"                       \
-    }
+static const char *const origins[] = {"run",           "odd run",     "built",    "damaged message",
+                                      "damaged state", "wrong sizes", "recorded", NULL};
+static const char *const full_tables[] = {"log", "early", "late", "notes", "draft", "a vote", "a reply", NULL};
+static const char *const after[] = {"done, by status after", NULL};
 
 enum table { STEPS, SPANS, FULL, SOURCES, PLACED, ENTERED, STATES, MESSAGES, TABLES };
 enum { COLUMNS = 10 };
 
-/* Of each table its head, what its rows are, kinds where nothing is said, its columns, and whether they are pairs. */
+/* Of each table its head, what its rows are (NULL: kinds), how many columns there are, and whether they are pairs. */
 static const struct {
-    const char *head, *rows[ORIGINS];
+    const char *head, *const *rows;
     unsigned columns;
     bool pairs;
 } tables[TABLES] = {
-    [STEPS] = {"\nsteps                 " BY_ANSWER "\n", {NULL}, 10, false},
-    [SPANS] = {"\ndone + refused (2-9)  " BY_SPAN "\n", {NULL}, 10, true},
-    [FULL] = {"\nfull + one place left " BY_SPAN "\n", /* from a good state */
-              {"log", "early", "late", "notes", "draft", "a vote", "a reply"},
-              10,
-              true},
-    [SOURCES] = {"\nsteps from            " BY_ANSWER "\n", BY_ORIGIN, 10, false},
-    [PLACED] = {"\ndone, by status before 1 follow   1 lead 2 follow   2 lead   3 lead\n", {NULL}, 5, false},
-    [ENTERED] = {"", {"done, by status after"}, 3, false},
-    [STATES] = {"\nstates                     good not good\n", BY_ORIGIN, 2, false},
-    [MESSAGES] = {"\nmessages                 read 0        1        2  write 0        1        2        9\n",
-                  {NULL},
-                  7,
-                  false},
+    [STEPS] = {"\nsteps                 " BY_ANSWER "\n", NULL, 10, false},
+    [SPANS] = {"\ndone + refused (2-9)  " BY_SPAN "\n", NULL, 10, true},
+    [FULL] = {"\nfull + one place left " BY_SPAN "\n", full_tables, 10, true}, /* steps from a good state */
+    [SOURCES] = {"\nsteps from            " BY_ANSWER "\n", origins, 10, false},
+    [PLACED] = {"\ndone, by status before 1 follow   1 lead 2 follow   2 lead   3 lead\n", NULL, 5, false},
+    [ENTERED] = {"", after, 3, false},
+    [STATES] = {"\nstates                     good not good\n", origins, 2, false},
+    [MESSAGES] = {"\nmessages                 read 0        1        2  write 0        1        2        9\n", NULL, 7,
+                  0},
 };
 
 /* What is no kind at all is counted as kind 0. */
 static uint64_t counts[TABLES][KINDS][COLUMNS], lost_goodness[KINDS], starts[2], digests, exact, readings;
 
-static unsigned kind_row(letter told)
-{
-    return told.length != 0 && is_kind(told.bytes[0]) ? told.bytes[0] : 0;
-}
+static unsigned kind_row(letter told) { return told.length != 0 && is_kind(told.bytes[0]) ? told.bytes[0] : 0; }
 
 static unsigned span_of_capacity(void)
 {
@@ -123,21 +112,22 @@ static void count_step(const uint8_t *state, unsigned kind, unsigned number, enu
     lost_goodness[kind] += model_good(SIZES(&at), state_of[1], at.length) != JALLUMERE_DONE;
 }
 
-/* A line of counts, in pairs where there are two to a column; of kinds the last is what is none. */
-static void show_counts(enum table table, unsigned line)
+/* Counts stand in pairs where there are two to a column; of kinds the last line is what is none. */
+static void show_table(enum table table)
 {
-    const bool named = tables[table].rows[0] != NULL;
-    const unsigned row = named ? line : (line + 1) % KINDS;
-    char kind[48] = "no kind";
-    const char *name = !named ? kind : row < ORIGINS ? tables[table].rows[row] : NULL;
-    if (name == NULL || (!named && row != 0 && !is_kind(row)))
-        return;
-    if (row != 0)
+    const char *const *names = tables[table].rows;
+    char kind[48];
+    printf("%s", tables[table].head);
+    for (unsigned i = 0; names == NULL ? i < KINDS : names[i] != NULL; i++) {
+        unsigned row = names == NULL ? (i + 1) % KINDS : i;
+        if (names == NULL && row != 0 && !is_kind(row))
+            continue;
         snprintf(kind, sizeof kind, "%u %s", row, kind_name(row));
-    printf("%-22s", name);
-    for (unsigned i = 0; i < tables[table].columns; i++)
-        printf(tables[table].pairs && i % 2 == 1 ? " +%8" PRIu64 : "%9" PRIu64, counts[table][row][i]);
-    printf("\n");
+        printf("%-22s", names != NULL ? names[i] : row != 0 ? kind : "no kind");
+        for (unsigned column = 0; column < tables[table].columns; column++)
+            printf(tables[table].pairs && column % 2 == 1 ? " +%8" PRIu64 : "%9" PRIu64, counts[table][row][column]);
+        printf("\n");
+    }
 }
 
 /* Of the kinds that a site takes, the one with the fewest done steps at a capacity. */
@@ -152,10 +142,8 @@ static uint64_t least_done(unsigned span)
 
 static void show_tables(void)
 {
-    for (unsigned i = 0; i < TABLES * KINDS; i++) {
-        printf("%s", i % KINDS == 0 ? tables[i / KINDS].head : "");
-        show_counts(i / KINDS, i % KINDS);
-    }
+    for (unsigned i = 0; i < TABLES; i++)
+        show_table(i);
     printf("\nstarts: %" PRIu64 " done, %" PRIu64 " refused; digests: %" PRIu64 "; states read by field: %" PRIu64
            "; steps with an exact buffer: %" PRIu64 "\n",
            starts[0], starts[1], digests, readings, exact);
@@ -218,10 +206,7 @@ static uint64_t agree(const char *call, uint64_t core, uint64_t model, const uin
 #define AGREE(call, bytes, length, ...)                                                                                \
     agree(#call, jallumere_##call(__VA_ARGS__), model_##call(__VA_ARGS__), bytes, length)
 
-static void try_state_length(void)
-{
-    AGREE(state_length, NULL, 0, SIZES(&at));
-}
+static void try_state_length(void) { AGREE(state_length, NULL, 0, SIZES(&at)); }
 
 /* Every field, group and field of an entry, and numbers next to these; of entries a few positions. */
 static void try_state_readers(const uint8_t *state)

@@ -54,13 +54,9 @@ static void try_writing(letter told)
 static void try_wrong_sizes(const uint8_t *state, letter told)
 {
     const layout right = at;
-    const uint64_t capacities[] = {at.c + 1, 15, edge()}, which = below(4);
-    if (which == 0)
-        at.n = chance(50) ? below(10) : edge();
-    else if (which == 1)
-        at.s = chance(50) ? below(11) : edge();
-    else if (which == 2)
-        at.c = capacities[below(3)];
+    uint64_t *const sizes[] = {&at.n, &at.s, &at.c}, which = below(4);
+    if (which < 3)
+        *sizes[which] = chance(50) ? below(11) : chance(30) ? *sizes[which] + 1 : edge();
     else
         at.length = chance(50) ? at.length - 1 : below(at.length);
     try_state_length();
@@ -74,14 +70,6 @@ static void try_wrong_sizes(const uint8_t *state, letter told)
     }
     at = right;
     try_start(below(at.s + 2), chance(80) ? below(at.n + 1) : edge());
-}
-
-/* A step that is done once more: with a buffer that is just long enough, one byte short, and anything between. */
-static void try_rooms(const uint8_t *state, letter told, size_t sent, enum origin from)
-{
-    const size_t rooms[] = {sent, sent - 1, chance(50) ? 0 : below(sent)};
-    for (unsigned i = 0; i < (sent == 0 ? 1 : 3); i++)
-        try_step(state, told, rooms[i], from);
 }
 
 static void try_damage(const uint8_t *state, letter told)
@@ -103,8 +91,10 @@ static void try_damage(const uint8_t *state, letter told)
     }
 }
 
-/* A message is taken, and all that is tried with it besides; gives the answer, and leaves what the sides were left with
- * by taking it. */
+/*
+ * A message is taken, and all that is tried with it besides: where it is done, once more with a buffer that is just
+ * long enough, one byte short, and anything between. Gives the answer, and leaves what the sides were left with by it.
+ */
 static uint64_t try_all(const uint8_t *state, letter told, enum origin from)
 {
     if (chance(25))
@@ -117,18 +107,20 @@ static uint64_t try_all(const uint8_t *state, letter told, enum origin from)
         try_digest(told.bytes, below(told.length + 1));
     }
     uint64_t answer = try_step(state, told, ample_room(&at), from);
-    if (JALLUMERE_NUMBER(answer) != JALLUMERE_DONE || !chance(26))
-        return answer;
-    try_rooms(state, told, JALLUMERE_LENGTH(answer), from);
-    return try_step(state, told, ample_room(&at), from);
+    const size_t sent = JALLUMERE_LENGTH(answer),
+                 rooms[] = {sent, sent - 1, chance(50) ? 0 : below(sent), ample_room(&at)};
+    if (JALLUMERE_NUMBER(answer) == JALLUMERE_DONE && chance(26))
+        for (unsigned i = 0; i < 4; i++)
+            if (sent != 0 || i % 3 == 0)
+                try_step(state, told, rooms[i], from);
+    return answer;
 }
 
 /* Edits a state and keeps the edit if the state is good after it. */
 static bool make_odd(uint8_t *state)
 {
     memcpy(spare_state, state, at.length);
-    for (uint64_t i = 1 + below(3); i > 0; i--)
-        edit_state(spare_state);
+    damage_state(spare_state);
     bool good = try_good(spare_state, FROM_EDIT);
     if (good)
         memcpy(state, spare_state, at.length);
@@ -225,13 +217,12 @@ static void deliver_some(void)
     if (net.waiting == 0)
         return;
     size_t place = (size_t)below(net.waiting);
-    letter told = copy_of(net.pool[place].told.bytes, net.pool[place].told.length);
+    letter told = net.pool[place].told;
     uint64_t to = net.pool[place].to;
-    if (!chance(net.repeat)) {
-        letter gone = net.pool[place].told;
-        net.pool[place] = net.pool[--net.waiting];
-        net.pool[net.waiting].told = gone; /* its memory goes with the next that comes there */
-    }
+    net.pool[place] = net.pool[--net.waiting];
+    net.pool[net.waiting].told.bytes = NULL;
+    if (chance(net.repeat))
+        post(told, to);
     if (!chance(net.loss))
         deliver(told, to);
     free(told.bytes);
@@ -249,6 +240,7 @@ static void run_groups(uint64_t turns)
     net.repeat = below(30);
     net.odd = chance(50) ? 0 : 1 + below(12);
     net.from = FROM_RUN;
+    make_past(below(at.s)); /* for edits */
     for (uint64_t i = 0; i < replicas; i++) {
         try_start(i / at.n, i % at.n);
         memcpy(net.states + at.length * i, state_of[1], at.length);

@@ -7,12 +7,6 @@
 
 #include "model.c"
 
-uint64_t jallumere_version(void)
-{
-    return JALLUMERE_VERSION;
-}
+uint64_t jallumere_version(void) { return JALLUMERE_VERSION; }
 
-uint64_t jallumere_is_model(void)
-{
-    return 1;
-}
+uint64_t jallumere_is_model(void) { return 1; }
