@@ -74,11 +74,8 @@ typedef struct {
 /* An empty message of a kind: numbers and views (which are to be set) as many as it has, from and to outside. */
 static inline message message_of_kind(uint64_t kind, uint64_t s)
 {
-    message made = {.kind = kind, .to_group = JALLUMERE_OUTSIDE, .to_mask = 1};
-    made.from_group = made.from_replica = JALLUMERE_OUTSIDE;
-    made.view_count = forms[kind].has_views ? s : 0;
-    made.number_count = forms[kind].numbers;
-    return made;
+    const uint64_t outside = JALLUMERE_OUTSIDE, views = forms[kind].has_views ? s : 0;
+    return (message){kind, outside, 1, outside, outside, .view_count = views, .number_count = forms[kind].numbers};
 }
 
 /* Everything before the entries, their count included; all of it; and the same by kind. */

@@ -14,10 +14,10 @@
 
 const char program_name[] = "compare";
 
-enum { POOL = 3000 };
+enum { POOL = 3000, STATE_ROOM = 1 << 22 };
 
 static uint64_t steps_wanted = 100000;
-static uint8_t *spare_state, *built_state;
+static uint8_t spare_state[STATE_ROOM], built_state[STATE_ROOM];
 
 /* ---- one message at one replica, in every variation -------------------------------------------------- */
 
@@ -97,6 +97,7 @@ static void try_damage(const uint8_t *state, letter told)
  */
 static uint64_t try_all(const uint8_t *state, letter told, enum origin from)
 {
+    show_progress(steps_done, steps_wanted, "steps");
     if (chance(25))
         try_damage(state, told);
     if (chance(3))
@@ -106,9 +107,8 @@ static uint64_t try_all(const uint8_t *state, letter told, enum origin from)
         try_writing(told);
         try_digest(told.bytes, below(told.length + 1));
     }
-    uint64_t answer = try_step(state, told, ample_room(&at), from);
-    const size_t sent = JALLUMERE_LENGTH(answer),
-                 rooms[] = {sent, sent - 1, chance(50) ? 0 : below(sent), ample_room(&at)};
+    uint64_t answer = try_step(state, told, ample_room(&at), from), sent = JALLUMERE_LENGTH(answer);
+    const size_t rooms[] = {sent, sent - 1, chance(50) ? 0 : below(sent), ample_room(&at)};
     if (JALLUMERE_NUMBER(answer) == JALLUMERE_DONE && chance(26))
         for (unsigned i = 0; i < 4; i++)
             if (sent != 0 || i % 3 == 0)
@@ -181,8 +181,7 @@ static void deliver(letter told, uint64_t to)
         net.from = FROM_EDIT;
 }
 
-/* From outside: a tick to one replica, at once; a transaction to all of the groups of its mask, a change of view to all
- * of all. */
+/* From outside: a tick to one replica, at once; a transaction to the groups of its mask, a change of view to all. */
 static void send_from_outside(uint64_t kind)
 {
     uint8_t room[256], bytes[ENTRY_LENGTH];
@@ -260,8 +259,7 @@ static void run_groups(uint64_t turns)
 
 /* ---- built states ------------------------------------------------------------------------------------ */
 
-/* Steps of one kind, or of any for 0, until so many are done, each from another state; of any kind some go on from the
- * state that was left. */
+/* Steps of one kind, or of any (0), until so many are done; of any kind some go on from the state that was left. */
 static void run_built(uint64_t asked, uint64_t wanted)
 {
     static uint8_t room[LETTER_ROOM];
@@ -272,7 +270,7 @@ static void run_built(uint64_t asked, uint64_t wanted)
     for (uint64_t tries = 0; done < wanted && tries < 20 * wanted; tries++) {
         uint64_t kind = asked == 0 ? some_kind() : asked;
         if (asked != 0 || !left || chance(30))
-            build_state(built_state, group, asked == 0 && chance(35) ? some_kind() : kind);
+            build_state(built_state, group, asked == 0 && chance(25) ? some_kind() : kind);
         if (chance(8))
             make_odd(built_state);
         try_good(built_state, BUILT);
@@ -282,12 +280,10 @@ static void run_built(uint64_t asked, uint64_t wanted)
         done += left;
         if (left)
             memcpy(built_state, state_of[1], at.length);
-        show_progress(steps_done, steps_wanted, "steps");
     }
 }
 
-/* Each kind that a site takes, in each shape, and more where a step costs less; 3, 18 and 19 come from another
- * group. */
+/* Each kind that a site takes, in each shape where it can come, and more where a step costs less. */
 static void run_shares(void)
 {
     static const uint64_t shapes[][2] = {{3, 1}, {3, 2}, {5, 3}, {7, 1}, {7, 8}}, capacities[] = {4096, 256, 17, 16};
@@ -299,10 +295,7 @@ static void run_shares(void)
     }
 }
 
-/*
- * Logs beyond the greatest capacity, for the reader: good ones, and with a transaction a second time, both near
- * the end or one of them anywhere.
- */
+/* Logs beyond the greatest capacity, for the reader: good ones, and with a transaction twice, close by or apart. */
 static void try_long_logs(void)
 {
     static const uint64_t counts[] = {4096, 4097, 6000, 8193, 9000};
@@ -316,8 +309,7 @@ static void try_long_logs(void)
     for (unsigned i = 0; i < 15; i++) {
         made.count = counts[i / 3];
         for (uint64_t j = 0; j < made.count; j++)
-            write_entry(entries + ENTRY_LENGTH * j,
-                        (entry){1 + j / 3, draw(), 1 + j % 5000, j / 5000, 1 + 2 * below(2)});
+            write_entry(entries + ENTRY_LENGTH * j, (entry){1 + j / 3, draw(), 1 + j % 5000, j / 5000, 1 | below(4)});
         uint64_t one = i % 3 == 1 ? below(made.count - 9) : made.count - 9, other = made.count - 1 - below(8);
         if (i % 3 != 0)
             memcpy(entries + ENTRY_LENGTH * other + AT_TRANSACTION, entries + ENTRY_LENGTH * one + AT_TRANSACTION,
@@ -384,7 +376,7 @@ static bool replay_step(uint8_t *state, bool shown)
 /* Gives the number of differences. */
 static uint64_t replay(const char *path)
 {
-    uint64_t starts = 0, differences = 0;
+    uint64_t begun = 0, differences = 0;
     records.bytes = read_file(path, &records.length);
     while (records.length != 0) {
         uint8_t record = *take(1);
@@ -393,15 +385,14 @@ static uint64_t replay(const char *path)
             at = lay_out(told[0], told[1], load(told + 2, 2));
             try_start(told[4], told[5]);
             memcpy(spare_state, state_of[1], at.length);
-            starts++;
+            begun++;
         } else if (record == 2 && at.length != 0)
             differences += replay_step(spare_state, differences != 0);
         else
             stop("the file of traces has a record of no known sort");
     }
     show_tables();
-    printf("%" PRIu64 " starts, %" PRIu64 " recorded steps, %" PRIu64 " differences\n", starts, steps_done,
-           differences);
+    printf("%" PRIu64 " starts, %" PRIu64 " recorded steps, %" PRIu64 " differences\n", begun, steps_done, differences);
     return differences;
 }
 
@@ -412,21 +403,16 @@ int main(int count, char **words)
                               {"--seed", &seed, 0, UINT64_MAX, NULL, NULL},
                               {.name = "--traces", .word = &traces},
                               {.name = NULL}};
-    const size_t most = lay_out(REPLICAS_MOST, GROUPS_MOST, CAPACITY_MOST).length;
     read_words(count, words, options, NULL);
     seconds();
     seed_chance(seed);
     make_areas();
-    spare_state = memory(most);
-    built_state = memory(most);
     if (traces != NULL)
         return replay(traces) == 0 ? 0 : 1;
     try_long_logs(); /* the greatest capacity comes up in every run, however short */
     run_shares();
-    while (steps_done < steps_wanted) {
+    while (steps_done < steps_wanted)
         run_some();
-        show_progress(steps_done, steps_wanted, "steps");
-    }
     show_tables();
     printf("%" PRIu64 " steps, seed %" PRIu64 ", no difference; %.0f s\n", steps_done, seed, seconds());
     return 0;
