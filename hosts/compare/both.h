@@ -206,8 +206,6 @@ static uint64_t agree(const char *call, uint64_t core, uint64_t model, const uin
 #define AGREE(call, bytes, length, ...)                                                                                \
     agree(#call, jallumere_##call(__VA_ARGS__), model_##call(__VA_ARGS__), bytes, length)
 
-static void try_state_length(void) { AGREE(state_length, NULL, 0, SIZES(&at)); }
-
 /* Every field, group and field of an entry, and numbers next to these; of entries a few positions. */
 static void try_state_readers(const uint8_t *state)
 {
@@ -241,13 +239,6 @@ static uint64_t try_read(letter told)
     free(given.bytes);
     counts[MESSAGES][kind_row(told)][answer]++;
     return answer;
-}
-
-static void try_digest(const uint8_t *bytes, size_t length)
-{
-    uint64_t start = chance(50) ? JALLUMERE_DIGEST_START : draw();
-    AGREE(digest, bytes, length, start, bytes, length);
-    digests++;
 }
 
 /* ---- calls that write -------------------------------------------------------------------------------- */

@@ -59,7 +59,7 @@ static void try_wrong_sizes(const uint8_t *state, letter told)
         *sizes[which] = chance(50) ? below(11) : chance(30) ? *sizes[which] + 1 : edge();
     else
         at.length = chance(50) ? at.length - 1 : below(at.length);
-    try_state_length();
+    AGREE(state_length, NULL, 0, SIZES(&at));
     if (memcmp(&at, &right, sizeof at) != 0) {
         try_start(below(right.s), below(right.n));
         try_good(state, WRONG_SIZES);
@@ -105,7 +105,9 @@ static uint64_t try_all(const uint8_t *state, letter told, enum origin from)
     if (chance(10)) {
         try_read(told);
         try_writing(told);
-        try_digest(told.bytes, below(told.length + 1));
+        uint64_t start = chance(50) ? JALLUMERE_DIGEST_START : draw(), length = below(told.length + 1);
+        AGREE(digest, told.bytes, length, start, told.bytes, length);
+        digests++;
     }
     uint64_t answer = try_step(state, told, ample_room(&at), from), sent = JALLUMERE_LENGTH(answer);
     const size_t rooms[] = {sent, sent - 1, chance(50) ? 0 : below(sent), ample_room(&at)};
