@@ -148,10 +148,8 @@ static inline double seconds(void)
     return (double)(time.tv_sec - first.tv_sec) + 1e-9 * (double)(time.tv_nsec - first.tv_nsec);
 }
 
-/*
- * How far a long run has come, on the standard error: on a terminal one line that changes, elsewhere a line now
- * and then; nothing in the first two seconds.
- */
+/* How far a long run has come, on the standard error: on a terminal one line that changes, elsewhere a line now and
+ * then; nothing in the first two seconds. */
 static inline void show_progress(uint64_t done, uint64_t wanted, const char *what)
 {
     static double last;

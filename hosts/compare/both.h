@@ -67,7 +67,7 @@ static const struct {
     [ENTERED] = {"", after, 3, false},
     [STATES] = {"\nstates                     good not good\n", origins, 2, false},
     [MESSAGES] = {"\nmessages                 read 0        1        2  write 0        1        2        9\n", NULL, 7,
-                  0},
+                  false},
 };
 
 /* What is no kind at all is counted as kind 0. */

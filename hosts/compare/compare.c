@@ -77,7 +77,7 @@ static void try_damage(const uint8_t *state, letter told)
     static uint8_t room[LETTER_ROOM];
     letter odd = {room, told.length};
     copy(room, told.bytes, told.length);
-    if (chance(50)) {
+    if (chance(40)) {
         for (uint64_t i = chance(80) ? 1 : 2; i > 0; i--)
             damage_message(&odd);
         try_read(odd);
@@ -91,10 +91,9 @@ static void try_damage(const uint8_t *state, letter told)
     }
 }
 
-/*
- * A message is taken, and all that is tried with it besides: where it is done, once more with a buffer that is just
- * long enough, one byte short, and anything between. Gives the answer, and leaves what the sides were left with by it.
- */
+/* A message is taken, and all that is tried with it besides: where it is done, once more with a buffer that is just
+ * long enough, one byte short, and anything between. Gives the answer, and leaves what the sides were left with by
+ * it. */
 static uint64_t try_all(const uint8_t *state, letter told, enum origin from)
 {
     show_progress(steps_done, steps_wanted, "steps");
@@ -337,11 +336,9 @@ static void run_some(void)
 
 /* ---- recorded steps ---------------------------------------------------------------------------------- */
 
-/*
- * A trace is a row of records. 01, n (1), S (1), C (2), group (1), replica (1) starts afresh. 02, outgoing
- * room (4), message length (4), the message, and what is expected: refusal (1), outgoing length (4), FNV-1a
- * of the outgoing bytes (8), FNV-1a of the state (8).
- */
+/* A trace is a row of records. 01, n (1), S (1), C (2), group (1), replica (1) starts afresh. 02, outgoing room (4),
+ * message length (4), the message, and what is expected: refusal (1), outgoing length (4), FNV-1a of the outgoing
+ * bytes (8), FNV-1a of the state (8). */
 static letter records;
 
 static const uint8_t *take(size_t length)

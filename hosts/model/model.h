@@ -23,11 +23,9 @@ __typeof__(jallumere_message_length) MODEL(message_length);
 __typeof__(jallumere_write) MODEL(write);
 __typeof__(jallumere_digest) MODEL(digest);
 
-/*
- * Why these bytes are not a good state: tells each part of the rules' "A good state" that fails, and the byte at
+/* Why these bytes are not a good state: tells each part of the rules' "A good state" that fails, and the byte at
  * which it does. Gives how many there are, so 0 for a good state. The entries of a table whose count is past c are
- * not looked at.
- */
+ * not looked at. */
 typedef void model_reason(void *listener, size_t byte, const char *rule);
 uint64_t MODEL(why_not_good)(uint64_t n, uint64_t s, uint64_t c, const uint8_t *state, size_t state_length,
                              model_reason *tell, void *listener);
