@@ -292,7 +292,7 @@ static void run_shares(void)
         uint64_t kind = i % KINDS, capacity = capacities[i / KINDS % 4];
         at = lay_out(shapes[i / KINDS / 4][0], shapes[i / KINDS / 4][1], capacity);
         if (is_kind(kind) && forms[kind].path != OUTBOUND && !(forms[kind].sender == OTHER_LEADER && at.s == 1))
-            run_built(kind, (capacity == 4096 ? 24 : 60) * steps_wanted / 100000 + 1);
+            run_built(kind, (capacity == 4096 ? 24 : kind == JALLUMERE_VOTE ? 150 : 60) * steps_wanted / 100000 + 1);
     }
 }
 
