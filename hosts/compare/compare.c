@@ -291,8 +291,9 @@ static void run_shares(void)
     for (unsigned i = 0; i < 5 * 4 * KINDS; i++) {
         uint64_t kind = i % KINDS, capacity = capacities[i / KINDS % 4];
         at = lay_out(shapes[i / KINDS / 4][0], shapes[i / KINDS / 4][1], capacity);
+        uint64_t share = kind == JALLUMERE_VOTE || kind == JALLUMERE_VERIFY_REPLY ? 150 : 60;
         if (is_kind(kind) && forms[kind].path != OUTBOUND && !(forms[kind].sender == OTHER_LEADER && at.s == 1))
-            run_built(kind, (capacity == 4096 ? 24 : kind == JALLUMERE_VOTE ? 150 : 60) * steps_wanted / 100000 + 1);
+            run_built(kind, (capacity == 4096 ? 24 : share) * steps_wanted / 100000 + 1);
     }
 }
 
