@@ -22,16 +22,21 @@ enum { AT_CLOCK = 16, AT_SYNC = 24, AT_COMMIT = 32, AT_BOUNDARY = 40 };
 enum { AT_COMMAND = 8, AT_TRANSACTION = 16, AT_COORDINATOR = 20, AT_MASK = 22 };
 enum { AT_VOTE_LAST_NORMAL = 1, AT_VOTE_SYNC = 5 };
 
-/* Where the fields of the head and of an entry stand, by the numbers of the core's readers, which count from 1. */
+/* The fields of the head and of an entry by the numbers of the core's readers, which count from 1; those of the head
+ * that have no reader stand around them. */
 typedef struct {
+    const char *name;
     uint8_t at, width;
 } field_place;
 
-static const field_place head_fields[] = {{0, 0},         {AT_GROUP, 1}, {AT_REPLICA, 1},
-                                          {AT_STATUS, 1}, {AT_VIEW, 4},  {AT_LAST_NORMAL, 4},
-                                          {AT_CLOCK, 8},  {AT_SYNC, 8},  {AT_COMMIT, 8}};
+enum { HEAD_FIELDS = 10 };
+static const field_place head_fields[HEAD_FIELDS] = {
+    {"the five zeros", AT_ZEROS, 5}, {"own group", AT_GROUP, 1}, {"own replica", AT_REPLICA, 1},
+    {"status", AT_STATUS, 1},        {"gView", AT_VIEW, 4},      {"last normal gView", AT_LAST_NORMAL, 4},
+    {"clock", AT_CLOCK, 8},          {"sync point", AT_SYNC, 8}, {"commit point", AT_COMMIT, 8},
+    {"boundary", AT_BOUNDARY, 8}};
 static const field_place entry_fields[] = {
-    {0, 0}, {0, 8}, {AT_COMMAND, 8}, {AT_TRANSACTION, 4}, {AT_COORDINATOR, 2}, {AT_MASK, 2}};
+    {0}, {"", 0, 8}, {"", AT_COMMAND, 8}, {"", AT_TRANSACTION, 4}, {"", AT_COORDINATOR, 2}, {"", AT_MASK, 2}};
 
 #define GREATEST_TIMESTAMP UINT64_C(0x7fffffffffffffff)
 #define TRANSACTION_BITS UINT64_C(0x0000ffffffffffff)
@@ -58,15 +63,9 @@ static inline void store(uint8_t *bytes, uint64_t value, unsigned width)
 }
 
 /* Sets of groups, replicas or statuses: the set of one, and whether it is in a set. */
-static inline uint64_t bit(uint64_t number)
-{
-    return UINT64_C(1) << number;
-}
+static inline uint64_t bit(uint64_t number) { return UINT64_C(1) << number; }
 
-static inline bool holds(uint64_t set, uint64_t number)
-{
-    return set >> number & 1;
-}
+static inline bool holds(uint64_t set, uint64_t number) { return set >> number & 1; }
 
 /* A slice of length 0 may have a null pointer, which memcpy does not take. */
 static inline void copy(uint8_t *to, const uint8_t *from, size_t length)
@@ -94,17 +93,13 @@ static inline bool replicas_and_groups_right(uint64_t n, uint64_t s)
 /* For wrong sizes everything is 0. */
 static inline layout lay_out(uint64_t n, uint64_t s, uint64_t c)
 {
-    layout at = {0};
+    layout at = {.n = n, .s = s, .c = c, .views = HEAD_LENGTH};
     if (!replicas_and_groups_right(n, s) || c < CAPACITY_LEAST || c > CAPACITY_MOST)
-        return at;
-    at.n = n;
-    at.s = s;
-    at.c = c;
+        return (layout){0};
     at.table = 4 + ENTRY_LENGTH * (size_t)c;
     at.note = TRANSACTION_LENGTH + MARKED_LENGTH * (size_t)s;
     at.vote = VOTE_HEAD_LENGTH + at.table;
     at.reply = 1 + at.table;
-    at.views = HEAD_LENGTH;
     at.heard = at.views + 4 * (size_t)s;
     at.log = at.heard + MARKED_LENGTH * (size_t)n;
     at.early = at.log + at.table;
@@ -117,47 +112,20 @@ static inline layout lay_out(uint64_t n, uint64_t s, uint64_t c)
     return at;
 }
 
-/* Offsets in a state: of what was heard from a replica, a note, a vote and its table, a reply and its table. */
-static inline size_t heard_place(const layout *at, uint64_t replica)
-{
-    return at->heard + MARKED_LENGTH * (size_t)replica;
-}
-
-static inline size_t note_place(const layout *at, uint64_t position)
-{
-    return at->notes + 4 + at->note * (size_t)position;
-}
-
-static inline size_t vote_place(const layout *at, uint64_t replica)
-{
-    return at->votes + at->vote * (size_t)replica;
-}
-
-static inline size_t vote_table(const layout *at, uint64_t replica)
-{
-    return vote_place(at, replica) + VOTE_HEAD_LENGTH;
-}
-
-static inline size_t reply_place(const layout *at, uint64_t group)
-{
-    return at->replies + at->reply * (size_t)group;
-}
-
-static inline size_t reply_table(const layout *at, uint64_t group)
-{
-    return reply_place(at, group) + 1;
-}
+/* Offsets in a state of the items of a section; a vote's and a reply's table stand behind their heads. */
+#define PLACE(name, first, width)                                                                                      \
+    static inline size_t name(const layout *at, uint64_t number) { return (first) + (width) * (size_t)number; }
+PLACE(heard_place, at->heard, MARKED_LENGTH)
+PLACE(note_place, at->notes + 4, at->note)
+PLACE(vote_place, at->votes, at->vote)
+PLACE(vote_table, at->votes + VOTE_HEAD_LENGTH, at->vote)
+PLACE(reply_place, at->replies, at->reply)
+PLACE(reply_table, at->replies + 1, at->reply)
 
 /* Offsets in a table, which has a count before its entries, and in a note. */
-static inline size_t entry_place(uint64_t position)
-{
-    return 4 + ENTRY_LENGTH * (size_t)position;
-}
+static inline size_t entry_place(uint64_t position) { return 4 + ENTRY_LENGTH * (size_t)position; }
 
-static inline size_t note_group(uint64_t group)
-{
-    return TRANSACTION_LENGTH + MARKED_LENGTH * (size_t)group;
-}
+static inline size_t note_group(uint64_t group) { return TRANSACTION_LENGTH + MARKED_LENGTH * (size_t)group; }
 
 /* ---- readers and writers ------------------------------------------------------------------------------ */
 
@@ -167,9 +135,8 @@ typedef struct {
 
 static inline entry read_entry(const uint8_t *bytes)
 {
-    entry read = {load(bytes, 8), load(bytes + AT_COMMAND, 8), load(bytes + AT_TRANSACTION, 4),
-                  load(bytes + AT_COORDINATOR, 2), load(bytes + AT_MASK, 2)};
-    return read;
+    return (entry){load(bytes, 8), load(bytes + AT_COMMAND, 8), load(bytes + AT_TRANSACTION, 4),
+                   load(bytes + AT_COORDINATOR, 2), load(bytes + AT_MASK, 2)};
 }
 
 static inline void write_entry(uint8_t *bytes, entry made)
@@ -230,10 +197,7 @@ static inline bool state_leads(const layout *at, const uint8_t *state)
     return state[AT_GROUP] < at->s && leader_of(state + at->views, state[AT_GROUP], at->n) == state[AT_REPLICA];
 }
 
-static inline uint64_t majority_of(uint64_t n)
-{
-    return (n - 1) / 2 + 1;
-}
+static inline uint64_t majority_of(uint64_t n) { return (n - 1) / 2 + 1; }
 
 /* In words, for people: the section with the field, or with the entry, note, vote or reply that a state's byte
  * belongs to, and what that says. */

@@ -15,37 +15,37 @@ enum entries { NO_ENTRY, ONE_ENTRY, ANY_LOG }; /* a kind's entries: their number
 /* Who sends a kind within the groups: to followers their leader, to a leader a replica or another leader. */
 enum sender { NOBODY, OWN_LEADER, OTHER_REPLICA, OTHER_LEADER };
 
+/* The views in which a site takes a kind and the statuses in its own view; a greater view is taken in
+ * any status. Both are sets, and views without one of these are not looked at. */
+enum views { SAME_VIEW = 1, GREATER_VIEW = 2, EITHER_VIEW = 3 };
+enum statuses { IN_1 = 1 << JALLUMERE_STATUS_NORMAL, IN_2 = 1 << JALLUMERE_STATUS_VIEW_CHANGE };
+enum { IN_3 = 1 << JALLUMERE_STATUS_CROSS_SHARD };
+
 typedef struct {
     const char *name; /* NULL where there is no such kind */
     bool has_views;
-    uint8_t path, numbers, entries, sender;
+    uint8_t path, numbers, entries, sender, views, statuses;
 } form;
 
 static const form forms[KINDS] = {
-    [JALLUMERE_TRANSACTION] = {"transaction", false, INBOUND, 2, ONE_ENTRY, NOBODY},
-    [JALLUMERE_TIMESTAMP_NOTE] = {"timestamp note", true, INSIDE, 0, ONE_ENTRY, OTHER_LEADER},
-    [JALLUMERE_REPLICA_SYNC] = {"replica sync", true, INSIDE, 0, ANY_LOG, OWN_LEADER},
-    [JALLUMERE_FAST_REPLY] = {"fast reply", true, OUTBOUND, 3, ONE_ENTRY, NOBODY},
-    [JALLUMERE_SLOW_REPLY] = {"slow reply", true, OUTBOUND, 1, ONE_ENTRY, NOBODY},
-    [JALLUMERE_CHANGE_VIEW] = {"change view", true, INBOUND, 0, NO_ENTRY, NOBODY},
-    [JALLUMERE_VOTE] = {"vote", true, INSIDE, 2, ANY_LOG, OTHER_REPLICA},
-    [JALLUMERE_START_VIEW] = {"start view", true, INSIDE, 0, ANY_LOG, OWN_LEADER},
-    [JALLUMERE_SYNC_STATUS] = {"sync status", true, INSIDE, 1, NO_ENTRY, OTHER_REPLICA},
-    [JALLUMERE_COMMIT] = {"commit", true, INSIDE, 1, NO_ENTRY, OWN_LEADER},
-    [JALLUMERE_VERIFY_REQUEST] = {"verify request", true, INSIDE, 1, NO_ENTRY, OTHER_LEADER},
-    [JALLUMERE_VERIFY_REPLY] = {"verify reply", true, INSIDE, 0, ANY_LOG, OTHER_LEADER},
-    [JALLUMERE_TICK] = {"tick", false, INBOUND, 1, NO_ENTRY, NOBODY},
+    [JALLUMERE_TRANSACTION] = {"transaction", false, INBOUND, 2, ONE_ENTRY, NOBODY, 0, IN_1},
+    [JALLUMERE_TIMESTAMP_NOTE] = {"timestamp note", true, INSIDE, 0, ONE_ENTRY, OTHER_LEADER, SAME_VIEW, IN_1},
+    [JALLUMERE_REPLICA_SYNC] = {"replica sync", true, INSIDE, 0, ANY_LOG, OWN_LEADER, SAME_VIEW, IN_1},
+    [JALLUMERE_FAST_REPLY] = {"fast reply", true, OUTBOUND, 3, ONE_ENTRY, NOBODY, 0, 0},
+    [JALLUMERE_SLOW_REPLY] = {"slow reply", true, OUTBOUND, 1, ONE_ENTRY, NOBODY, 0, 0},
+    [JALLUMERE_CHANGE_VIEW] = {"change view", true, INBOUND, 0, NO_ENTRY, NOBODY, GREATER_VIEW, 0},
+    [JALLUMERE_VOTE] = {"vote", true, INSIDE, 2, ANY_LOG, OTHER_REPLICA, EITHER_VIEW, IN_2},
+    [JALLUMERE_START_VIEW] = {"start view", true, INSIDE, 0, ANY_LOG, OWN_LEADER, EITHER_VIEW, IN_2},
+    [JALLUMERE_SYNC_STATUS] = {"sync status", true, INSIDE, 1, NO_ENTRY, OTHER_REPLICA, SAME_VIEW, IN_1},
+    [JALLUMERE_COMMIT] = {"commit", true, INSIDE, 1, NO_ENTRY, OWN_LEADER, SAME_VIEW, IN_1},
+    [JALLUMERE_VERIFY_REQUEST] = {"verify request", true, INSIDE, 1, NO_ENTRY, OTHER_LEADER, SAME_VIEW, IN_1 | IN_3},
+    [JALLUMERE_VERIFY_REPLY] = {"verify reply", true, INSIDE, 0, ANY_LOG, OTHER_LEADER, SAME_VIEW, IN_3},
+    [JALLUMERE_TICK] = {"tick", false, INBOUND, 1, NO_ENTRY, NOBODY, 0, IN_1},
 };
 
-static inline bool is_kind(uint64_t kind)
-{
-    return kind < KINDS && forms[kind].name != NULL;
-}
+static inline bool is_kind(uint64_t kind) { return kind < KINDS && forms[kind].name != NULL; }
 
-static inline const char *kind_name(uint64_t kind)
-{
-    return is_kind(kind) ? forms[kind].name : "unknown kind";
-}
+static inline const char *kind_name(uint64_t kind) { return is_kind(kind) ? forms[kind].name : "unknown kind"; }
 
 static inline const char *answer_name(uint64_t answer)
 {
@@ -74,11 +74,8 @@ typedef struct {
 /* An empty message of a kind: numbers and views (which are to be set) as many as it has, from and to outside. */
 static inline message message_of_kind(uint64_t kind, uint64_t s)
 {
-    message made = {.kind = kind, .to_group = JALLUMERE_OUTSIDE, .to_mask = 1};
-    made.from_group = made.from_replica = JALLUMERE_OUTSIDE;
-    made.view_count = forms[kind].has_views ? s : 0;
-    made.number_count = forms[kind].numbers;
-    return made;
+    const uint64_t outside = JALLUMERE_OUTSIDE, views = forms[kind].has_views ? s : 0;
+    return (message){kind, outside, 1, outside, outside, .view_count = views, .number_count = forms[kind].numbers};
 }
 
 /* Everything before the entries, their count included; all of it; and the same by kind. */
