@@ -25,15 +25,18 @@ enum {
     BOUND = 30,      /* what coordinators add to the send time */
     DELAY_LEAST = 3, /* of the network */
     DELAY_MOST = 22,
-    DELAY_SLOW = 45,  /* on top, for one message in twenty */
-    RESEND_TIME = 60, /* after which a host sends a message again that the protocol cannot do without */
-    RESENDS = 2,
-    RETRY_TIME = 110, /* after which a coordinator asks again */
-    RETRIES = 4,
+    DELAY_SLOW = 45,   /* on top, for one message in twenty */
     NOTICE_TIME = 90,  /* until the manager notices a silent leader */
     SETTLE_TIME = 150, /* from the coordinators' end until the manager looks at the full logs */
     WATCH_TIME = 320   /* until the manager gives a view up */
 };
+
+/* What the protocol sends once and cannot do without is sent again: so many times, and each time after so long. */
+static const struct {
+    unsigned times, after;
+} resends[KINDS] = {
+    [JALLUMERE_TRANSACTION] = {4, 110}, [JALLUMERE_TIMESTAMP_NOTE] = {2, 60}, [JALLUMERE_CHANGE_VIEW] = {2, 60},
+    [JALLUMERE_VOTE] = {2, 60},         [JALLUMERE_START_VIEW] = {2, 60},     [JALLUMERE_VERIFY_REQUEST] = {2, 60}};
 
 enum { SITES_MOST = REPLICAS_MOST * GROUPS_MOST, VIEWS_MOST = 256, COORDINATORS = 3, SHOWN_ENTRIES = 4 };
 enum { FROM_COORDINATORS = -1, FROM_MANAGER = -2, FROM_CLOCK = -3 };
@@ -154,46 +157,42 @@ static const char *const page[] = {
 
 static FILE *page_file; /* NULL where no page is asked for */
 
+static void put(const char *format, ...)
+{
+    va_list words;
+    va_start(words, format);
+    if (page_file != NULL)
+        vfprintf(page_file, format, words);
+    va_end(words);
+}
+
 /* Writes the page on, up to the data or to its end. */
 static void put_page(void)
 {
     static size_t next;
     while (next < sizeof page / sizeof *page && strcmp(page[next], "@DATA@\n") != 0)
-        fputs(page[next++], page_file);
+        put("%s", page[next++]);
     next++;
-}
-
-static void put_row(const char *list, size_t count, const int64_t *numbers)
-{
-    if (page_file == NULL)
-        return;
-    fprintf(page_file, "[\"%s\"", list);
-    for (size_t i = 0; i < count; i++)
-        fprintf(page_file, ",%" PRId64, numbers[i]);
-    fprintf(page_file, "],\n");
 }
 
 static void put_entries(const uint8_t *entries, uint64_t first, uint64_t count)
 {
     for (uint64_t i = first; i < count; i++) {
         entry read = read_entry(entries + ENTRY_LENGTH * i);
-        fprintf(page_file, "%s[%" PRIu64 ",%u,%u,%u]", i == first ? "" : ",", read.timestamp,
-                (unsigned)read.coordinator, (unsigned)read.request, (unsigned)read.mask);
+        put("%s[%ju,%ju,%ju,%ju]", i == first ? "" : ",", read.timestamp, read.coordinator, read.request, read.mask);
     }
-    fprintf(page_file, "]],\n");
+    put("]],\n");
 }
 
 static void put_letter(const message *told, int from)
 {
-    if (page_file == NULL)
-        return;
-    fprintf(page_file, "[\"m\",%u,%d,%u,[", (unsigned)told->kind, from, (unsigned)told->view);
+    put("[\"m\",%ju,%d,%ju,[", told->kind, from, told->view);
     for (uint64_t i = 0; i < told->number_count; i++)
-        fprintf(page_file, "%s\"%" PRIu64 "\"", i == 0 ? "" : ",", told->numbers[i]);
-    fprintf(page_file, "],[");
+        put("%s\"%ju\"", i == 0 ? "" : ",", told->numbers[i]);
+    put("],[");
     for (uint64_t i = 0; i < told->view_count; i++)
-        fprintf(page_file, "%s%u", i == 0 ? "" : ",", (unsigned)load(told->views + 4 * i, 4));
-    fprintf(page_file, "],%u,[", (unsigned)told->count);
+        put("%s%ju", i == 0 ? "" : ",", load(told->views + 4 * i, 4));
+    put("],%ju,[", told->count);
     put_entries(told->entries, told->count > SHOWN_ENTRIES ? told->count - SHOWN_ENTRIES : 0, told->count);
 }
 
@@ -202,7 +201,7 @@ enum fate { ARRIVED, LOST, UNHEARD };
 /* One way of one letter to one site; the answer is -1 where there is none. */
 static void put_way(const event *of, enum fate fate, int answer)
 {
-    put_row("x", 7, (int64_t[]){of->which, of->site, of->sent_at, of->at, fate, of->again, answer});
+    put("[\"x\",%zu,%d,%u,%u,%d,%d,%d],\n", of->which, of->site, of->sent_at, of->at, fate, of->again, answer);
 }
 
 /* One line of the timeline, of a site or of none (-1). */
@@ -213,8 +212,7 @@ static void note(int of, const char *format, ...)
     va_start(words, format);
     vsnprintf(text, sizeof text, format, words);
     va_end(words);
-    if (page_file != NULL)
-        fprintf(page_file, "[\"e\",%u,%d,\"%s\"],\n", now, of, text);
+    put("[\"e\",%u,%d,\"%s\"],\n", now, of, text);
     if (of >= 0)
         snprintf(name, sizeof name, "g%u.r%u", sites[of].is.group, sites[of].is.replica);
     if (!quiet)
@@ -298,16 +296,12 @@ static void send_again(const event *of)
         send_out(of->which, true);
 }
 
-/* What the protocol sends once and cannot do without is sent again later. */
 static void send_first(size_t which)
 {
     uint64_t kind = letters[which].told.kind;
-    bool asks = kind == JALLUMERE_TRANSACTION;
-    bool needed = asks || kind == JALLUMERE_TIMESTAMP_NOTE || kind == JALLUMERE_CHANGE_VIEW ||
-                  kind == JALLUMERE_VOTE || kind == JALLUMERE_START_VIEW || kind == JALLUMERE_VERIFY_REQUEST;
     send_out(which, false);
-    for (unsigned i = 1; needed && i <= (asks ? RETRIES : RESENDS); i++)
-        plan((event){.at = now + i * (asks ? RETRY_TIME : RESEND_TIME), .happen = send_again, .which = which});
+    for (unsigned i = 1; i <= resends[kind].times; i++)
+        plan((event){.at = now + i * resends[kind].after, .happen = send_again, .which = which});
 }
 
 /* A message from outside to some replicas of a group, written by the core's writer. */
@@ -331,10 +325,11 @@ typedef struct {
     unsigned count, committed;
 } history;
 
-/* A draft and the view whose votes it was rebuilt from, or the log that a view starts with. */
+/* A log that was rebuilt, and from which views: a draft from that of its votes, what a view starts with from all
+ * before. */
 typedef struct {
-    unsigned group, view, base, count;
-    bool at_start; /* then it follows from every earlier view */
+    const char *name;
+    unsigned group, view, first, end, count;
     uint8_t *log;
 } rebuilt;
 
@@ -353,30 +348,36 @@ static void check_rebuilts(int of, unsigned group, unsigned base)
 {
     const history *with = &histories[group][base];
     for (const rebuilt *each = rebuilts; each < rebuilts + rebuilt_count; each++) {
-        if (each->group != group || (each->at_start ? each->view <= base : each->base != base))
+        if (each->group != group || base < each->first || base >= each->end)
             continue;
         checks_made++;
         if (each->count < with->committed || !same_entries(each->log, with->log, with->committed))
-            fails(of, "the %s of view %u does not begin with the %u entries committed in view %u",
-                  each->at_start ? "log at the start" : "rebuilt log", each->view, with->committed, base);
+            fails(of, "the %s of view %u does not begin with the %u entries committed in view %u", each->name,
+                  each->view, with->committed, base);
     }
 }
 
-/* A draft, or the log that a view starts with, as a table; the votes tell what a draft was rebuilt from. */
-static void keep_rebuilt(int of, const uint8_t *table, bool at_start)
+static void keep_rebuilt(int of, const char *name, const uint8_t *table, unsigned first, unsigned end)
 {
-    rebuilt made = {sites[of].is.group, sites[of].is.view, 0, (unsigned)load(table, 4), at_start, NULL};
-    for (uint64_t replica = 0; replica < at.n; replica++) {
-        const uint8_t *vote = sites[of].state + vote_place(&at, replica);
-        uint64_t last_normal = vote[0] == 1 ? load(vote + AT_VOTE_LAST_NORMAL, 4) : 0;
-        made.base = last_normal > made.base ? (unsigned)last_normal : made.base;
-    }
+    rebuilt made = {name, sites[of].is.group, sites[of].is.view, first, end, (unsigned)load(table, 4), NULL};
     made.log = memory(ENTRY_LENGTH * made.count);
     copy(made.log, table + 4, ENTRY_LENGTH * made.count);
     rebuilts = grown(rebuilts, rebuilt_count, sizeof *rebuilts);
     rebuilts[rebuilt_count++] = made;
     for (unsigned base = 0; base < made.view; base++)
         check_rebuilts(of, made.group, base);
+}
+
+/* The greatest view in which a vote was normal last: from its votes a draft is rebuilt. */
+static unsigned view_of_votes(const uint8_t *state)
+{
+    uint64_t greatest = 0;
+    for (uint64_t replica = 0; replica < at.n; replica++) {
+        const uint8_t *vote = state + vote_place(&at, replica);
+        uint64_t last_normal = load(vote + AT_VOTE_LAST_NORMAL, 4);
+        greatest = vote[0] == 1 && last_normal > greatest ? last_normal : greatest;
+    }
+    return (unsigned)greatest;
 }
 
 static unsigned reached_by(unsigned group, unsigned point)
@@ -405,7 +406,7 @@ static void check_points(int of)
         copy(view->log, log, ENTRY_LENGTH * is->logged);
         view->count = is->logged;
         if (starts && groups == 1)
-            keep_rebuilt(of, log - 4, true);
+            keep_rebuilt(of, "log at the start", log - 4, 0, is->view);
     }
     if (is->sync > view->count || !same_entries(log, view->log, is->sync))
         fails(of, "its log up to the sync point %u is not the leader's of view %u", is->sync, is->last_normal);
@@ -517,7 +518,8 @@ static void check_done(int of, const message *told)
     own->leads = own->is.leader == own->is.replica;
     check_points(of);
     if (own->is.status == JALLUMERE_STATUS_CROSS_SHARD && own->was.status != JALLUMERE_STATUS_CROSS_SHARD)
-        keep_rebuilt(of, own->state + at.draft, false);
+        keep_rebuilt(of, "rebuilt log", own->state + at.draft, view_of_votes(own->state),
+                     view_of_votes(own->state) + 1);
     tell(of, told);
 }
 
@@ -528,8 +530,7 @@ static unsigned take_step(int of, size_t which)
     uint8_t *state = sites[of].state;
     memcpy(before, state, at.length);
     memcpy(outgoing, outgoing_before, outgoing_room);
-    uint64_t answer =
-        jallumere_step(SIZES(&at), state, at.length, taken.bytes, taken.length, outgoing, outgoing_room);
+    uint64_t answer = jallumere_step(SIZES(&at), state, at.length, taken.bytes, taken.length, outgoing, outgoing_room);
     unsigned refusal = JALLUMERE_NUMBER(answer);
     size_t length = JALLUMERE_LENGTH(answer);
     step_count++;
@@ -542,9 +543,8 @@ static unsigned take_step(int of, size_t which)
         check_done(of, &taken.told);
     else
         check_refusal(of, &taken.told, refusal);
-    put_row("p", 13,
-            (int64_t[]){now, of, which, refusal, is->status, is->view, is->logged, is->sync, is->commit,
-                        load(state + at.early, 4), load(state + at.late, 4), sites[of].leads, length});
+    put("[\"p\",%u,%d,%zu,%u,%u,%u,%u,%u,%u,%ju,%ju,%d,%zu],\n", now, of, which, refusal, is->status, is->view,
+        is->logged, is->sync, is->commit, load(state + at.early, 4), load(state + at.late, 4), sites[of].leads, length);
     take_outgoing(of, length);
     return refusal;
 }
@@ -614,8 +614,7 @@ static bool view_stands(void)
     for (uint64_t group = 0; group < at.s; group++) {
         unsigned started = 0;
         for (const site *each = &sites[site_of(group, 0)]; each < &sites[site_of(group + 1, 0)]; each++)
-            started +=
-                each->is.status == JALLUMERE_STATUS_NORMAL && each->is.view == planned_view && !each->silent;
+            started += each->is.status == JALLUMERE_STATUS_NORMAL && each->is.view == planned_view && !each->silent;
         stands = stands && started >= majority_of(at.n);
     }
     return stands;
@@ -651,8 +650,7 @@ static void settle(const event *of)
     for (uint64_t group = 0; group < at.s; group++) {
         const standing *is = &planned_leader(group)->is;
         if (planned_leader(group)->full)
-            note(-1,
-                 "group %u has %u of %u entries committed; no sync status goes out, the last %u wait for a view",
+            note(-1, "group %u has %u of %u entries committed; no sync status goes out, the last %u wait for a view",
                  is->group, is->commit, is->logged, is->logged - is->commit);
     }
     if (answers[JALLUMERE_FULL] != 0)
@@ -724,12 +722,12 @@ static void end_page(void)
         if (events[i].happen == deliver)
             put_way(&events[i], ARRIVED, -1);
     for (const site *each = sites; each < sites + site_count; each++) {
-        fprintf(page_file, "[\"g\",%d,%u,%u,%d,%u,%u,[", (int)(each - sites), each->is.status, each->is.view,
-                each->leads, each->is.sync, each->is.commit);
+        put("[\"g\",%d,%u,%u,%d,%u,%u,[", (int)(each - sites), each->is.status, each->is.view, each->leads,
+            each->is.sync, each->is.commit);
         put_entries(each->state + at.log + 4, 0, each->is.logged);
     }
-    fprintf(page_file, "{\"n\":%u,\"s\":%u,\"c\":%u,\"seed\":%" PRIu64 ",\"loss\":%u,\"steps\":%u,\"end\":%u}]\n",
-            (unsigned)at.n, (unsigned)at.s, (unsigned)at.c, seed, (unsigned)loss, step_count, now);
+    put("{\"n\":%ju,\"s\":%ju,\"c\":%ju,\"seed\":%ju,\"loss\":%ju,\"steps\":%u,\"end\":%u}]\n", SIZES(&at), seed, loss,
+        step_count, now);
     put_page();
     if (ferror(page_file) != 0 || fclose(page_file) != 0)
         stop("'%s' cannot be written", page_path);
@@ -750,18 +748,15 @@ static void write_states(void)
 
 static void print_log(const site *own)
 {
-    static const unsigned fields[] = {JALLUMERE_ENTRY_COORDINATOR, JALLUMERE_ENTRY_REQUEST,
-                                      JALLUMERE_ENTRY_TIMESTAMP};
+    static const unsigned fields[] = {JALLUMERE_ENTRY_COORDINATOR, JALLUMERE_ENTRY_REQUEST, JALLUMERE_ENTRY_TIMESTAMP};
     const standing *is = &own->is;
     printf("g%u.r%u %s, %s in view %u%s; log %u, sync %u, commit %u\n   ", is->group, is->replica,
            own->leads ? "leader" : "follower", status_name(is->status), is->view, own->silent ? ", silent" : "",
            is->logged, is->sync, is->commit);
     for (unsigned position = 0; position <= is->logged; position++) {
         for (unsigned i = 0; i < 3 && position != 0; i++)
-            printf("%c%u", " .@"[i],
-                   (unsigned)jallumere_entry(SIZES(&at), position, fields[i], own->state, at.length));
-        printf("%s%s", position == is->commit ? " |" : "",
-               position == is->sync && is->sync != is->commit ? " /" : "");
+            printf("%c%u", " .@"[i], (unsigned)jallumere_entry(SIZES(&at), position, fields[i], own->state, at.length));
+        printf("%s%s", position == is->commit ? " |" : "", position == is->sync && is->sync != is->commit ? " /" : "");
     }
     printf("\n");
 }
@@ -789,12 +784,11 @@ static void print_summary(void)
         if (sent_counts[kind] != 0)
             printf(" %s %u;", kind_name(kind), sent_counts[kind]);
     if (answers[JALLUMERE_FULL] != 0)
-        printf(
-            "\nRefusal 8: a log was full. With one entry due every tick is then refused and no sync status goes\n"
-            "out, so the last entries stay uncommitted until the next view.%s",
-            groups == 1 ? ""
-                        : " With several groups that view may never\nstand: what a verify reply adds to a full "
-                          "draft has no room, which is refusal 8 again, in every view.");
+        printf("\nRefusal 8: a log was full. With one entry due every tick is then refused and no sync status goes\n"
+               "out, so the last entries stay uncommitted until the next view.%s",
+               groups == 1 ? ""
+                           : " With several groups that view may never\nstand: what a verify reply adds to a full "
+                             "draft has no room, which is refusal 8 again, in every view.");
     printf("\nEvery promise held: %u checks of logs and commit points, %u states good, every message sent well "
            "formed.\n",
            checks_made, answers[JALLUMERE_DONE]);
@@ -810,11 +804,10 @@ static void start_all(void)
     at = lay_out(sites_each, groups, capacity);
     seed_chance(seed * UINT64_C(0x2545f4914f6cdd1d) + 1);
     if (jallumere_version() != JALLUMERE_VERSION)
-        stop("the core's interface has version %u, the header %u", (unsigned)jallumere_version(),
-             JALLUMERE_VERSION);
+        stop("the core's interface has version %u, the header %u", (unsigned)jallumere_version(), JALLUMERE_VERSION);
     if (jallumere_state_length(SIZES(&at)) != at.length)
-        fails(-1, "the core says %" PRIu64 " bytes for a state, the documents %zu",
-              jallumere_state_length(SIZES(&at)), at.length);
+        fails(-1, "the core says %" PRIu64 " bytes for a state, the documents %zu", jallumere_state_length(SIZES(&at)),
+              at.length);
     site_count = (size_t)(at.n * at.s);
     outgoing_room = ample_room(&at);
     before = memory(at.length);
@@ -840,15 +833,13 @@ int main(int count, char **words)
         stop("--sites takes 3, 5 or 7");
     if (page_path != NULL && (page_file = fopen(page_path, "w")) == NULL)
         stop("'%s' cannot be written", page_path);
-    if (page_file != NULL)
-        put_page();
+    put_page();
     if (jallumere_is_model() != 0)
         printf("This runs on the C model of hosts/model, not on the proved core.\n");
     start_all();
-    printf("%u group%s of %u sites, capacity %u, seed %" PRIu64
-           ", %u of 100 messages lost, %u repeated, %u steps\n\n",
-           (unsigned)groups, groups == 1 ? "" : "s", (unsigned)sites_each, (unsigned)capacity, seed,
-           (unsigned)loss, (unsigned)repeats, (unsigned)steps_most);
+    printf("%u group%s of %u sites, capacity %u, seed %" PRIu64 ", %u of 100 messages lost, %u repeated, %u steps\n\n",
+           (unsigned)groups, groups == 1 ? "" : "s", (unsigned)sites_each, (unsigned)capacity, seed, (unsigned)loss,
+           (unsigned)repeats, (unsigned)steps_most);
     while (step_count < steps_most) {
         event next = events[--event_count];
         now = next.at;
