@@ -148,23 +148,12 @@ static void plan(event made)
 
 /* ---- the page, rows of five lists, and the timeline, both written as things happen -------------------- */
 
-/* The lines of page.html as strings, made by the build; the rows go in place of the line @DATA@. */
-static const char *const page[] = {
+/* What stands in page.html above and below the rows, page_head and page_tail; made by the build. */
 #include "page.h"
-};
 
 static FILE *page_file; /* NULL where no page is asked for */
 
 #define put(...) (void)(page_file != NULL && fprintf(page_file, __VA_ARGS__))
-
-/* Writes the page on, up to the data or to its end. */
-static void put_page(void)
-{
-    static size_t next;
-    for (; next < sizeof page / sizeof *page && strcmp(page[next], "@DATA@\n") != 0; next++)
-        put("%s", page[next]);
-    next++;
-}
 
 static void put_entries(const uint8_t *entries, uint64_t first, uint64_t count)
 {
@@ -255,26 +244,25 @@ static void send_to(letter *sent, site *to, bool again)
     way.at = now + DELAY_LEAST + (unsigned)below(DELAY_MOST - DELAY_LEAST);
     if (below(20) == 0)
         way.at += (unsigned)below(DELAY_SLOW);
-    if (chance(loss)) {
-        lost_count++;
+    bool lost = chance(loss);
+    lost_count += lost;
+    if (lost)
         put_way(&way, LOST, -1);
-    } else
+    else
         plan(way);
-    if (!again && chance(repeats)) {
-        again_count++;
-        send_to(sent, to, true);
-    }
+    if (again || !chance(repeats))
+        return;
+    again_count++;
+    send_to(sent, to, true);
 }
 
-/* To every site that the header names. */
+/* To every site that the header names; its mask has one bit for what goes to a coordinator. */
 static void send_out(letter *sent, bool again)
 {
     const message *told = &sent->told;
-    if (told->to_group == JALLUMERE_OUTSIDE)
-        send_to(sent, NULL, again);
-    for (uint64_t replica = 0; told->to_group != JALLUMERE_OUTSIDE && replica < at.n; replica++)
+    for (uint64_t replica = 0; replica < at.n; replica++)
         if (holds(told->to_mask, replica))
-            send_to(sent, site_of(told->to_group, replica), again);
+            send_to(sent, told->to_group == JALLUMERE_OUTSIDE ? NULL : site_of(told->to_group, replica), again);
 }
 
 /* A site sends again while in its view and status of then, the manager in its last view, a coordinator till
@@ -313,17 +301,17 @@ static letter *write_letter(const message *made, uint64_t group, uint64_t mask, 
 /* ---- what is promised -------------------------------------------------------------------------------- */
 
 /*
- * What is known of a view in a group: its leader's log, as far as it has come; the greatest commit point held in it;
- * its draft, or with one group the log that it starts with, and the views before `end` from `first` on that this
- * follows from.
+ * What is known of a view in a group: its leader's log, as far as it has come; the log that it was rebuilt with, which
+ * is its draft or with one group what it starts with; the view that a draft's votes were of; the greatest commit point
+ * held.
  */
 typedef struct {
     uint8_t *log, *rebuilt; /* tables; NULL before there is one */
-    unsigned committed, first, end;
+    unsigned base, committed;
 } history;
 
 static history histories[GROUPS_MOST][VIEWS_MOST];
-static unsigned checks_made;
+static unsigned checks_made, committed_most[GROUPS_MOST];
 
 /* Whether two tables have so many entries and begin with the same. */
 static bool begin_alike(const uint8_t *table, const uint8_t *other, uint64_t count)
@@ -332,12 +320,12 @@ static bool begin_alike(const uint8_t *table, const uint8_t *other, uint64_t cou
                           memcmp(table + 4, other + 4, ENTRY_LENGTH * count) == 0);
 }
 
-/* Logs that were rebuilt from a view begin with what was committed in it. */
+/* Logs that were rebuilt from a view begin with what was committed in it; with one group, in every view before. */
 static void check_rebuilts(const site *own, unsigned base)
 {
     const history *views = histories[own->is.group], *with = &views[base];
-    for (unsigned view = 0; view <= planned_view; view++) {
-        if (views[view].rebuilt == NULL || base < views[view].first || base >= views[view].end)
+    for (unsigned view = base + 1; view <= planned_view; view++) {
+        if (views[view].rebuilt == NULL || (groups != 1 && views[view].base != base))
             continue;
         checks_made++;
         promise(begin_alike(with->log, views[view].rebuilt, with->committed), own,
@@ -346,25 +334,17 @@ static void check_rebuilts(const site *own, unsigned base)
     }
 }
 
-static void keep_rebuilt(const site *own, const uint8_t *table, unsigned first, unsigned end)
+/* The votes that count are those whose last normal view is the greatest. */
+static void keep_rebuilt(const site *own, const uint8_t *table)
 {
     history *view = &histories[own->is.group][own->is.view];
     view->rebuilt = memcpy(memory(at.table), table, at.table);
-    view->first = first;
-    view->end = end;
+    for (uint64_t replica = 0; replica < at.n; replica++) {
+        unsigned last_normal = (unsigned)load(own->state + vote_place(&at, replica) + AT_VOTE_LAST_NORMAL, 4);
+        view->base = last_normal > view->base ? last_normal : view->base;
+    }
     for (unsigned base = 0; base < own->is.view; base++)
         check_rebuilts(own, base);
-}
-
-/* A draft was rebuilt from the votes whose last normal view is the greatest. */
-static void keep_draft(const site *own)
-{
-    uint64_t base = 0;
-    for (uint64_t replica = 0; replica < at.n; replica++) {
-        uint64_t last_normal = load(own->state + vote_place(&at, replica) + AT_VOTE_LAST_NORMAL, 4);
-        base = last_normal > base ? last_normal : base;
-    }
-    keep_rebuilt(own, own->state + at.draft, (unsigned)base, (unsigned)base + 1);
 }
 
 static unsigned reached_by(unsigned group, unsigned point)
@@ -392,7 +372,7 @@ static void check_points(const site *own)
                 is->last_normal);
         write_table(view->log, log + 4, is->logged);
         if (starts && groups == 1)
-            keep_rebuilt(own, log, 0, is->view);
+            keep_rebuilt(own, log);
     }
     promise(begin_alike(view->log, log, is->sync), own,
             "its log up to the sync point %u is not the leader's of view %u", is->sync, is->last_normal);
@@ -401,6 +381,7 @@ static void check_points(const site *own)
             reached_by(is->group, is->commit), at.n);
     if (is->commit > view->committed) {
         view->committed = is->commit;
+        committed_most[is->group] = is->commit > committed_most[is->group] ? is->commit : committed_most[is->group];
         check_rebuilts(own, is->last_normal);
     }
 }
@@ -497,7 +478,7 @@ static void check_done(site *own, const message *told)
     own->leads = own->is.leader == own->is.replica;
     check_points(own);
     if (own->is.status == JALLUMERE_STATUS_CROSS_SHARD && own->was.status != JALLUMERE_STATUS_CROSS_SHARD)
-        keep_draft(own);
+        keep_rebuilt(own, own->state + at.draft);
     tell(own, told);
 }
 
@@ -583,14 +564,14 @@ static void tick(const event *of)
 /* Whether a majority of each group has started the planned view. */
 static bool view_stands(void)
 {
-    uint64_t standing_groups = 0;
-    for (uint64_t group = 0; group < at.s; group++) {
-        unsigned started = 0;
-        for (const site *each = site_of(group, 0); each < site_of(group + 1, 0); each++)
-            started += each->is.status == JALLUMERE_STATUS_NORMAL && each->is.view == planned_view && !each->silent;
-        standing_groups += started >= majority_of(at.n);
-    }
-    return standing_groups == at.s;
+    unsigned started[GROUPS_MOST] = {0};
+    for (const site *each = sites; each < sites_end; each++)
+        started[each->is.group] +=
+            each->is.status == JALLUMERE_STATUS_NORMAL && each->is.view == planned_view && !each->silent;
+    for (uint64_t group = 0; group < at.s; group++)
+        if (started[group] < majority_of(at.n))
+            return false;
+    return true;
 }
 
 /* A greater view for every group, led by the lowest site that is not silent; and another, if it does not stand. */
@@ -698,7 +679,7 @@ static void end_page(void)
     }
     put("{\"n\":%ju,\"s\":%ju,\"c\":%ju,\"seed\":%ju,\"loss\":%ju,\"steps\":%u,\"end\":%u}]\n", SIZES(&at), seed, loss,
         step_count, now);
-    put_page();
+    put("%s", page_tail);
     if (ferror(page_file) != 0 || fclose(page_file) != 0)
         stop("'%s' cannot be written", page_path);
     printf("\nthe run as a page: %s\n", page_path);
@@ -740,12 +721,8 @@ static void print_summary(void)
         print_log(each);
     for (const letter *each = asked; each != NULL; each = each->last)
         unanswered += !is_answered(each);
-    for (uint64_t group = 0; group < at.s; group++) {
-        unsigned most = 0;
-        for (const history *view = histories[group]; view <= &histories[group][planned_view]; view++)
-            most = view->committed > most ? view->committed : most;
-        committed += most;
-    }
+    for (uint64_t group = 0; group < at.s; group++)
+        committed += committed_most[group];
     printf("\n%u steps in %u ms; %u transactions, %u not answered by a group; %zu messages sent, %u ways lost, "
            "%u repeated; %u views after the first; %u entries committed\nanswers:",
            step_count, now, transaction_count, unanswered, letter_count - sent_counts[JALLUMERE_TICK], lost_count,
@@ -804,7 +781,7 @@ int main(int count, char **words)
         stop("--sites takes 3, 5 or 7");
     if (page_path != NULL && (page_file = fopen(page_path, "w")) == NULL)
         stop("'%s' cannot be written", page_path);
-    put_page();
+    put("%s", page_head);
     if (jallumere_is_model() != 0)
         printf("This runs on the C model of hosts/model, not on the proved core.\n");
     start_all();
