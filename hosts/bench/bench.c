@@ -134,40 +134,32 @@ static void add_cell(const row *of, const uint64_t shape[2], uint64_t capacity, 
 static uint8_t *state, *letter;
 static size_t letter_length;
 
+enum { OWN = -1 }; /* entries as this site has them, not another */
+
 /* Timestamps rise by tens; two of eight entries share one and stand there against the order. */
 static uint64_t time_of(uint64_t position)
 {
     return 10 * (position + (position % 8 == 7 ? 0 : 1));
 }
 
-/* The entry at a position of every log here, in every group; a delay makes some copies later than others. */
-static void put_entry(const cell *now, uint8_t *bytes, uint64_t position, uint64_t delay)
+/*
+ * A count and so many entries from a position on; they are the same in every log here, in every group. As another site
+ * or group has them, some are missing past the half of the log, and some are later.
+ */
+static void put_entries(const cell *now, uint8_t *table, uint64_t first, uint64_t count, int other)
 {
-    write_entry(bytes, (entry){.timestamp = time_of(position) + delay,
-                               .command = position * UINT64_C(0x9e3779b97f4a7c15),
-                               .request = position + 1,
-                               .coordinator = 3 - position % 4,
-                               .mask = bit(now->at.s) - 1});
-}
-
-/* A count and so many entries from a position on. */
-static void put_entries(const cell *now, uint8_t *table, uint64_t first, uint64_t count)
-{
-    store(table, count, 4);
-    for (uint64_t i = 0; i < count; i++)
-        put_entry(now, table + entry_place(i), first + i, 0);
-}
-
-/* A log as another site or group has it: past its half some entries are missing and some are later. */
-static void put_other_log(const cell *now, uint8_t *table, uint64_t other)
-{
-    uint64_t count = 0, same = now->filled / 2;
-    for (uint64_t i = 0; i < now->filled; i++) {
-        bool later = i >= same && i % 4 == 0 && other % 2 == 1;
-        if (i < same || (i + other) % 4 != 3)
-            put_entry(now, table + entry_place(count++), i, later ? 5 : 0);
+    uint64_t kept = 0;
+    for (uint64_t i = first; i < first + count; i++) {
+        bool apart = other != OWN && i >= now->filled / 2;
+        if (!apart || (i + (unsigned)other) % 4 != 3)
+            write_entry(table + entry_place(kept++),
+                        (entry){.timestamp = time_of(i) + (apart && i % 4 == 0 && other % 2 == 1 ? 5 : 0),
+                                .command = i * UINT64_C(0x9e3779b97f4a7c15),
+                                .request = i + 1,
+                                .coordinator = 3 - i % 4,
+                                .mask = bit(now->at.s) - 1});
     }
-    store(table, count, 4);
+    store(table, kept, 4);
 }
 
 /* Early entries, at a leader with their notes of the first so many groups. */
@@ -176,7 +168,7 @@ static void put_early(const cell *now, uint64_t count, uint64_t held)
     const row *of = now->of;
     bool follow = of->kind == JALLUMERE_REPLICA_SYNC || of->kind == JALLUMERE_TICK;
     uint8_t *early = state + now->at.early;
-    put_entries(now, early, follow ? now->logged : now->at.c, count);
+    put_entries(now, early, follow ? now->logged : now->at.c, count, OWN);
     store(state + now->at.notes, of->leads ? count : 0, 4);
     for (uint64_t i = 0; of->leads && i < count; i++) {
         uint8_t *note = state + note_place(&now->at, i);
@@ -199,34 +191,34 @@ static void put_state(const cell *now)
     store(state + AT_VIEW, OWN_VIEW, 4);
     store(state + AT_LAST_NORMAL, of->status == 0 ? OWN_VIEW : OWN_VIEW - 1, 4);
     store(state + AT_SYNC, now->logged, 8);
-    put_entries(now, state + at->log, 0, now->logged);
+    put_entries(now, state + at->log, 0, now->logged, OWN);
     put_early(now, amount_of(of->early, at), held);
     if (of->late)
-        put_entries(now, state + at->late, 2 * at->c, at->c / 8);
+        put_entries(now, state + at->late, 2 * at->c, at->c / 8, OWN);
     for (uint64_t replica = 0; of->status == JALLUMERE_STATUS_VIEW_CHANGE && replica < held; replica++) {
         write_vote_head(state + vote_place(at, replica), OWN_VIEW - 1, now->filled / 2);
-        put_other_log(now, state + vote_table(at, replica), replica);
+        put_entries(now, state + vote_table(at, replica), 0, now->filled, (int)replica);
     }
     if (of->status == JALLUMERE_STATUS_CROSS_SHARD)
-        put_other_log(now, state + at->draft, 0);
+        put_entries(now, state + at->draft, 0, now->filled, 0);
     for (uint64_t group = 1; of->status == JALLUMERE_STATUS_CROSS_SHARD && group <= held; group++) {
         state[reply_place(at, group)] = 1;
-        put_other_log(now, state + reply_table(at, group), group);
+        put_entries(now, state + reply_table(at, group), 0, now->filled, (int)group);
     }
     state[at->length - 1] = of->last_byte;
 }
 
-/* A message's entries behind their count, by its kind. */
-static void put_section(const cell *now, uint8_t *table, uint64_t other)
+/* A message's entries behind their count, by its kind; votes and replies are of another site or group. */
+static void put_section(const cell *now, uint8_t *table, int sender)
 {
     const row *of = now->of;
     const uint64_t c = now->at.c, positions[] = {[NEW] = 3 * c, [FIRST_EARLY] = c, [LAST_EARLY] = c + c / 8 - 1};
     if (of->kind == JALLUMERE_VOTE || of->kind == JALLUMERE_VERIFY_REPLY)
-        put_other_log(now, table, other);
+        put_entries(now, table, 0, now->filled, sender);
     else if (forms[of->kind].entries == ANY_LOG)
-        put_entries(now, table, 0, now->logged + amount_of(of->adds, &now->at));
+        put_entries(now, table, 0, now->logged + amount_of(of->adds, &now->at), OWN);
     else
-        put_entries(now, table, positions[of->names], forms[of->kind].entries);
+        put_entries(now, table, positions[of->names], forms[of->kind].entries, OWN);
     if (of->kind == JALLUMERE_TRANSACTION) /* it has no timestamp yet */
         store(table + entry_place(0), 0, 8);
     if (of->kind == JALLUMERE_TIMESTAMP_NOTE && of->names == FIRST_EARLY) /* later than the notes that are held */
@@ -258,7 +250,7 @@ static void put_letter(const cell *now)
                       : kind == JALLUMERE_VERIFY_REQUEST ? 0 /* the whole log */
                                                          : now->filled;
     made.numbers[1] = kind == JALLUMERE_TRANSACTION ? 100 : now->filled / 2;
-    put_section(now, table, made.from_group + made.from_replica);
+    put_section(now, table, (int)(made.from_group + made.from_replica));
     made.count = load(table, 4);
     put_opening(letter, &made);
     letter_length = length_of(&made) - of->message_cut;
