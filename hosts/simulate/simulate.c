@@ -19,17 +19,13 @@
 #include <stdlib.h>
 #include <unistd.h>
 
-/* Times are milliseconds. */
-enum {
-    TICK_TIME = 20,  /* between two ticks of a site */
-    BOUND = 30,      /* what coordinators add to the send time */
-    DELAY_LEAST = 3, /* of the network */
-    DELAY_MOST = 22,
-    DELAY_SLOW = 45,   /* on top, for one message in twenty */
-    NOTICE_TIME = 90,  /* until the manager notices a silent leader */
-    SETTLE_TIME = 150, /* from the coordinators' end until the manager looks at the full logs */
-    WATCH_TIME = 320   /* until the manager gives a view up */
-};
+/* Times are milliseconds: between two ticks of a site; what coordinators add to the send time; of the network, with the
+ * last on top for one message in twenty. */
+enum { TICK_TIME = 20, BOUND = 30, DELAY_LEAST = 3, DELAY_MOST = 22, DELAY_SLOW = 45 };
+
+/* Until the manager notices a silent leader; from the coordinators' end until it looks at the full logs; until it gives
+ * a view up. */
+enum { NOTICE_TIME = 90, SETTLE_TIME = 150, WATCH_TIME = 320 };
 
 /* What the protocol sends once and cannot do without is sent again: so many times, and each time after so long. */
 static const struct {
@@ -265,16 +261,15 @@ static void send_out(letter *sent, bool again)
             send_to(sent, told->to_group == JALLUMERE_OUTSIDE ? NULL : site_of(told->to_group, replica), again);
 }
 
-/* A site sends again while in its view and status of then, the manager in its last view, a coordinator till
- * answered. */
+/* A site sends again while in its view and status of then, the manager in its last view, a coordinator till answered.
+ */
 static void send_again(const event *of)
 {
     const letter *sent = of->carried;
-    const site *own = &sites[sent->from < 0 ? 0 : sent->from];
-    if (sent->from == FROM_COORDINATORS ? !is_answered(sent) && scene != STOPPED
-        : sent->from == FROM_MANAGER
-            ? sent->told.view == planned_view
-            : own->is.view == sent->told.view && own->is.status == sent->status && !own->silent)
+    const site *own = sent->from < 0 ? NULL : &sites[sent->from];
+    bool by_site = own != NULL && !own->silent && own->is.view == sent->told.view && own->is.status == sent->status;
+    bool by_manager = sent->from == FROM_MANAGER && sent->told.view == planned_view;
+    if (by_site || by_manager || (sent->from == FROM_COORDINATORS && !is_answered(sent) && scene != STOPPED))
         send_out(of->carried, true);
 }
 
@@ -300,10 +295,8 @@ static letter *write_letter(const message *made, uint64_t group, uint64_t mask, 
 
 /* ---- what is promised -------------------------------------------------------------------------------- */
 
-/*
- * What is known of a view in a group: its leader's log, as far as it has come; the log that it was rebuilt with, which
- * is its draft or with one group what it starts with; the view that a draft's votes were of; the greatest commit point
- * held.
+/* What is known of a view in a group: its leader's log, as far as it has come; the log that it was rebuilt with, a
+ * draft or with one group what it starts with; the view that a draft's votes were of; the greatest commit point held.
  */
 typedef struct {
     uint8_t *log, *rebuilt; /* tables; NULL before there is one */
@@ -388,8 +381,8 @@ static void check_points(const site *own)
 
 /* ---- a step ------------------------------------------------------------------------------------------ */
 
-/* A reply's entry is the one at its position; a fast one's digest is that of the log so far, not placed of all of
- * it. */
+/* A reply's entry is the one at its position; a fast one's digest is that of the log so far, not placed of all of it.
+ */
 static void check_reply(const site *own, const message *reply)
 {
     const uint8_t *log = own->state + at.log + 4;
