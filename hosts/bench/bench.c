@@ -236,12 +236,9 @@ static void put_letter(const cell *now)
     made.views = views;
     made.to_group = 0;
     made.to_mask = of->leads || of->elsewhere ? 1 : 2;
-    if (has->path == INSIDE) {
-        made.from_group = kind == JALLUMERE_VERIFY_REQUEST ? 1 : has->sender == OTHER_LEADER ? now->at.s - 1 : 0;
-        made.from_replica = kind == JALLUMERE_VOTE          ? now->at.n - 1
-                            : kind != JALLUMERE_SYNC_STATUS ? 0
-                            : of->leads                     ? 1
-                                                            : 2;
+    if (has->path == INSIDE) { /* from the leader, or from the last of the other groups or replicas */
+        made.from_group = has->sender == OTHER_LEADER ? now->at.s - 1 : 0;
+        made.from_replica = has->sender == OTHER_REPLICA ? now->at.n - 1 : 0;
     }
     made.view = !has->has_views ? 0 : of->view == 0 ? OWN_VIEW : of->view;
     made.numbers[0] = kind == JALLUMERE_TRANSACTION      ? 10 * now->at.c
