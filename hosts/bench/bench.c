@@ -137,10 +137,7 @@ static size_t letter_length;
 enum { OWN = -1 }; /* entries as this site has them, not another */
 
 /* Timestamps rise by tens; two of eight entries share one and stand there against the order. */
-static uint64_t time_of(uint64_t position)
-{
-    return 10 * (position + (position % 8 == 7 ? 0 : 1));
-}
+static uint64_t time_of(uint64_t position) { return 10 * (position + (position % 8 == 7 ? 0 : 1)); }
 
 /*
  * A count and so many entries from a position on; they are the same in every log here, in every group. As another site

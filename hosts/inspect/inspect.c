@@ -27,10 +27,7 @@ static layout at;
 /* ---- the report -------------------------------------------------------------------------------------- */
 
 /* A table's count, or 0 for one that is past C, so that what follows can go on. */
-static uint64_t count_within(const uint8_t *table)
-{
-    return load(table, 4) <= at.c ? load(table, 4) : 0;
-}
+static uint64_t count_within(const uint8_t *table) { return load(table, 4) <= at.c ? load(table, 4) : 0; }
 
 /* The groups of a mask, in a column as wide as all that there are. */
 static void print_groups(uint64_t mask)

@@ -110,21 +110,12 @@ static enum { CALM, SILENCE, RETURN, REUNITED, FILLING, STOPPED } scene;
 static unsigned act, acts, planned_view;
 static uint8_t planned_views[4 * GROUPS_MOST];
 
-static site *site_of(uint64_t group, uint64_t replica)
-{
-    return &sites[group * at.n + replica];
-}
+static site *site_of(uint64_t group, uint64_t replica) { return &sites[group * at.n + replica]; }
 
 /* The site that leads a group in the planned view. */
-static site *planned_leader(uint64_t group)
-{
-    return site_of(group, leader_of(planned_views, group, at.n));
-}
+static site *planned_leader(uint64_t group) { return site_of(group, leader_of(planned_views, group, at.n)); }
 
-static int place_of(const site *own)
-{
-    return own == NULL ? -1 : (int)(own - sites);
-}
+static int place_of(const site *own) { return own == NULL ? -1 : (int)(own - sites); }
 
 static bool is_answered(const letter *transaction)
 {
@@ -158,19 +149,6 @@ static void put_entries(const uint8_t *entries, uint64_t first, uint64_t count)
         put("%s[%ju,%ju,%ju,%ju]", i == first ? "" : ",", read.timestamp, read.coordinator, read.request, read.mask);
     }
     put("]],\n");
-}
-
-static void put_letter(const letter *sent)
-{
-    const message *told = &sent->told;
-    put("[\"m\",%ju,%d,%ju,[", told->kind, sent->from, told->view);
-    for (uint64_t i = 0; i < told->number_count; i++)
-        put("%s\"%ju\"", i == 0 ? "" : ",", told->numbers[i]);
-    put("],[");
-    for (uint64_t i = 0; i < told->view_count; i++)
-        put("%s%ju", i == 0 ? "" : ",", load(told->views + 4 * i, 4));
-    put("],%ju,[", told->count);
-    put_entries(told->entries, told->count > SHOWN_ENTRIES ? told->count - SHOWN_ENTRIES : 0, told->count);
 }
 
 enum fate { ARRIVED, LOST, UNHEARD };
@@ -220,16 +198,25 @@ static void fails(const site *of, const char *format, ...)
 
 static void deliver(const event *of);
 
+/* Keeps what is sent, and shows it on the page with the last of its entries. */
 static letter *keep_letter(const uint8_t *bytes, size_t length, int from)
 {
     letter *kept = memory(sizeof *kept);
+    const message *told = &kept->told;
     *kept = (letter){.bytes = memory(length), .length = length, .number = letter_count++, .from = from};
     kept->status = from < 0 ? 0 : sites[from].is.status;
     memcpy(kept->bytes, bytes, length);
     promise(take_apart(kept->bytes, length, &kept->told), from < 0 ? NULL : &sites[from],
             "a message of kind %u has other counts than its length", bytes[0]);
-    sent_counts[kept->told.kind]++;
-    put_letter(kept);
+    sent_counts[told->kind]++;
+    put("[\"m\",%ju,%d,%ju,[", told->kind, from, told->view);
+    for (uint64_t i = 0; i < told->number_count; i++)
+        put("%s\"%ju\"", i == 0 ? "" : ",", told->numbers[i]);
+    put("],[");
+    for (uint64_t i = 0; i < told->view_count; i++)
+        put("%s%ju", i == 0 ? "" : ",", load(told->views + 4 * i, 4));
+    put("],%ju,[", told->count);
+    put_entries(told->entries, told->count > SHOWN_ENTRIES ? told->count - SHOWN_ENTRIES : 0, told->count);
     return kept;
 }
 
