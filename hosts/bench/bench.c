@@ -148,13 +148,10 @@ static void put_entries(const cell *now, uint8_t *table, uint64_t first, uint64_
     uint64_t kept = 0;
     for (uint64_t i = first; i < first + count; i++) {
         bool apart = other != OWN && i >= now->filled / 2;
+        uint64_t delay = apart && i % 4 == 0 && other % 2 == 1 ? 5 : 0, command = i * UINT64_C(0x9e3779b97f4a7c15);
+        entry made = {time_of(i) + delay, command, i + 1, 3 - i % 4, bit(now->at.s) - 1};
         if (!apart || (i + (unsigned)other) % 4 != 3)
-            write_entry(table + entry_place(kept++),
-                        (entry){.timestamp = time_of(i) + (apart && i % 4 == 0 && other % 2 == 1 ? 5 : 0),
-                                .command = i * UINT64_C(0x9e3779b97f4a7c15),
-                                .request = i + 1,
-                                .coordinator = 3 - i % 4,
-                                .mask = bit(now->at.s) - 1});
+            write_entry(table + entry_place(kept++), made);
     }
     store(table, kept, 4);
 }
@@ -298,10 +295,10 @@ static void measure(cell *now)
 {
     size_t count = COPIES_BYTES / now->at.length;
     uint64_t answers[2] = {0, 0};
-    double begin = thread_time();
     count = count < 1 ? 1 : count > COPIES_MOST ? COPIES_MOST : count;
     put_state(now);
     put_letter(now);
+    double begin = thread_time();
     for (uint64_t turn = 0; turn < turns; turn++) {
         for (int side = 0; side < 2; side++) {
             double taken = time_side(now, side, count, &answers[side]);

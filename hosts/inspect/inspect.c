@@ -96,12 +96,11 @@ static void print_notes(void)
 
 static void print_head(void)
 {
+    const char *role = state_leads(&at, state) ? ", leader of its group" : ", follower";
     printf("%-14s %ju sites in a group, %ju group%s, capacity %ju, %zu bytes\n", "shape", at.n, at.s,
            at.s == 1 ? "" : "s", at.c, at.length);
     printf("%-14s group %u, replica %u%s\n", "site", state[AT_GROUP], state[AT_REPLICA],
-           state_leads(&at, state)  ? ", leader of its group"
-           : state[AT_GROUP] < at.s ? ", follower"
-                                    : "");
+           state[AT_GROUP] < at.s ? role : "");
     printf("%-14s %u, %s\n", "status", state[AT_STATUS], status_name(state[AT_STATUS]));
     printf("%-14s %ju, last normal in %ju\n", "gView", load(state + AT_VIEW, 4), load(state + AT_LAST_NORMAL, 4));
     for (uint64_t group = 0; group < at.s; group++)

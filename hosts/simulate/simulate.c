@@ -92,7 +92,7 @@ typedef struct event {
     unsigned at, sent_at;
     void (*happen)(const struct event *);
     site *to; /* NULL for a coordinator */
-    letter *carried;
+    letter *sent;
     unsigned view;
     bool again;
 } event;
@@ -156,7 +156,7 @@ enum fate { ARRIVED, LOST, UNHEARD };
 /* One way of one letter to one site; the answer is -1 where there is none. */
 static void put_way(const event *of, enum fate fate, int answer)
 {
-    put("[\"x\",%zu,%d,%u,%u,%d,%d,%d],\n", of->carried->number, place_of(of->to), of->sent_at, of->at, fate, of->again,
+    put("[\"x\",%zu,%d,%u,%u,%d,%d,%d],\n", of->sent->number, place_of(of->to), of->sent_at, of->at, fate, of->again,
         answer);
 }
 
@@ -223,7 +223,7 @@ static letter *keep_letter(const uint8_t *bytes, size_t length, int from)
 /* Sends a letter to one site, or for NULL to its coordinator. */
 static void send_to(letter *sent, site *to, bool again)
 {
-    event way = {.happen = deliver, .to = to, .carried = sent, .sent_at = now, .again = again};
+    event way = {.happen = deliver, .to = to, .sent = sent, .sent_at = now, .again = again};
     way.at = now + DELAY_LEAST + (unsigned)below(DELAY_MOST - DELAY_LEAST);
     if (below(20) == 0)
         way.at += (unsigned)below(DELAY_SLOW);
@@ -252,19 +252,19 @@ static void send_out(letter *sent, bool again)
  */
 static void send_again(const event *of)
 {
-    const letter *sent = of->carried;
+    const letter *sent = of->sent;
     const site *own = sent->from < 0 ? NULL : &sites[sent->from];
     bool by_site = own != NULL && !own->silent && own->is.view == sent->told.view && own->is.status == sent->status;
     bool by_manager = sent->from == FROM_MANAGER && sent->told.view == planned_view;
     if (by_site || by_manager || (sent->from == FROM_COORDINATORS && !is_answered(sent) && scene != STOPPED))
-        send_out(of->carried, true);
+        send_out(of->sent, true);
 }
 
 static void send_first(letter *sent)
 {
     send_out(sent, false);
     for (unsigned i = 1; i <= resends[sent->told.kind].times; i++)
-        plan((event){.at = now + i * resends[sent->told.kind].after, .happen = send_again, .carried = sent});
+        plan((event){.at = now + i * resends[sent->told.kind].after, .happen = send_again, .sent = sent});
 }
 
 /* A message from outside to some replicas of a group, written by the core's writer. */
@@ -637,11 +637,11 @@ static void hear_reply(const message *told)
 static void deliver(const event *of)
 {
     if (of->to == NULL)
-        hear_reply(&of->carried->told);
+        hear_reply(&of->sent->told);
     if (of->to != NULL && of->to->silent)
         put_way(of, UNHEARD, -1);
     else
-        put_way(of, ARRIVED, of->to == NULL ? 0 : (int)take_step(of->to, of->carried));
+        put_way(of, ARRIVED, of->to == NULL ? 0 : (int)take_step(of->to, of->sent));
 }
 
 /* ---- the end ----------------------------------------------------------------------------------------- */
@@ -695,8 +695,7 @@ static void print_log(const site *own)
 static void print_summary(void)
 {
     unsigned committed = 0, unanswered = 0;
-    printf(
-        "\nThe logs at the end: transaction@timestamp; | is the commit point, / the sync point where it is another\n");
+    puts("\nThe logs at the end: transaction@timestamp; | is the commit point, / the sync point where it is another");
     for (const site *each = sites; each < sites_end; each++)
         print_log(each);
     for (const letter *each = asked; each != NULL; each = each->last)
