@@ -172,33 +172,25 @@ static void print_verdict(bool good)
 
 /* ---- the shape --------------------------------------------------------------------------------------- */
 
-/* The shapes that the state may have: the one that was given, or all that have its length. */
-static size_t find_shapes(size_t length, layout *shapes)
-{
-    size_t found = 0;
-    if (asked_n != 0) {
-        shapes[0] = lay_out(asked_n, asked_s, asked_c);
-        if (shapes[0].length == 0)
-            stop("no such shape: sites are 3, 5 or 7, groups 1 to 8, capacity 16 to 4096");
-        if (shapes[0].length != length)
-            stop("a state of this shape has %zu bytes, this file has %zu", shapes[0].length, length);
-        return 1;
-    }
-    for (uint64_t n = 3; n <= REPLICAS_MOST; n += 2)
-        for (uint64_t s = 1; s <= GROUPS_MOST; s++)
-            for (uint64_t c = CAPACITY_LEAST; c <= CAPACITY_MOST && lay_out(n, s, c).length <= length; c++)
-                if (lay_out(n, s, c).length == length && found < SHAPES_MOST)
-                    shapes[found++] = lay_out(n, s, c);
-    if (found == 0)
-        stop("no shape has states of %zu bytes: this file is no state, or was cut", length);
-    return found;
-}
-
-/* Takes the first shape in which the state is good, or else the first, and tells of the others; whether it is good. */
+/* Takes the first shape of this length in which the state is good, or else the first, and tells of the others. */
 static bool take_shape(size_t length)
 {
     static layout shapes[SHAPES_MOST];
-    size_t found = find_shapes(length, shapes), taken = 0;
+    const layout asked = lay_out(asked_n, asked_s, asked_c);
+    size_t found = 0, taken = 0;
+    for (uint64_t n = 3; n <= REPLICAS_MOST; n += 2)
+        for (uint64_t s = 1; s <= GROUPS_MOST; s++)
+            for (uint64_t c = CAPACITY_LEAST; c <= CAPACITY_MOST && found < SHAPES_MOST; c++) {
+                bool wanted = asked_n == 0 || (n == asked_n && s == asked_s && c == asked_c);
+                if (wanted && lay_out(n, s, c).length == length)
+                    shapes[found++] = lay_out(n, s, c);
+            }
+    if (found == 0 && asked_n == 0)
+        stop("no shape has states of %zu bytes: this file is no state, or was cut", length);
+    if (found == 0 && asked.length == 0)
+        stop("no such shape: sites are 3, 5 or 7, groups 1 to 8, capacity 16 to 4096");
+    if (found == 0)
+        stop("a state of this shape has %zu bytes, this file has %zu", asked.length, length);
     while (taken < found && jallumere_good(SIZES(&shapes[taken]), state, length) != JALLUMERE_DONE)
         taken++;
     at = shapes[taken < found ? taken : 0];

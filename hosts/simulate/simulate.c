@@ -140,15 +140,15 @@ static void plan(event made)
 
 static FILE *page_file; /* NULL where no page is asked for */
 
-#define put(...) (void)(page_file != NULL && fprintf(page_file, __VA_ARGS__))
+#define PUT(...) (void)(page_file != NULL && fprintf(page_file, __VA_ARGS__))
 
 static void put_entries(const uint8_t *entries, uint64_t first, uint64_t count)
 {
     for (uint64_t i = first; i < count; i++) {
         entry read = read_entry(entries + ENTRY_LENGTH * i);
-        put("%s[%ju,%ju,%ju,%ju]", i == first ? "" : ",", read.timestamp, read.coordinator, read.request, read.mask);
+        PUT("%s[%ju,%ju,%ju,%ju]", i == first ? "" : ",", read.timestamp, read.coordinator, read.request, read.mask);
     }
-    put("]],\n");
+    PUT("]],\n");
 }
 
 enum fate { ARRIVED, LOST, UNHEARD };
@@ -156,26 +156,26 @@ enum fate { ARRIVED, LOST, UNHEARD };
 /* One way of one letter to one site; the answer is -1 where there is none. */
 static void put_way(const event *of, enum fate fate, int answer)
 {
-    put("[\"x\",%zu,%d,%u,%u,%d,%d,%d],\n", of->sent->number, place_of(of->to), of->sent_at, of->at, fate, of->again,
+    PUT("[\"x\",%zu,%d,%u,%u,%d,%d,%d],\n", of->sent->number, place_of(of->to), of->sent_at, of->at, fate, of->again,
         answer);
 }
 
 /* One line of the timeline, of a site or of none. */
-static void note(const site *of, const char *format, ...)
+__attribute__((format(printf, 2, 3))) static void note(const site *of, const char *format, ...)
 {
     char text[256], name[16] = "";
     va_list words;
     va_start(words, format);
     vsnprintf(text, sizeof text, format, words);
     va_end(words);
-    put("[\"e\",%u,%d,\"%s\"],\n", now, place_of(of), text);
+    PUT("[\"e\",%u,%d,\"%s\"],\n", now, place_of(of), text);
     if (of != NULL)
         snprintf(name, sizeof name, "g%u.r%u", of->is.group, of->is.replica);
     if (!quiet)
         printf("%6u ms  %-5s  %s\n", now, name, text);
 }
 
-static void fails(const site *of, const char *format, ...)
+__attribute__((format(printf, 2, 3))) _Noreturn static void fails(const site *of, const char *format, ...)
 {
     va_list words;
     fflush(stdout);
@@ -192,7 +192,8 @@ static void fails(const site *of, const char *format, ...)
     exit(1);
 }
 
-#define promise(held, ...) ((held) ? (void)0 : fails(__VA_ARGS__))
+/* The words are looked at only where the promise does not hold. */
+#define PROMISE(held, ...) ((held) ? (void)0 : fails(__VA_ARGS__))
 
 /* ---- the network ------------------------------------------------------------------------------------- */
 
@@ -206,16 +207,16 @@ static letter *keep_letter(const uint8_t *bytes, size_t length, int from)
     *kept = (letter){.bytes = memory(length), .length = length, .number = letter_count++, .from = from};
     kept->status = from < 0 ? 0 : sites[from].is.status;
     memcpy(kept->bytes, bytes, length);
-    promise(take_apart(kept->bytes, length, &kept->told), from < 0 ? NULL : &sites[from],
+    PROMISE(take_apart(kept->bytes, length, &kept->told), from < 0 ? NULL : &sites[from],
             "a message of kind %u has other counts than its length", bytes[0]);
     sent_counts[told->kind]++;
-    put("[\"m\",%ju,%d,%ju,[", told->kind, from, told->view);
+    PUT("[\"m\",%ju,%d,%ju,[", told->kind, from, told->view);
     for (uint64_t i = 0; i < told->number_count; i++)
-        put("%s\"%ju\"", i == 0 ? "" : ",", told->numbers[i]);
-    put("],[");
+        PUT("%s\"%ju\"", i == 0 ? "" : ",", told->numbers[i]);
+    PUT("],[");
     for (uint64_t i = 0; i < told->view_count; i++)
-        put("%s%ju", i == 0 ? "" : ",", load(told->views + 4 * i, 4));
-    put("],%ju,[", told->count);
+        PUT("%s%ju", i == 0 ? "" : ",", load(told->views + 4 * i, 4));
+    PUT("],%ju,[", told->count);
     put_entries(told->entries, told->count > SHOWN_ENTRIES ? told->count - SHOWN_ENTRIES : 0, told->count);
     return kept;
 }
@@ -275,7 +276,7 @@ static letter *write_letter(const message *made, uint64_t group, uint64_t mask, 
         jallumere_write(at.n, at.s, made->kind, group, mask, JALLUMERE_OUTSIDE, JALLUMERE_OUTSIDE, made->view,
                         made->numbers, forms[made->kind].numbers, made->views, 4 * made->view_count, made->entries,
                         ENTRY_LENGTH * made->count, bytes, sizeof bytes);
-    promise(JALLUMERE_NUMBER(answer) == JALLUMERE_DONE, NULL, "the writer refuses a kind %ju with %u", made->kind,
+    PROMISE(JALLUMERE_NUMBER(answer) == JALLUMERE_DONE, NULL, "the writer refuses a kind %ju with %u", made->kind,
             JALLUMERE_NUMBER(answer));
     return keep_letter(bytes, JALLUMERE_LENGTH(answer), from);
 }
@@ -308,7 +309,7 @@ static void check_rebuilts(const site *own, unsigned base)
         if (views[view].rebuilt == NULL || (groups != 1 && views[view].base != base))
             continue;
         checks_made++;
-        promise(begin_alike(with->log, views[view].rebuilt, with->committed), own,
+        PROMISE(begin_alike(with->log, views[view].rebuilt, with->committed), own,
                 "the %s of view %u does not begin with the %u entries committed in view %u",
                 groups == 1 ? "log at the start" : "rebuilt log", view, with->committed, base);
     }
@@ -340,7 +341,7 @@ static void check_points(const site *own)
 {
     const standing *is = &own->is;
     const uint8_t *log = own->state + at.log;
-    promise(site_of(is->group, is->replica) == own && is->view <= planned_view && is->last_normal <= is->view, own,
+    PROMISE(site_of(is->group, is->replica) == own && is->view <= planned_view && is->last_normal <= is->view, own,
             "it takes itself for g%u.r%u in view %u, normal last in %u", is->group, is->replica, is->view,
             is->last_normal);
     history *view = &histories[is->group][is->last_normal];
@@ -348,15 +349,15 @@ static void check_points(const site *own)
     checks_made += 2;
     if (is->status == JALLUMERE_STATUS_NORMAL && own->leads) {
         view->log = starts ? memory(at.table) : view->log;
-        promise(begin_alike(view->log, log, load(view->log, 4)), own, "the leader's log of view %u did not only grow",
+        PROMISE(begin_alike(view->log, log, load(view->log, 4)), own, "the leader's log of view %u did not only grow",
                 is->last_normal);
         write_table(view->log, log + 4, is->logged);
         if (starts && groups == 1)
             keep_rebuilt(own, log);
     }
-    promise(begin_alike(view->log, log, is->sync), own,
+    PROMISE(begin_alike(view->log, log, is->sync), own,
             "its log up to the sync point %u is not the leader's of view %u", is->sync, is->last_normal);
-    promise(reached_by(is->group, is->commit) >= majority_of(at.n), own,
+    PROMISE(reached_by(is->group, is->commit) >= majority_of(at.n), own,
             "its commit point %u has been reached by %u of %ju sites alone", is->commit,
             reached_by(is->group, is->commit), at.n);
     if (is->commit > view->committed) {
@@ -376,10 +377,10 @@ static void check_reply(const site *own, const message *reply)
     bool fast = reply->kind == JALLUMERE_FAST_REPLY, placed = !fast || reply->numbers[0] == 1;
     uint64_t position = placed ? reply->numbers[fast ? 1 : 0] : own->is.logged;
     size_t length = ENTRY_LENGTH * (size_t)position;
-    promise(position <= own->is.logged && (!placed || position != 0) &&
+    PROMISE(position <= own->is.logged && (!placed || position != 0) &&
                 (!placed || memcmp(log + length - ENTRY_LENGTH, reply->entries, ENTRY_LENGTH) == 0),
             own, "a reply is for position %ju, where its log has another entry", position);
-    promise(!fast || (reply->numbers[2] == model_digest(JALLUMERE_DIGEST_START, log, length) &&
+    PROMISE(!fast || (reply->numbers[2] == model_digest(JALLUMERE_DIGEST_START, log, length) &&
                       reply->numbers[2] == jallumere_digest(JALLUMERE_DIGEST_START, log, length)),
             own, "a fast reply's digest is not that of its log up to position %ju", position);
 }
@@ -388,12 +389,12 @@ static void take_outgoing(const site *own, size_t length)
 {
     for (size_t reach = 0, first; reach < length; reach += first) {
         first = (size_t)jallumere_message_length(at.n, at.s, outgoing + reach, length - reach);
-        promise(first != 0, own, "the outgoing bytes are no row of messages from byte %zu on", reach);
-        promise(jallumere_read(at.n, at.s, outgoing + reach, first) == 0, own,
+        PROMISE(first != 0, own, "the outgoing bytes are no row of messages from byte %zu on", reach);
+        PROMISE(jallumere_read(at.n, at.s, outgoing + reach, first) == 0, own,
                 "it sent a message of kind %u that is not well formed", outgoing[reach]);
         letter *sent = keep_letter(outgoing + reach, first, place_of(own));
         const message *told = &sent->told;
-        promise(told->from_group == own->is.group && told->from_replica == own->is.replica, own,
+        PROMISE(told->from_group == own->is.group && told->from_replica == own->is.replica, own,
                 "it sent a message in another's name");
         if (told->kind == JALLUMERE_FAST_REPLY || told->kind == JALLUMERE_SLOW_REPLY)
             check_reply(own, told);
@@ -428,12 +429,12 @@ static void tell(const site *own, const message *told)
 static void check_refusal(site *own, const message *told, unsigned refusal)
 {
     bool tick = told->kind == JALLUMERE_TICK;
-    promise(refusal != JALLUMERE_WRONG_STATE && refusal != JALLUMERE_MALFORMED && refusal != JALLUMERE_NO_ROOM, own,
+    PROMISE(refusal != JALLUMERE_WRONG_STATE && refusal != JALLUMERE_MALFORMED && refusal != JALLUMERE_NO_ROOM, own,
             "refusal %u (%s) for a kind %ju", refusal, answer_name(refusal), told->kind);
-    promise(memcmp(before, own->state, at.length) == 0, own, "a refusal changed its state");
+    PROMISE(memcmp(before, own->state, at.length) == 0, own, "a refusal changed its state");
     if (refusal != JALLUMERE_FULL)
         return;
-    promise(!tick || load(own->state + at.log, 4) == at.c, own, "refusal 8 for a tick, with room in its log");
+    PROMISE(!tick || load(own->state + at.log, 4) == at.c, own, "refusal 8 for a tick, with room in its log");
     if (!tick)
         note(own, "has no room for what a %s brings: refusal 8", kind_name(told->kind));
     else if (!own->full)
@@ -446,11 +447,11 @@ static void check_refusal(site *own, const message *told, unsigned refusal)
 static void check_done(site *own, const message *told)
 {
     own->was = own->is;
-    promise(jallumere_good(SIZES(&at), own->state, at.length) == 0, own, "its state is not good after a kind %ju",
+    PROMISE(jallumere_good(SIZES(&at), own->state, at.length) == 0, own, "its state is not good after a kind %ju",
             told->kind);
     for (uint64_t field = 1; field <= JALLUMERE_FIELD_LEADER + 1; field++) {
         uint64_t says = jallumere_field(SIZES(&at), field, own->state, at.length);
-        promise(says == model_field(SIZES(&at), field, own->state, at.length), own,
+        PROMISE(says == model_field(SIZES(&at), field, own->state, at.length), own,
                 "the reader of field %ju does not say what stands in its state", field);
         if (field <= JALLUMERE_FIELD_LEADER)
             own->is.fields[field - 1] = (unsigned)says;
@@ -472,16 +473,16 @@ static unsigned take_step(site *own, const letter *taken)
     unsigned refusal = JALLUMERE_NUMBER(answer);
     size_t length = JALLUMERE_LENGTH(answer);
     step_count++;
-    promise(refusal < ANSWERS && length <= outgoing_room && (refusal == JALLUMERE_DONE || length == 0), own,
+    PROMISE(refusal < ANSWERS && length <= outgoing_room && (refusal == JALLUMERE_DONE || length == 0), own,
             "the step answers %ju", answer);
-    promise(memcmp(outgoing + length, outgoing_before + length, outgoing_room - length) == 0, own,
+    PROMISE(memcmp(outgoing + length, outgoing_before + length, outgoing_room - length) == 0, own,
             "the step wrote past what it sends");
     answers[refusal]++;
     if (refusal == JALLUMERE_DONE)
         check_done(own, &taken->told);
     else
         check_refusal(own, &taken->told, refusal);
-    put("[\"p\",%u,%d,%zu,%u,%u,%u,%u,%u,%u,%ju,%ju,%d,%zu],\n", now, place_of(own), taken->number, refusal, is->status,
+    PUT("[\"p\",%u,%d,%zu,%u,%u,%u,%u,%u,%u,%ju,%ju,%d,%zu],\n", now, place_of(own), taken->number, refusal, is->status,
         is->view, is->logged, is->sync, is->commit, load(own->state + at.early, 4), load(own->state + at.late, 4),
         own->leads, length);
     take_outgoing(own, length);
@@ -653,13 +654,13 @@ static void end_page(void)
         if (events[i].happen == deliver)
             put_way(&events[i], ARRIVED, -1);
     for (const site *each = sites; each < sites_end; each++) {
-        put("[\"g\",%d,%u,%u,%d,%u,%u,[", place_of(each), each->is.status, each->is.view, each->leads, each->is.sync,
+        PUT("[\"g\",%d,%u,%u,%d,%u,%u,[", place_of(each), each->is.status, each->is.view, each->leads, each->is.sync,
             each->is.commit);
         put_entries(each->state + at.log + 4, 0, each->is.logged);
     }
-    put("{\"n\":%ju,\"s\":%ju,\"c\":%ju,\"seed\":%ju,\"loss\":%ju,\"steps\":%u,\"end\":%u}]\n", SIZES(&at), seed, loss,
+    PUT("{\"n\":%ju,\"s\":%ju,\"c\":%ju,\"seed\":%ju,\"loss\":%ju,\"steps\":%u,\"end\":%u}]\n", SIZES(&at), seed, loss,
         step_count, now);
-    put("%s", page_tail);
+    PUT("%s", page_tail);
     if (ferror(page_file) != 0 || fclose(page_file) != 0)
         stop("'%s' cannot be written", page_path);
     printf("\nthe run as a page: %s\n", page_path);
@@ -735,7 +736,7 @@ static void start_all(void)
     seed_chance(seed * UINT64_C(0x2545f4914f6cdd1d) + 1);
     if (jallumere_version() != JALLUMERE_VERSION)
         stop("the core's interface has version %ju, the header %u", jallumere_version(), JALLUMERE_VERSION);
-    promise(jallumere_state_length(SIZES(&at)) == at.length, NULL,
+    PROMISE(jallumere_state_length(SIZES(&at)) == at.length, NULL,
             "the core says %ju bytes for a state, the documents %zu", jallumere_state_length(SIZES(&at)), at.length);
     outgoing_room = ample_room(&at);
     before = memory(at.length);
@@ -745,7 +746,7 @@ static void start_all(void)
         site *own = sites_end;
         own->skew = (unsigned)below(4);
         own->state = memset(memory(at.length), 0xa5, at.length);
-        promise(jallumere_start(SIZES(&at), (own - sites) / at.n, (own - sites) % at.n, own->state, at.length) == 0,
+        PROMISE(jallumere_start(SIZES(&at), (own - sites) / at.n, (own - sites) % at.n, own->state, at.length) == 0,
                 own, "it cannot be started");
         check_done(own, &(message){0});
         plan((event){.at = 1 + (unsigned)below(TICK_TIME), .happen = tick, .to = own});
@@ -760,7 +761,7 @@ int main(int count, char **words)
         stop("--sites takes 3, 5 or 7");
     if (page_path != NULL && (page_file = fopen(page_path, "w")) == NULL)
         stop("'%s' cannot be written", page_path);
-    put("%s", page_head);
+    PUT("%s", page_head);
     if (jallumere_is_model() != 0)
         printf("This runs on the C model of hosts/model, not on the proved core.\n");
     start_all();
