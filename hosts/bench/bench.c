@@ -265,19 +265,6 @@ static double thread_time(void)
     return 1e9 * (double)time.tv_sec + (double)time.tv_nsec;
 }
 
-static double time_side(const cell *now, int side, size_t count, uint64_t *answer)
-{
-    size_t length = now->at.length, lent = length - now->of->state_cut;
-    size_t room = now->of->no_room ? 0 : ample_room(&now->at);
-    for (size_t i = 0; i < count; i++)
-        memcpy(copies[side] + length * i, state, length);
-    double before = thread_time();
-    for (size_t i = 0; i < count; i++)
-        *answer = steps[side](SIZES(&now->at), copies[side] + length * i, lent, letter, letter_length, out[side], room);
-    double taken = thread_time() - before - clock_time;
-    return (taken < 1 ? 1 : taken) / (double)count;
-}
-
 static void check_same(const cell *now, const uint64_t answers[2])
 {
     bool same = answers[0] == answers[1] && memcmp(copies[0], copies[1], now->at.length) == 0 &&
@@ -290,10 +277,11 @@ static void check_same(const cell *now, const uint64_t answers[2])
     exit(1);
 }
 
-/* Turns of both sides; a cell keeps the best of this pass and those before. */
+/* Turns of both sides, each over as many copies of the state; a cell keeps the best of this pass and those before. */
 static void measure(cell *now)
 {
-    size_t count = COPIES_BYTES / now->at.length;
+    size_t length = now->at.length, lent = length - now->of->state_cut, count = COPIES_BYTES / length;
+    size_t room = now->of->no_room ? 0 : ample_room(&now->at);
     uint64_t answers[2] = {0, 0};
     count = count < 1 ? 1 : count > COPIES_MOST ? COPIES_MOST : count;
     put_state(now);
@@ -301,7 +289,13 @@ static void measure(cell *now)
     double begin = thread_time();
     for (uint64_t turn = 0; turn < turns; turn++) {
         for (int side = 0; side < 2; side++) {
-            double taken = time_side(now, side, count, &answers[side]);
+            for (size_t i = 0; i < count; i++)
+                memcpy(copies[side] + length * i, state, length);
+            double before = thread_time();
+            for (uint8_t *own = copies[side]; own < copies[side] + length * count; own += length)
+                answers[side] = steps[side](SIZES(&now->at), own, lent, letter, letter_length, out[side], room);
+            double taken = thread_time() - before - clock_time;
+            taken = (taken < 1 ? 1 : taken) / (double)count;
             if (now->best[side] == 0 || taken < now->best[side])
                 now->best[side] = taken;
         }

@@ -221,32 +221,27 @@ static letter *keep_letter(const uint8_t *bytes, size_t length, int from)
     return kept;
 }
 
-/* Sends a letter to one site, or for NULL to its coordinator. */
-static void send_to(letter *sent, site *to, bool again)
-{
-    event way = {.happen = deliver, .to = to, .sent = sent, .sent_at = now, .again = again};
-    way.at = now + DELAY_LEAST + (unsigned)below(DELAY_MOST - DELAY_LEAST);
-    if (below(20) == 0)
-        way.at += (unsigned)below(DELAY_SLOW);
-    bool lost = chance(loss);
-    lost_count += lost;
-    if (lost)
-        put_way(&way, LOST, -1);
-    else
-        plan(way);
-    if (again || !chance(repeats))
-        return;
-    again_count++;
-    send_to(sent, to, true);
-}
-
-/* To every site that the header names; its mask has one bit for what goes to a coordinator. */
+/* To every site that the header names, or to the coordinator, for which its mask has one bit. A way may be lost, and
+ * what is sent first may go twice. */
 static void send_out(letter *sent, bool again)
 {
-    const message *told = &sent->told;
-    for (uint64_t replica = 0; replica < at.n; replica++)
-        if (holds(told->to_mask, replica))
-            send_to(sent, told->to_group == JALLUMERE_OUTSIDE ? NULL : site_of(told->to_group, replica), again);
+    uint64_t group = sent->told.to_group;
+    for (uint64_t replica = 0; replica < at.n; replica++) {
+        event way = {.happen = deliver, .sent = sent, .sent_at = now, .again = again};
+        way.to = group == JALLUMERE_OUTSIDE ? NULL : site_of(group, replica);
+        for (bool goes = holds(sent->told.to_mask, replica); goes; way.again = true) {
+            way.at = now + DELAY_LEAST + (unsigned)below(DELAY_MOST - DELAY_LEAST);
+            way.at += below(20) == 0 ? (unsigned)below(DELAY_SLOW) : 0;
+            bool lost = chance(loss);
+            lost_count += lost;
+            if (lost)
+                put_way(&way, LOST, -1);
+            else
+                plan(way);
+            goes = !way.again && chance(repeats);
+            again_count += goes;
+        }
+    }
 }
 
 /* A site sends again while in its view and status of then, the manager in its last view, a coordinator till answered.
