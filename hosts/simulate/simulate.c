@@ -619,25 +619,23 @@ static void follow_plot(void)
     }
 }
 
-/* A coordinator hears a slow reply, or a fast one of the leader that has placed the transaction. */
-static void hear_reply(const message *told)
+/* A site takes a step; a coordinator hears a slow reply, or a fast one of the leader that has placed the transaction.
+ */
+static void deliver(const event *of)
 {
+    const message *told = &of->sent->told;
+    if (of->to != NULL) {
+        bool silent = of->to->silent;
+        put_way(of, silent ? UNHEARD : ARRIVED, silent ? -1 : (int)take_step(of->to, of->sent));
+        return;
+    }
     bool leads = told->from_replica == leader_of(told->views, told->from_group, at.n);
     bool placed = told->kind == JALLUMERE_SLOW_REPLY || (leads && told->numbers[0] == 1);
     for (letter *each = asked; each != NULL && placed; each = each->last)
         if (each->told.to_group == told->from_group &&
             memcmp(each->told.entries + AT_TRANSACTION, told->entries + AT_TRANSACTION, TRANSACTION_LENGTH) == 0)
             each->placed |= 1u << told->from_replica;
-}
-
-static void deliver(const event *of)
-{
-    if (of->to == NULL)
-        hear_reply(&of->sent->told);
-    if (of->to != NULL && of->to->silent)
-        put_way(of, UNHEARD, -1);
-    else
-        put_way(of, ARRIVED, of->to == NULL ? 0 : (int)take_step(of->to, of->sent));
+    put_way(of, ARRIVED, 0);
 }
 
 /* ---- the end ----------------------------------------------------------------------------------------- */
