@@ -38,7 +38,8 @@ static void stop(const char *words)
 
 static uint64_t digest_of(const struct site *own)
 {
-    return jallumere_digest(jallumere_digest(JALLUMERE_DIGEST_START, own->state, own->state_length), own->out, own->sent);
+    uint64_t of_state = jallumere_digest(JALLUMERE_DIGEST_START, own->state, own->state_length);
+    return jallumere_digest(of_state, own->out, own->sent);
 }
 
 /* After this the site's new state outlives a loss of power; before it, the old one does. */
@@ -86,29 +87,24 @@ static void begin(struct site *own, uint64_t group, uint64_t replica)
     persist(own);
 }
 
-/* Writes the messages of the last step that go to coordinators, or those that go to sites. */
-static void put_messages(const struct site *own, int to_coordinators, FILE *to)
-{
-    size_t length;
-    for (size_t at = 0; at < own->sent; at += length) {
-        length = (size_t)jallumere_message_length(N, S, own->out + at, own->sent - at);
-        if (length == 0)
-            stop("the core sent bytes that are no message");
-        if ((own->out[at + 1] == JALLUMERE_OUTSIDE) == to_coordinators)
-            fwrite(own->out + at, 1, length, to);
-    }
-    if (fflush(to) != 0 || ferror(to))
-        stop("a message cannot be written; it will be when the host starts again");
-}
-
+/* Writes the messages of the last step: first those that go to sites, then those that go to coordinators. */
 static void send_and_reply(const struct site *own)
 {
-    put_messages(own, 0, stdout);
-    FILE *replies = fopen("replies", "ab");
-    if (replies == NULL)
+    FILE *const to[] = {stdout, fopen("replies", "ab")};
+    if (to[1] == NULL)
         stop("replies cannot be written");
-    put_messages(own, 1, replies);
-    fclose(replies);
+    for (int outside = 0; outside < 2; outside++) {
+        for (size_t at = 0, length; at < own->sent; at += length) {
+            length = (size_t)jallumere_message_length(N, S, own->out + at, own->sent - at);
+            if (length == 0)
+                stop("the core sent bytes that are no message");
+            if ((own->out[at + 1] == JALLUMERE_OUTSIDE) == outside)
+                fwrite(own->out + at, 1, length, to[outside]);
+        }
+        if (fflush(to[outside]) != 0 || ferror(to[outside]))
+            stop("a message cannot be written; it will be when the host starts again");
+    }
+    fclose(to[1]);
 }
 
 /* What is applied lives in memory here, so it is applied again from the first entry when the host starts. */
