@@ -1,21 +1,15 @@
-/*
- * What a step costs: core against model, for each kind that a site handles, at capacities 16, 256 and 4,096, with logs
+/* What a step costs: core against model, for each kind that a site handles, at capacities 16, 256 and 4,096, with logs
  * from empty to full, for the smallest and the largest shape (n = 3, S = 1 and n = 7, S = 8). The figures go to the
  * standard output as lines of CSV, of which ./jallumere bench has tables or a drawing made (--help lists the options).
  *
  * Each cell is one state and one message. Both sides step copies of that state, turn by turn, in three passes over
  * all cells; the copies are restored outside of the timed part, and the best of all turns counts. The answers, the
- * next states and the outgoing bytes are compared on the way, and each answer is the one that its row names.
- */
+ * next states and the outgoing bytes are compared on the way, and each answer is the one that its row names. */
 #define _POSIX_C_SOURCE 200809L
 
 #include "../common/host.h"
 #include "../common/messages.h"
 #include "../model/model.h"
-
-#include <stdio.h>
-#include <stdlib.h>
-#include <time.h>
 
 enum { COPIES_MOST = 64, COPIES_BYTES = 1 << 20, PASSES = 3, TURNS_LEAST = 2, SHAPES = 2, CAPACITIES = 3, FILLS = 5 };
 enum { OWN_VIEW = 2 }; /* of every state here, after view 1 */
@@ -40,10 +34,8 @@ enum amount { NONE, ONE, EIGHTH, TABLE, HALF_GROUPS, OTHER_GROUPS, GROUPS, MINOR
 /* Which entry a message of kind 1 or 3 names. */
 enum named { NEW, FIRST_EARLY, LAST_EARLY };
 
-/*
- * A state and a message. The state is in view 2, normal and a follower's where the row says nothing else. With
- * kinds 4 and 23 the early entries are those that follow the log, else later ones.
- */
+/* A state and a message. The state is in view 2, normal and a follower's where the row says nothing else. With
+ * kinds 4 and 23 the early entries are those that follow the log, else later ones. */
 typedef struct {
     uint8_t kind;
     const char *name;
@@ -108,16 +100,14 @@ typedef struct {
 static cell cells[SHAPES * ROWS * CAPACITIES * FILLS];
 static size_t cell_count;
 
-static uint64_t amount_of(enum amount amount, const layout *at)
-{
+static uint64_t amount_of(enum amount amount, const layout *at) {
     const uint64_t n = at->n, s = at->s, c = at->c;
     const uint64_t amounts[] = {0, 1, c / 8, c, (s + 1) / 2, s - 1, s, majority_of(n) - 1, s / 2 - 1, s - 2};
     return amounts[amount];
 }
 
 /* The cell of a row, but for those that cannot happen: with one group alone nothing comes from another. */
-static void add_cell(const row *of, const uint64_t shape[2], uint64_t capacity, unsigned fill)
-{
+static void add_cell(const row *of, const uint64_t shape[2], uint64_t capacity, unsigned fill) {
     cell made = {.of = of, .at = lay_out(shape[0], shape[1], capacity), .fill = fill_names[fill], .answer = of->answer};
     uint64_t added = amount_of(of->adds, &made.at);
     made.filled = capacity * sixteenths[fill] / 16;
@@ -139,12 +129,9 @@ enum { OWN = -1 }; /* entries as this site has them, not another */
 /* Timestamps rise by tens; two of eight entries share one and stand there against the order. */
 static uint64_t time_of(uint64_t position) { return 10 * (position + (position % 8 == 7 ? 0 : 1)); }
 
-/*
- * A count and so many entries from a position on; they are the same in every log here, in every group. As another site
- * or group has them, some are missing past the half of the log, and some are later.
- */
-static void put_entries(const cell *now, uint8_t *table, uint64_t first, uint64_t count, int other)
-{
+/* A count and so many entries from a position on; they are the same in every log here, in every group. As another site
+ * or group has them, some are missing past the half of the log, and some are later. */
+static void put_entries(const cell *now, uint8_t *table, uint64_t first, uint64_t count, int other) {
     uint64_t kept = 0;
     for (uint64_t i = first; i < first + count; i++) {
         bool apart = other != OWN && i >= now->filled / 2;
@@ -157,8 +144,7 @@ static void put_entries(const cell *now, uint8_t *table, uint64_t first, uint64_
 }
 
 /* Early entries, at a leader with their notes of the first so many groups. */
-static void put_early(const cell *now, uint64_t count, uint64_t held)
-{
+static void put_early(const cell *now, uint64_t count, uint64_t held) {
     const row *of = now->of;
     bool follow = of->kind == JALLUMERE_REPLICA_SYNC || of->kind == JALLUMERE_TICK;
     uint8_t *early = state + now->at.early;
@@ -174,8 +160,7 @@ static void put_early(const cell *now, uint64_t count, uint64_t held)
 
 /* Every group's leader is replica 0; a follower here is replica 1. In a change of view there are votes of the first
  * replicas, or a draft and replies of the first other groups. */
-static void put_state(const cell *now)
-{
+static void put_state(const cell *now) {
     const row *of = now->of;
     const layout *at = &now->at;
     uint64_t held = amount_of(of->held, at);
@@ -203,8 +188,7 @@ static void put_state(const cell *now)
 }
 
 /* A message's entries behind their count, by its kind; votes and replies are of another site or group. */
-static void put_section(const cell *now, uint8_t *table, int sender)
-{
+static void put_section(const cell *now, uint8_t *table, int sender) {
     const row *of = now->of;
     const uint64_t c = now->at.c, positions[] = {[NEW] = 3 * c, [FIRST_EARLY] = c, [LAST_EARLY] = c + c / 8 - 1};
     if (of->kind == JALLUMERE_VOTE || of->kind == JALLUMERE_VERIFY_REPLY)
@@ -219,8 +203,7 @@ static void put_section(const cell *now, uint8_t *table, int sender)
         store(table + entry_place(0), time_of(c) + 5, 8);
 }
 
-static void put_letter(const cell *now)
-{
+static void put_letter(const cell *now) {
     static const uint8_t views[4 * GROUPS_MOST];
     const row *of = now->of;
     const form *has = &forms[of->kind];
@@ -258,15 +241,13 @@ static uint8_t *copies[2], *out[2];
 static double clock_time;
 
 /* The processor's time of this thread, so that other work on the machine is not counted. */
-static double thread_time(void)
-{
+static double thread_time(void) {
     struct timespec time;
     clock_gettime(CLOCK_THREAD_CPUTIME_ID, &time);
     return 1e9 * (double)time.tv_sec + (double)time.tv_nsec;
 }
 
-static void check_same(const cell *now, const uint64_t answers[2])
-{
+static void check_same(const cell *now, const uint64_t answers[2]) {
     bool same = answers[0] == answers[1] && memcmp(copies[0], copies[1], now->at.length) == 0 &&
                 memcmp(out[0], out[1], JALLUMERE_LENGTH(answers[1])) == 0;
     if (same && JALLUMERE_NUMBER(answers[1]) == now->answer)
@@ -278,8 +259,7 @@ static void check_same(const cell *now, const uint64_t answers[2])
 }
 
 /* Turns of both sides, each over as many copies of the state; a cell keeps the best of this pass and those before. */
-static void measure(cell *now)
-{
+static void measure(cell *now) {
     size_t length = now->at.length, lent = length - now->of->state_cut, count = COPIES_BYTES / length;
     size_t room = now->of->no_room ? 0 : ample_room(&now->at);
     uint64_t answers[2] = {0, 0};
@@ -305,8 +285,7 @@ static void measure(cell *now)
     }
 }
 
-static void measure_all(void)
-{
+static void measure_all(void) {
     const layout most = lay_out(REPLICAS_MOST, GROUPS_MOST, CAPACITY_MOST);
     state = memory(most.length);
     letter = memory(opening_length(GROUPS_MOST, NUMBERS_MOST) + most.table);
@@ -325,8 +304,7 @@ static void measure_all(void)
     }
 }
 
-int main(int count, char **words)
-{
+int main(int count, char **words) {
     bool ratios_alone = false;
     const option options[] = {{"--ratios", .flag = &ratios_alone},
                               {"--turns", .number = &turns, .least = 1, .most = 1000000},

@@ -1,7 +1,5 @@
-/*
- * What the host programs share besides bytes: the words of the command line, chance, memory, files and progress.
- * It comes before any header of the system.
- */
+/* What the host programs share besides bytes: the words of the command line, chance, memory, files and progress.
+ * It comes before any header of the system. */
 #ifndef HOST_H
 #define HOST_H
 
@@ -23,8 +21,7 @@
 extern const char program_name[];
 
 /* Says why on the standard error, behind the program's name, and ends with status 2. */
-__attribute__((format(printf, 1, 2))) _Noreturn static inline void stop(const char *format, ...)
-{
+__attribute__((format(printf, 1, 2))) _Noreturn static inline void stop(const char *format, ...) {
     va_list words;
     va_start(words, format);
     fflush(stdout);
@@ -36,8 +33,7 @@ __attribute__((format(printf, 1, 2))) _Noreturn static inline void stop(const ch
 }
 
 /* Memory that was lent, or NULL, with another length. The program stops where there is none. */
-static inline void *enlarged(void *lent, size_t length)
-{
+static inline void *enlarged(void *lent, size_t length) {
     lent = realloc(lent, length);
     if (lent == NULL)
         stop("out of memory");
@@ -45,15 +41,13 @@ static inline void *enlarged(void *lent, size_t length)
 }
 
 /* Zeros, and no more than were asked for, so that a tool sees what is read past them. */
-static inline void *memory(size_t length)
-{
+static inline void *memory(size_t length) {
     length = length == 0 ? 1 : length;
     return memset(enlarged(NULL, length), 0, length);
 }
 
 /* A whole file, - for the standard input; the program stops where it cannot be read. */
-static inline uint8_t *read_file(const char *path, size_t *length)
-{
+static inline uint8_t *read_file(const char *path, size_t *length) {
     FILE *file = strcmp(path, "-") == 0 ? stdin : fopen(path, "rb");
     size_t room = 0;
     uint8_t *bytes = NULL;
@@ -82,8 +76,7 @@ typedef struct {
     bool *flag;
 } option;
 
-static inline uint64_t number_in(const option *asked, const char *text)
-{
+static inline uint64_t number_in(const option *asked, const char *text) {
     char *end = NULL;
     errno = 0;
     unsigned long long value = strtoull(text, &end, 10);
@@ -94,8 +87,7 @@ static inline uint64_t number_in(const option *asked, const char *text)
 }
 
 /* Options end with one without a name. The word that is no option goes to `bare`; where that is NULL there is none. */
-static inline void read_words(int count, char **words, const option *options, const char **bare)
-{
+static inline void read_words(int count, char **words, const option *options, const char **bare) {
     for (int i = 1; i < count; i++) {
         const option *asked = options;
         while (asked->name != NULL && strcmp(asked->name, words[i]) != 0)
@@ -125,8 +117,7 @@ static uint64_t chance_state;
 static inline void seed_chance(uint64_t seed) { chance_state = seed; }
 
 /* SplitMix64. */
-static inline uint64_t draw(void)
-{
+static inline uint64_t draw(void) {
     uint64_t mixed = chance_state += UINT64_C(0x9e3779b97f4a7c15);
     mixed = (mixed ^ mixed >> 30) * UINT64_C(0xbf58476d1ce4e5b9);
     mixed = (mixed ^ mixed >> 27) * UINT64_C(0x94d049bb133111eb);
@@ -138,8 +129,7 @@ static inline uint64_t below(uint64_t limit) { return limit == 0 ? 0 : draw() % 
 static inline bool chance(uint64_t percent) { return below(100) < percent; }
 
 /* Since the first call. */
-static inline double seconds(void)
-{
+static inline double seconds(void) {
     static struct timespec first;
     struct timespec time;
     clock_gettime(CLOCK_MONOTONIC, &time);
@@ -150,8 +140,7 @@ static inline double seconds(void)
 
 /* How far a long run has come, on the standard error: on a terminal one line that changes, elsewhere a line now and
  * then; nothing in the first two seconds. */
-static inline void show_progress(uint64_t done, uint64_t wanted, const char *what)
-{
+static inline void show_progress(uint64_t done, uint64_t wanted, const char *what) {
     static double last;
     bool terminal = isatty(2) == 1;
     double time = seconds();

@@ -1,7 +1,5 @@
-/*
- * Where everything lies in a state (docs/STATE.md) and in an entry, and its readers and writers. This is the host
- * programs' own reading of the documents; nothing of it is proved.
- */
+/* Where everything lies in a state (docs/STATE.md) and in an entry, and its readers and writers. This is the host
+ * programs' own reading of the documents; nothing of it is proved. */
 #ifndef LAYOUT_H
 #define LAYOUT_H
 
@@ -44,20 +42,17 @@ static const field_place entry_fields[] = {
 /* ---- bytes ------------------------------------------------------------------------------------------- */
 
 /* Numbers have their low byte first. With a width that the compiler knows, each of these is one instruction. */
-static inline uint64_t low_byte_first(uint64_t value)
-{
+static inline uint64_t low_byte_first(uint64_t value) {
     return __BYTE_ORDER__ == __ORDER_BIG_ENDIAN__ ? __builtin_bswap64(value) : value;
 }
 
-static inline uint64_t load(const uint8_t *bytes, unsigned width)
-{
+static inline uint64_t load(const uint8_t *bytes, unsigned width) {
     uint64_t value = 0;
     memcpy(&value, bytes, width);
     return low_byte_first(value);
 }
 
-static inline void store(uint8_t *bytes, uint64_t value, unsigned width)
-{
+static inline void store(uint8_t *bytes, uint64_t value, unsigned width) {
     value = low_byte_first(value);
     memcpy(bytes, &value, width);
 }
@@ -68,8 +63,7 @@ static inline uint64_t bit(uint64_t number) { return UINT64_C(1) << number; }
 static inline bool holds(uint64_t set, uint64_t number) { return set >> number & 1; }
 
 /* A slice of length 0 may have a null pointer, which memcpy does not take. */
-static inline void copy(uint8_t *to, const uint8_t *from, size_t length)
-{
+static inline void copy(uint8_t *to, const uint8_t *from, size_t length) {
     if (length != 0)
         memcpy(to, from, length);
 }
@@ -85,14 +79,12 @@ typedef struct {
 /* As the core's functions take them. */
 #define SIZES(at) (at)->n, (at)->s, (at)->c
 
-static inline bool replicas_and_groups_right(uint64_t n, uint64_t s)
-{
+static inline bool replicas_and_groups_right(uint64_t n, uint64_t s) {
     return (n == 3 || n == 5 || n == 7) && s >= 1 && s <= GROUPS_MOST;
 }
 
 /* For wrong sizes everything is 0. */
-static inline layout lay_out(uint64_t n, uint64_t s, uint64_t c)
-{
+static inline layout lay_out(uint64_t n, uint64_t s, uint64_t c) {
     layout at = {.n = n, .s = s, .c = c, .views = HEAD_LENGTH};
     if (!replicas_and_groups_right(n, s) || c < CAPACITY_LEAST || c > CAPACITY_MOST)
         return (layout){0};
@@ -133,14 +125,12 @@ typedef struct {
     uint64_t timestamp, command, request, coordinator, mask;
 } entry;
 
-static inline entry read_entry(const uint8_t *bytes)
-{
+static inline entry read_entry(const uint8_t *bytes) {
     return (entry){load(bytes, 8), load(bytes + AT_COMMAND, 8), load(bytes + AT_TRANSACTION, 4),
                    load(bytes + AT_COORDINATOR, 2), load(bytes + AT_MASK, 2)};
 }
 
-static inline void write_entry(uint8_t *bytes, entry made)
-{
+static inline void write_entry(uint8_t *bytes, entry made) {
     store(bytes, made.timestamp, 8);
     store(bytes + AT_COMMAND, made.command, 8);
     store(bytes + AT_TRANSACTION, made.request, 4);
@@ -149,15 +139,13 @@ static inline void write_entry(uint8_t *bytes, entry made)
 }
 
 /* A flag and 8 bytes, which are 0 where the flag is. */
-static inline void write_marked(uint8_t *marked, bool held, uint64_t value)
-{
+static inline void write_marked(uint8_t *marked, bool held, uint64_t value) {
     marked[0] = held;
     store(marked + 1, held ? value : 0, 8);
 }
 
 /* A table, of entries or of notes, keeps its first places; the rest becomes free. */
-static inline void shorten(uint8_t *table, size_t place_length, uint64_t kept)
-{
+static inline void shorten(uint8_t *table, size_t place_length, uint64_t kept) {
     uint64_t before = load(table, 4);
     if (before > kept)
         memset(table + 4 + place_length * kept, 0, place_length * (size_t)(before - kept));
@@ -165,35 +153,30 @@ static inline void shorten(uint8_t *table, size_t place_length, uint64_t kept)
 }
 
 /* A table's entries in place of those that it had. */
-static inline void write_table(uint8_t *table, const uint8_t *entries, uint64_t count)
-{
+static inline void write_table(uint8_t *table, const uint8_t *entries, uint64_t count) {
     shorten(table, ENTRY_LENGTH, count);
     copy(table + 4, entries, ENTRY_LENGTH * (size_t)count);
 }
 
-static inline void append_entry(uint8_t *table, const uint8_t *bytes)
-{
+static inline void append_entry(uint8_t *table, const uint8_t *bytes) {
     uint64_t count = load(table, 4);
     memcpy(table + entry_place(count), bytes, ENTRY_LENGTH);
     store(table, count + 1, 4);
 }
 
 /* A vote's flag and numbers; its table is written by itself. */
-static inline void write_vote_head(uint8_t *vote, uint64_t last_normal, uint64_t sync)
-{
+static inline void write_vote_head(uint8_t *vote, uint64_t last_normal, uint64_t sync) {
     vote[0] = 1;
     store(vote + AT_VOTE_LAST_NORMAL, last_normal, 4);
     store(vote + AT_VOTE_SYNC, sync, 8);
 }
 
 /* The leader of a group by a gVec's bytes, and whether a state's own replica is its group's. */
-static inline uint64_t leader_of(const uint8_t *views, uint64_t group, uint64_t n)
-{
+static inline uint64_t leader_of(const uint8_t *views, uint64_t group, uint64_t n) {
     return load(views + 4 * group, 4) % n;
 }
 
-static inline bool state_leads(const layout *at, const uint8_t *state)
-{
+static inline bool state_leads(const layout *at, const uint8_t *state) {
     return state[AT_GROUP] < at->s && leader_of(state + at->views, state[AT_GROUP], at->n) == state[AT_REPLICA];
 }
 

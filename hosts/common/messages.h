@@ -1,7 +1,5 @@
-/*
- * Messages: which sections each kind has, their making and taking apart, and the names of kinds, answers and
- * statuses.
- */
+/* Messages: which sections each kind has, their making and taking apart, and the names of kinds, answers and
+ * statuses. */
 #ifndef MESSAGES_H
 #define MESSAGES_H
 
@@ -47,16 +45,14 @@ static inline bool is_kind(uint64_t kind) { return kind < KINDS && forms[kind].n
 
 static inline const char *kind_name(uint64_t kind) { return is_kind(kind) ? forms[kind].name : "unknown kind"; }
 
-static inline const char *answer_name(uint64_t answer)
-{
+static inline const char *answer_name(uint64_t answer) {
     static const char *const names[ANSWERS] = {
         "done",         "wrong size or state", "malformed",         "not addressed here", "wrong view",
         "wrong status", "wrong role",          "nothing to do now", "no room left",       "outgoing too short"};
     return answer < ANSWERS ? names[answer] : "unknown number";
 }
 
-static inline const char *status_name(uint64_t status)
-{
+static inline const char *status_name(uint64_t status) {
     static const char *const names[] = {"no status", "normal", "view change", "cross-shard"};
     return names[status <= JALLUMERE_STATUS_CROSS_SHARD ? status : 0];
 }
@@ -72,38 +68,32 @@ typedef struct {
 } message;
 
 /* An empty message of a kind: numbers and views (which are to be set) as many as it has, from and to outside. */
-static inline message message_of_kind(uint64_t kind, uint64_t s)
-{
+static inline message message_of_kind(uint64_t kind, uint64_t s) {
     const uint64_t outside = JALLUMERE_OUTSIDE, views = forms[kind].has_views ? s : 0;
     return (message){kind, outside, 1, outside, outside, .view_count = views, .number_count = forms[kind].numbers};
 }
 
 /* Everything before the entries, their count included; all of it; and the same by kind. */
-static inline size_t opening_length(uint64_t view_count, uint64_t number_count)
-{
+static inline size_t opening_length(uint64_t view_count, uint64_t number_count) {
     return HEADER_LENGTH + 4 + 4 * (size_t)view_count + 4 + 8 * (size_t)number_count + 4;
 }
 
-static inline size_t length_of(const message *made)
-{
+static inline size_t length_of(const message *made) {
     return opening_length(made->view_count, made->number_count) + ENTRY_LENGTH * (size_t)made->count;
 }
 
-static inline size_t length_of_kind(uint64_t kind, uint64_t s, uint64_t count)
-{
+static inline size_t length_of_kind(uint64_t kind, uint64_t s, uint64_t count) {
     return opening_length(forms[kind].has_views ? s : 0, forms[kind].numbers) + ENTRY_LENGTH * (size_t)count;
 }
 
 /* Enough for a leader that releases a full log, which sends most: a fast reply for each, and the log once more. */
-static inline size_t ample_room(const layout *at)
-{
+static inline size_t ample_room(const layout *at) {
     return length_of_kind(JALLUMERE_FAST_REPLY, at->s, 1) * (size_t)at->c +
            length_of_kind(JALLUMERE_REPLICA_SYNC, at->s, at->c);
 }
 
 /* Writes everything before the entries and gives the place where they go. */
-static inline uint8_t *put_opening(uint8_t *to, const message *made)
-{
+static inline uint8_t *put_opening(uint8_t *to, const message *made) {
     const uint64_t header[] = {made->kind, made->to_group, made->to_mask, made->from_group, made->from_replica};
     for (unsigned i = 0; i < 5; i++)
         to[i] = (uint8_t)header[i];
@@ -122,16 +112,14 @@ static inline uint8_t *put_opening(uint8_t *to, const message *made)
 }
 
 /* Gives the place behind the message. */
-static inline uint8_t *put_message(uint8_t *to, const message *made)
-{
+static inline uint8_t *put_message(uint8_t *to, const message *made) {
     to = put_opening(to, made);
     copy(to, made->entries, ENTRY_LENGTH * (size_t)made->count);
     return to + ENTRY_LENGTH * made->count;
 }
 
 /* Takes a message apart by its counts; false where they do not fit its length. The zeros are not looked at. */
-static inline bool take_apart(const uint8_t *bytes, size_t length, message *told)
-{
+static inline bool take_apart(const uint8_t *bytes, size_t length, message *told) {
     if (length < opening_length(0, 0))
         return false;
     *told = (message){bytes[0], bytes[1], bytes[2], bytes[3], bytes[4], load(bytes + 8, 4), .numbers = {0}};

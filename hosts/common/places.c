@@ -12,8 +12,7 @@ typedef struct {
 enum { NO_TABLE = -1 };
 
 /* Behind a name: a table's count, or one of its entries. */
-static void describe_table(const uint8_t *table, size_t within, char *room)
-{
+static void describe_table(const uint8_t *table, size_t within, char *room) {
     size_t position = within < 4 ? 0 : (within - 4) / ENTRY_LENGTH;
     entry read = read_entry(table + entry_place(position));
     if (within < 4)
@@ -23,8 +22,7 @@ static void describe_table(const uint8_t *table, size_t within, char *room)
                 read.coordinator, read.request, read.timestamp, read.mask);
 }
 
-const char *describe_place(const layout *at, const uint8_t *state, size_t byte, char room[PLACE_ROOM])
-{
+const char *describe_place(const layout *at, const uint8_t *state, size_t byte, char room[PLACE_ROOM]) {
     const section sections[] = {{"gVec, group %zu", at->views, 0, 4, NO_TABLE},
                                 {"sync point heard from replica %zu", at->heard, 0, MARKED_LENGTH, NO_TABLE},
                                 {"log", at->log, 0, at->table, 0},

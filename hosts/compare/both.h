@@ -1,8 +1,6 @@
-/*
- * Calls of the core and of the model side by side. Of each the answers, every byte of the state and of the
+/* Calls of the core and of the model side by side. Of each the answers, every byte of the state and of the
  * outgoing buffer, and the bytes around both are compared; the first difference is printed and ends the program
- * with status 1.
- */
+ * with status 1. */
 #include "../common/host.h"
 #include "../common/messages.h"
 #include "../model/model.h"
@@ -25,14 +23,12 @@ typedef struct {
     size_t length;
 } letter;
 
-static void compose(letter *to, const message *made)
-{
+static void compose(letter *to, const message *made) {
     to->length = (size_t)(put_message(to->bytes, made) - to->bytes);
 }
 
 /* In memory of its own, which is to be freed: so reading past its end can be noticed. */
-static letter copy_of(const uint8_t *bytes, size_t length)
-{
+static letter copy_of(const uint8_t *bytes, size_t length) {
     letter made = {memory(length), length};
     copy(made.bytes, bytes, length);
     return made;
@@ -75,14 +71,12 @@ static uint64_t counts[TABLES][KINDS][COLUMNS], lost_goodness[KINDS], starts[2],
 
 static unsigned kind_row(letter told) { return told.length != 0 && is_kind(told.bytes[0]) ? told.bytes[0] : 0; }
 
-static unsigned span_of_capacity(void)
-{
+static unsigned span_of_capacity(void) {
     return at.c == 16 ? 0 : at.c == 17 ? 1 : at.c < 256 ? 2 : at.c == 256 ? 3 : 4;
 }
 
 /* Which tables of a good state are full or have one place left; of votes and replies the fullest counts. */
-static void count_full(const uint8_t *state)
-{
+static void count_full(const uint8_t *state) {
     const size_t firsts[] = {at.log, at.early, at.late, at.notes, at.draft, vote_table(&at, 0), reply_table(&at, 0)};
     for (unsigned row = 0; row < 7; row++) {
         uint64_t fullest = 0;
@@ -95,8 +89,7 @@ static void count_full(const uint8_t *state)
     }
 }
 
-static void count_step(const uint8_t *state, unsigned kind, unsigned number, enum origin from)
-{
+static void count_step(const uint8_t *state, unsigned kind, unsigned number, enum origin from) {
     unsigned status = state[AT_STATUS];
     steps_done++;
     counts[STEPS][kind][number]++;
@@ -113,8 +106,7 @@ static void count_step(const uint8_t *state, unsigned kind, unsigned number, enu
 }
 
 /* Counts stand in pairs where there are two to a column; of kinds the last line is what is none. */
-static void show_table(enum table table)
-{
+static void show_table(enum table table) {
     const char *const *names = tables[table].rows;
     char kind[48];
     printf("%s", tables[table].head);
@@ -131,8 +123,7 @@ static void show_table(enum table table)
 }
 
 /* Of the kinds that a site takes, the one with the fewest done steps at a capacity. */
-static uint64_t least_done(unsigned span)
-{
+static uint64_t least_done(unsigned span) {
     uint64_t least = UINT64_MAX;
     for (unsigned kind = 0; kind < KINDS; kind++)
         if (is_kind(kind) && forms[kind].path != OUTBOUND && counts[SPANS][kind][2 * span] < least)
@@ -140,8 +131,7 @@ static uint64_t least_done(unsigned span)
     return least;
 }
 
-static void show_tables(void)
-{
+static void show_tables(void) {
     for (unsigned i = 0; i < TABLES; i++)
         show_table(i);
     printf("\nstarts: %" PRIu64 " done, %" PRIu64 " refused; digests: %" PRIu64 "; states read by field: %" PRIu64
@@ -159,8 +149,7 @@ static void show_tables(void)
 /* ---- differences ------------------------------------------------------------------------------------- */
 
 /* Rows of 16 bytes: with two lots those that differ, with one those that are not all zero. */
-static void show_bytes(const char *title, const uint8_t *one, const uint8_t *other, size_t length)
-{
+static void show_bytes(const char *title, const uint8_t *one, const uint8_t *other, size_t length) {
     static const uint8_t zeros[16];
     unsigned rows = 0;
     printf("%s, %zu bytes%s:\n", title, length, other == NULL ? "" : ", where they differ");
@@ -181,8 +170,7 @@ static void show_bytes(const char *title, const uint8_t *one, const uint8_t *oth
 }
 
 /* A difference was found; the rows of the given bytes that tell something are shown. */
-_Noreturn static void end_with_difference(const char *call, const char *why, const uint8_t *bytes, size_t length)
-{
+_Noreturn static void end_with_difference(const char *call, const char *why, const uint8_t *bytes, size_t length) {
     printf("DIFFERENCE in %s: %s\nseed %" PRIu64 ", after %" PRIu64 " steps; n %" PRIu64 ", S %" PRIu64 ", C %" PRIu64
            "\n",
            call, why, seed, steps_done, SIZES(&at));
@@ -193,8 +181,7 @@ _Noreturn static void end_with_difference(const char *call, const char *why, con
 
 /* ---- calls that write nothing ------------------------------------------------------------------------ */
 
-static uint64_t agree(const char *call, uint64_t core, uint64_t model, const uint8_t *bytes, size_t length)
-{
+static uint64_t agree(const char *call, uint64_t core, uint64_t model, const uint8_t *bytes, size_t length) {
     char why[96];
     snprintf(why, sizeof why, "the core answers %" PRIu64 ", the model %" PRIu64, core, model);
     if (core != model)
@@ -207,8 +194,7 @@ static uint64_t agree(const char *call, uint64_t core, uint64_t model, const uin
     agree(#call, jallumere_##call(__VA_ARGS__), model_##call(__VA_ARGS__), bytes, length)
 
 /* Every field, group and field of an entry, and numbers next to these; of entries a few positions. */
-static void try_state_readers(const uint8_t *state)
-{
+static void try_state_readers(const uint8_t *state) {
     uint64_t logged = model_field(SIZES(&at), JALLUMERE_FIELD_LOG_LENGTH, state, at.length), any = draw();
     const uint64_t positions[] = {0, 1, below(logged), logged, logged + 1, at.c, at.c + 1, any};
     for (uint64_t i = 0; i <= JALLUMERE_FIELD_LEADER + 1; i++) {
@@ -222,8 +208,7 @@ static void try_state_readers(const uint8_t *state)
     readings++;
 }
 
-static bool try_good(const uint8_t *state, enum origin from)
-{
+static bool try_good(const uint8_t *state, enum origin from) {
     uint64_t answer = AGREE(good, state, at.length, SIZES(&at), state, at.length);
     counts[STATES][from][answer != JALLUMERE_DONE]++;
     if (chance(20))
@@ -231,8 +216,7 @@ static bool try_good(const uint8_t *state, enum origin from)
     return answer == JALLUMERE_DONE;
 }
 
-static uint64_t try_read(letter told)
-{
+static uint64_t try_read(letter told) {
     letter given = copy_of(told.bytes, told.length);
     uint64_t answer = AGREE(read, given.bytes, given.length, at.n, at.s, given.bytes, given.length);
     AGREE(message_length, given.bytes, given.length, at.n, at.s, given.bytes, given.length);
@@ -243,8 +227,7 @@ static uint64_t try_read(letter told)
 
 /* ---- calls that write -------------------------------------------------------------------------------- */
 
-static void make_areas(void)
-{
+static void make_areas(void) {
     layout largest = lay_out(REPLICAS_MOST, GROUPS_MOST, CAPACITY_MOST);
     size_t most = largest.length + ample_room(&largest) + 2 * GUARD_LENGTH;
     for (int side = 0; side < SIDES; side++) {
@@ -256,8 +239,7 @@ static void make_areas(void)
         pattern[i] = (uint8_t)(i * 37 + i / 256 + 11);
 }
 
-static void lend(const uint8_t *state, size_t length, size_t room)
-{
+static void lend(const uint8_t *state, size_t length, size_t room) {
     for (int side = 0; side < SIDES; side++) {
         memcpy(state_of[side] - GUARD_LENGTH, pattern, GUARD_LENGTH);
         copy(state_of[side], state, length);
@@ -267,8 +249,7 @@ static void lend(const uint8_t *state, size_t length, size_t room)
 }
 
 /* Whether a side kept to what it was lent: guards whole, and nothing written where it refused. */
-static const char *misuse(int side, uint64_t answer, const uint8_t *state, size_t length, size_t room)
-{
+static const char *misuse(int side, uint64_t answer, const uint8_t *state, size_t length, size_t room) {
     size_t sent = JALLUMERE_LENGTH(answer);
     if (memcmp(state_of[side] - GUARD_LENGTH, pattern, GUARD_LENGTH) != 0 ||
         memcmp(state_of[side] + length, pattern, GUARD_LENGTH) != 0)
@@ -285,8 +266,7 @@ static const char *misuse(int side, uint64_t answer, const uint8_t *state, size_
 
 /* Compares what both were left with; what was told them is shown where they differ. */
 static uint64_t compare_sides(const char *call, const uint64_t answers[SIDES], const uint8_t *state, size_t length,
-                              size_t room, letter told)
-{
+                              size_t room, letter told) {
     char place[PLACE_ROOM];
     size_t byte = 0;
     const char *why = answers[0] != answers[1]                        ? "the answers differ"
@@ -311,8 +291,7 @@ static uint64_t compare_sides(const char *call, const uint64_t answers[SIDES], c
     end_with_difference(call, why, told.bytes, told.length);
 }
 
-static uint64_t try_step(const uint8_t *state, letter told, size_t room, enum origin from)
-{
+static uint64_t try_step(const uint8_t *state, letter told, size_t room, enum origin from) {
     static __typeof__(jallumere_step) *const steps[SIDES] = {jallumere_step, model_step};
     uint64_t answers[SIDES];
     letter given = copy_of(told.bytes, told.length);
@@ -327,16 +306,14 @@ static uint64_t try_step(const uint8_t *state, letter told, size_t room, enum or
     return answer;
 }
 
-static void try_start(uint64_t group, uint64_t replica)
-{
+static void try_start(uint64_t group, uint64_t replica) {
     lend(pattern, at.length, 0);
     const uint64_t answers[] = {jallumere_start(SIZES(&at), group, replica, state_of[0], at.length),
                                 model_start(SIZES(&at), group, replica, state_of[1], at.length)};
     starts[compare_sides("start", answers, pattern, at.length, 0, (letter){0}) != JALLUMERE_DONE]++;
 }
 
-static uint64_t try_write(const message *made, size_t views_length, size_t entries_length, size_t room)
-{
+static uint64_t try_write(const message *made, size_t views_length, size_t entries_length, size_t room) {
     static __typeof__(jallumere_write) *const writers[SIDES] = {jallumere_write, model_write};
     static const unsigned columns[ANSWERS] = {[0] = 3, [1] = 4, [2] = 5, [9] = 6};
     uint64_t answers[SIDES];

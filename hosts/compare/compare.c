@@ -1,5 +1,4 @@
-/*
- * Drives the core and the model side by side: see both.h for what is compared.
+/* Drives the core and the model side by side: see both.h for what is compared.
  *
  * Three sources of input. Runs: whole groups over a network that loses, repeats and delays. Built states:
  * good states of every status with tables from empty to full, and messages made to fit them. Damage: of
@@ -8,8 +7,7 @@
  * in several shapes each kind has its share of steps that are done, however the rest falls out.
  *
  * compare [--steps N] [--seed N], or compare --traces FILE, which takes recorded steps with their answers instead:
- * 0 if there is no difference; else 1, and the first difference is printed; 2 for bad usage.
- */
+ * 0 if there is no difference; else 1, and the first difference is printed; 2 for bad usage. */
 #include "make.h"
 
 const char program_name[] = "compare";
@@ -22,8 +20,7 @@ static uint8_t spare_state[STATE_ROOM], built_state[STATE_ROOM];
 /* ---- one message at one replica, in every variation -------------------------------------------------- */
 
 /* The writer, by the fields of a message that is there: as they are, and with one of them edited. */
-static void try_writing(letter told)
-{
+static void try_writing(letter told) {
     message made;
     if (!take_apart(told.bytes, told.length, &made))
         return;
@@ -51,8 +48,7 @@ static void try_writing(letter told)
 }
 
 /* Wrong sizes, and states of a wrong length. */
-static void try_wrong_sizes(const uint8_t *state, letter told)
-{
+static void try_wrong_sizes(const uint8_t *state, letter told) {
     const layout right = at;
     uint64_t *const sizes[] = {&at.n, &at.s, &at.c}, which = below(4);
     if (which < 3)
@@ -72,8 +68,7 @@ static void try_wrong_sizes(const uint8_t *state, letter told)
     try_start(below(at.s + 2), chance(80) ? below(at.n + 1) : edge());
 }
 
-static void try_damage(const uint8_t *state, letter told)
-{
+static void try_damage(const uint8_t *state, letter told) {
     static uint8_t room[LETTER_ROOM];
     letter odd = {room, told.length};
     copy(room, told.bytes, told.length);
@@ -94,8 +89,7 @@ static void try_damage(const uint8_t *state, letter told)
 /* A message is taken, and all that is tried with it besides: where it is done, once more with a buffer that is just
  * long enough, one byte short, and anything between. Gives the answer, and leaves what the sides were left with by
  * it. */
-static uint64_t try_all(const uint8_t *state, letter told, enum origin from)
-{
+static uint64_t try_all(const uint8_t *state, letter told, enum origin from) {
     show_progress(steps_done, steps_wanted, "steps");
     if (chance(25))
         try_damage(state, told);
@@ -118,8 +112,7 @@ static uint64_t try_all(const uint8_t *state, letter told, enum origin from)
 }
 
 /* Edits a state and keeps the edit if the state is good after it. */
-static bool make_odd(uint8_t *state)
-{
+static bool make_odd(uint8_t *state) {
     memcpy(spare_state, state, at.length);
     damage_state(spare_state);
     bool good = try_good(spare_state, FROM_EDIT);
@@ -142,8 +135,7 @@ static struct {
 } net;
 
 /* A full pool loses one that waits. */
-static void post(letter told, uint64_t to)
-{
+static void post(letter told, uint64_t to) {
     size_t place = net.waiting < POOL ? net.waiting++ : (size_t)below(POOL);
     free(net.pool[place].told.bytes);
     net.pool[place].told = copy_of(told.bytes, told.length);
@@ -151,8 +143,7 @@ static void post(letter told, uint64_t to)
 }
 
 /* Each replica in the mask gets its own; now and then, and of replies to the outside, some other replica does. */
-static void post_to_mask(letter told)
-{
+static void post_to_mask(letter told) {
     for (uint64_t replica = 0; replica < at.n && told.bytes[1] != JALLUMERE_OUTSIDE; replica++)
         if (holds(told.bytes[2], replica))
             post(told, told.bytes[1] * at.n + replica);
@@ -160,8 +151,7 @@ static void post_to_mask(letter told)
         post(told, below(at.n * at.s));
 }
 
-static void deliver(letter told, uint64_t to)
-{
+static void deliver(letter told, uint64_t to) {
     uint8_t *state = net.states + at.length * to;
     uint64_t answer = try_all(state, told, net.from);
     if (JALLUMERE_NUMBER(answer) == JALLUMERE_DONE) {
@@ -183,8 +173,7 @@ static void deliver(letter told, uint64_t to)
 }
 
 /* From outside: a tick to one replica, at once; a transaction to the groups of its mask, a change of view to all. */
-static void send_from_outside(uint64_t kind)
-{
+static void send_from_outside(uint64_t kind) {
     uint8_t room[256], bytes[ENTRY_LENGTH];
     letter told = {room, 0};
     message made = message_of_kind(kind, at.s);
@@ -212,8 +201,7 @@ static void send_from_outside(uint64_t kind)
     }
 }
 
-static void deliver_some(void)
-{
+static void deliver_some(void) {
     if (net.waiting == 0)
         return;
     size_t place = (size_t)below(net.waiting);
@@ -229,8 +217,7 @@ static void deliver_some(void)
 }
 
 /* Times of work and times of quiet, in which what waits is delivered and changes of view can end. */
-static void run_groups(uint64_t turns)
-{
+static void run_groups(uint64_t turns) {
     uint64_t replicas = at.n * at.s, changes = 1 + 4 * replicas + below(40 * replicas); /* one turn in so many */
     net.states = memory(at.length * replicas);
     net.waiting = 0;
@@ -261,8 +248,7 @@ static void run_groups(uint64_t turns)
 /* ---- built states ------------------------------------------------------------------------------------ */
 
 /* Steps of one kind, or of any (0), until so many are done; of any kind some go on from the state that was left. */
-static void run_built(uint64_t asked, uint64_t wanted)
-{
+static void run_built(uint64_t asked, uint64_t wanted) {
     static uint8_t room[LETTER_ROOM];
     letter told = {room, 0};
     uint64_t group = below(at.s), done = 0;
@@ -285,8 +271,7 @@ static void run_built(uint64_t asked, uint64_t wanted)
 }
 
 /* Each kind that a site takes, in each shape where it can come, and more where a step costs less. */
-static void run_shares(void)
-{
+static void run_shares(void) {
     static const uint64_t shapes[][2] = {{3, 1}, {3, 2}, {5, 3}, {7, 1}, {7, 8}}, capacities[] = {4096, 256, 17, 16};
     for (unsigned i = 0; i < 5 * 4 * KINDS; i++) {
         uint64_t kind = i % KINDS, capacity = capacities[i / KINDS % 4];
@@ -298,8 +283,7 @@ static void run_shares(void)
 }
 
 /* Logs beyond the greatest capacity, for the reader: good ones, and with a transaction twice, close by or apart. */
-static void try_long_logs(void)
-{
+static void try_long_logs(void) {
     static const uint64_t counts[] = {4096, 4097, 6000, 8193, 9000};
     static uint8_t views[8], entries[ENTRY_LENGTH * 9000], room[LETTER_ROOM];
     letter told = {room, 0};
@@ -322,8 +306,7 @@ static void try_long_logs(void)
 }
 
 /* Small capacities mostly: there tables are full soon. */
-static void run_some(void)
-{
+static void run_some(void) {
     uint64_t n = 3 + 2 * below(3), s = 1 + below(8), c = chance(55) ? 16 : 16 + below(49), large = below(1000);
     bool built = chance(65);
     if (large < 20)
@@ -342,8 +325,7 @@ static void run_some(void)
  * bytes (8), FNV-1a of the state (8). */
 static letter records;
 
-static const uint8_t *take(size_t length)
-{
+static const uint8_t *take(size_t length) {
     if (records.length < length)
         stop("the file of traces ends within a record");
     records.length -= length;
@@ -352,8 +334,7 @@ static const uint8_t *take(size_t length)
 }
 
 /* Gives whether core and model agree and the record says otherwise; the first such step is shown. */
-static bool replay_step(uint8_t *state, bool shown)
-{
+static bool replay_step(uint8_t *state, bool shown) {
     size_t room = load(take(4), 4), length = load(take(4), 4);
     if (room > ample_room(&at))
         stop("a record asks for more room than any step needs");
@@ -374,8 +355,7 @@ static bool replay_step(uint8_t *state, bool shown)
 }
 
 /* Gives the number of differences. */
-static uint64_t replay(const char *path)
-{
+static uint64_t replay(const char *path) {
     uint64_t begun = 0, differences = 0;
     records.bytes = read_file(path, &records.length);
     while (records.length != 0) {
@@ -396,8 +376,7 @@ static uint64_t replay(const char *path)
     return differences;
 }
 
-int main(int count, char **words)
-{
+int main(int count, char **words) {
     const char *traces = NULL;
     const option options[] = {{"--steps", &steps_wanted, 0, UINT64_MAX / 100, NULL, NULL},
                               {"--seed", &seed, 0, UINT64_MAX, NULL, NULL},

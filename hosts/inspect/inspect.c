@@ -1,16 +1,12 @@
-/*
- * A state's bytes as a report for people; and, where the state is not good, why not.
+/* A state's bytes as a report for people; and, where the state is not good, why not.
  *
  * Whether a state is good is decided by the core (jallumere_good). The reasons are the model's; where the two
  * disagree, the report says so.
  *
- * inspect STATE [--sites N --groups S --capacity C] [--all]: 0 good, 1 not good, 2 bad usage or no such shape.
- */
+ * inspect STATE [--sites N --groups S --capacity C] [--all]: 0 good, 1 not good, 2 bad usage or no such shape. */
 #include "../common/host.h"
 #include "../common/messages.h"
 #include "../model/model.h"
-
-#include <stdio.h>
 
 const char program_name[] = "inspect";
 
@@ -30,8 +26,7 @@ static layout at;
 static uint64_t count_within(const uint8_t *table) { return load(table, 4) <= at.c ? load(table, 4) : 0; }
 
 /* The groups of a mask, in a column as wide as all that there are. */
-static void print_groups(uint64_t mask)
-{
+static void print_groups(uint64_t mask) {
     int width = printf("groups %s", mask == 0 ? "none" : ""), all = 7 + 2 * (int)at.s;
     for (unsigned group = 0; mask >> group != 0; group++)
         if (holds(mask, group))
@@ -39,8 +34,7 @@ static void print_groups(uint64_t mask)
     printf("%*s", width < all ? all - width : 0, "");
 }
 
-static void print_entries(const uint8_t *table, uint64_t sync, uint64_t commit, const char *indent)
-{
+static void print_entries(const uint8_t *table, uint64_t sync, uint64_t commit, const char *indent) {
     static const char *const marks[] = {"", "  synced", "  committed", "  synced, committed"};
     uint64_t count = count_within(table);
     for (uint64_t i = 0; i < count; i++) {
@@ -57,30 +51,26 @@ static void print_entries(const uint8_t *table, uint64_t sync, uint64_t commit, 
     }
 }
 
-static void print_count(const char *name, uint64_t count)
-{
+static void print_count(const char *name, uint64_t count) {
     if (count == 0)
         printf("%-14s empty\n", name);
     else
         printf("%-14s %ju of %ju\n", name, count, at.c);
 }
 
-static void print_table(const char *name, size_t table)
-{
+static void print_table(const char *name, size_t table) {
     print_count(name, load(state + table, 4));
     print_entries(state + table, 0, 0, "  ");
 }
 
-static void print_marked(const uint8_t *marked, const char *ending)
-{
+static void print_marked(const uint8_t *marked, const char *ending) {
     if (marked[0] == 0)
         printf("not heard%s", ending);
     else
         printf("%ju%s", load(marked + 1, 8), ending);
 }
 
-static void print_notes(void)
-{
+static void print_notes(void) {
     uint64_t count = count_within(state + at.notes), shown = show_all || count < SHOWN_ENTRIES ? count : SHOWN_ENTRIES;
     print_count("notes", count);
     for (const uint8_t *note = state + note_place(&at, 0); note < state + note_place(&at, shown); note += at.note) {
@@ -94,8 +84,7 @@ static void print_notes(void)
         printf("   ... %ju more (--all shows them)\n", count - shown);
 }
 
-static void print_head(void)
-{
+static void print_head(void) {
     const char *role = state_leads(&at, state) ? ", leader of its group" : ", follower";
     printf("%-14s %ju sites in a group, %ju group%s, capacity %ju, %zu bytes\n", "shape", at.n, at.s,
            at.s == 1 ? "" : "s", at.c, at.length);
@@ -116,8 +105,7 @@ static void print_head(void)
 }
 
 /* What a change of view has brought: the votes of the replicas, or the replies of the groups. */
-static void print_brought(bool votes)
-{
+static void print_brought(bool votes) {
     for (uint64_t i = 0; i < (votes ? at.n : at.s); i++) {
         const uint8_t *brought = state + (votes ? vote_place(&at, i) : reply_place(&at, i));
         const uint8_t *table = brought + (votes ? VOTE_HEAD_LENGTH : 1);
@@ -134,8 +122,7 @@ static void print_brought(bool votes)
     }
 }
 
-static void print_report(void)
-{
+static void print_report(void) {
     print_head();
     printf("%-14s %ju of %ju\n", "log", load(state + at.log, 4), at.c);
     print_entries(state + at.log, load(state + AT_SYNC, 8), load(state + AT_COMMIT, 8), "  ");
@@ -150,15 +137,13 @@ static void print_report(void)
 
 /* ---- the verdict ------------------------------------------------------------------------------------- */
 
-static void print_reason(void *told, size_t byte, const char *rule)
-{
+static void print_reason(void *told, size_t byte, const char *rule) {
     char room[PLACE_ROOM];
     if ((*(uint64_t *)told)++ < SHOWN_REASONS || show_all)
         printf("  - %s (byte %zu, %s)\n", rule, byte, describe_place(&at, state, byte, room));
 }
 
-static void print_verdict(bool good)
-{
+static void print_verdict(bool good) {
     uint64_t told = 0;
     printf("\n%s\n", good ? "The state is good." : "The state is NOT good. What fails of the rules:");
     uint64_t reasons = model_why_not_good(SIZES(&at), state, at.length, print_reason, &told);
@@ -173,8 +158,7 @@ static void print_verdict(bool good)
 /* ---- the shape --------------------------------------------------------------------------------------- */
 
 /* Takes the first shape of this length in which the state is good, or else the first, and tells of the others. */
-static bool take_shape(size_t length)
-{
+static bool take_shape(size_t length) {
     static layout shapes[SHAPES_MOST];
     const layout asked = lay_out(asked_n, asked_s, asked_c);
     size_t found = 0, taken = 0;
@@ -205,8 +189,7 @@ static bool take_shape(size_t length)
     return taken < found;
 }
 
-int main(int count, char **words)
-{
+int main(int count, char **words) {
     const option options[] = {{"--sites", .number = &asked_n, .least = 3, .most = REPLICAS_MOST},
                               {"--groups", .number = &asked_s, .least = 1, .most = GROUPS_MOST},
                               {"--capacity", .number = &asked_c, .least = CAPACITY_LEAST, .most = CAPACITY_MOST},

@@ -1,8 +1,6 @@
-/*
- * The model in the place of the core: its functions under the names of include/jallumere.h, a copy of its own, so
+/* The model in the place of the core: its functions under the names of include/jallumere.h, a copy of its own, so
  * that core and model can be linked into one program. What is linked with this runs before the core is proved, and
- * jallumere_is_model tells so.
- */
+ * jallumere_is_model tells so. */
 #define MODEL(name) jallumere_##name
 
 #include "model.c"

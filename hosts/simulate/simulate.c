@@ -14,11 +14,6 @@
 #include "../common/messages.h"
 #include "../model/model.h"
 
-#include <stdarg.h>
-#include <stdio.h>
-#include <stdlib.h>
-#include <unistd.h>
-
 /* Times are milliseconds: between two ticks of a site; what coordinators add to the send time; of the network, with the
  * last on top for one message in twenty. */
 enum { TICK_TIME = 20, BOUND = 30, DELAY_LEAST = 3, DELAY_MOST = 22, DELAY_SLOW = 45 };
@@ -117,14 +112,12 @@ static site *planned_leader(uint64_t group) { return site_of(group, leader_of(pl
 
 static int place_of(const site *own) { return own == NULL ? -1 : (int)(own - sites); }
 
-static bool is_answered(const letter *transaction)
-{
+static bool is_answered(const letter *transaction) {
     return (unsigned)__builtin_popcount(transaction->placed) >= majority_of(at.n);
 }
 
 /* Of events at the same time the one that was planned first comes first. */
-static void plan(event made)
-{
+static void plan(event made) {
     size_t place = event_count++;
     if (event_count > event_room)
         events = enlarged(events, (event_room = 2 * event_count) * sizeof *events);
@@ -142,8 +135,7 @@ static FILE *page_file; /* NULL where no page is asked for */
 
 #define PUT(...) (void)(page_file != NULL && fprintf(page_file, __VA_ARGS__))
 
-static void put_entries(const uint8_t *entries, uint64_t first, uint64_t count)
-{
+static void put_entries(const uint8_t *entries, uint64_t first, uint64_t count) {
     for (uint64_t i = first; i < count; i++) {
         entry read = read_entry(entries + ENTRY_LENGTH * i);
         PUT("%s[%ju,%ju,%ju,%ju]", i == first ? "" : ",", read.timestamp, read.coordinator, read.request, read.mask);
@@ -154,15 +146,13 @@ static void put_entries(const uint8_t *entries, uint64_t first, uint64_t count)
 enum fate { ARRIVED, LOST, UNHEARD };
 
 /* One way of one letter to one site; the answer is -1 where there is none. */
-static void put_way(const event *of, enum fate fate, int answer)
-{
+static void put_way(const event *of, enum fate fate, int answer) {
     PUT("[\"x\",%zu,%d,%u,%u,%d,%d,%d],\n", of->sent->number, place_of(of->to), of->sent_at, of->at, fate, of->again,
         answer);
 }
 
 /* One line of the timeline, of a site or of none. */
-__attribute__((format(printf, 2, 3))) static void note(const site *of, const char *format, ...)
-{
+__attribute__((format(printf, 2, 3))) static void note(const site *of, const char *format, ...) {
     char text[256], name[16] = "";
     va_list words;
     va_start(words, format);
@@ -175,8 +165,7 @@ __attribute__((format(printf, 2, 3))) static void note(const site *of, const cha
         printf("%6u ms  %-5s  %s\n", now, name, text);
 }
 
-__attribute__((format(printf, 2, 3))) _Noreturn static void fails(const site *of, const char *format, ...)
-{
+__attribute__((format(printf, 2, 3))) _Noreturn static void fails(const site *of, const char *format, ...) {
     va_list words;
     fflush(stdout);
     fprintf(stderr, "simulate: A PROMISE FAILED at step %u, %u ms, ", step_count, now);
@@ -200,8 +189,7 @@ __attribute__((format(printf, 2, 3))) _Noreturn static void fails(const site *of
 static void deliver(const event *of);
 
 /* Keeps what is sent, and shows it on the page with the last of its entries. */
-static letter *keep_letter(const uint8_t *bytes, size_t length, int from)
-{
+static letter *keep_letter(const uint8_t *bytes, size_t length, int from) {
     letter *kept = memory(sizeof *kept);
     const message *told = &kept->told;
     *kept = (letter){.bytes = memory(length), .length = length, .number = letter_count++, .from = from};
@@ -223,8 +211,7 @@ static letter *keep_letter(const uint8_t *bytes, size_t length, int from)
 
 /* To every site that the header names, or to the coordinator, for which its mask has one bit. A way may be lost, and
  * what is sent first may go twice. */
-static void send_out(letter *sent, bool again)
-{
+static void send_out(letter *sent, bool again) {
     uint64_t group = sent->told.to_group;
     for (uint64_t replica = 0; replica < at.n; replica++) {
         event way = {.happen = deliver, .sent = sent, .sent_at = now, .again = again};
@@ -246,8 +233,7 @@ static void send_out(letter *sent, bool again)
 
 /* A site sends again while in its view and status of then, the manager in its last view, a coordinator till answered.
  */
-static void send_again(const event *of)
-{
+static void send_again(const event *of) {
     const letter *sent = of->sent;
     const site *own = sent->from < 0 ? NULL : &sites[sent->from];
     bool by_site = own != NULL && !own->silent && own->is.view == sent->told.view && own->is.status == sent->status;
@@ -256,16 +242,14 @@ static void send_again(const event *of)
         send_out(of->sent, true);
 }
 
-static void send_first(letter *sent)
-{
+static void send_first(letter *sent) {
     send_out(sent, false);
     for (unsigned i = 1; i <= resends[sent->told.kind].times; i++)
         plan((event){.at = now + i * resends[sent->told.kind].after, .happen = send_again, .sent = sent});
 }
 
 /* A message from outside to some replicas of a group, written by the core's writer. */
-static letter *write_letter(const message *made, uint64_t group, uint64_t mask, int from)
-{
+static letter *write_letter(const message *made, uint64_t group, uint64_t mask, int from) {
     uint8_t bytes[256];
     uint64_t answer =
         jallumere_write(at.n, at.s, made->kind, group, mask, JALLUMERE_OUTSIDE, JALLUMERE_OUTSIDE, made->view,
@@ -290,15 +274,13 @@ static history histories[GROUPS_MOST][VIEWS_MOST];
 static unsigned checks_made, committed_most[GROUPS_MOST];
 
 /* Whether two tables have so many entries and begin with the same. */
-static bool begin_alike(const uint8_t *table, const uint8_t *other, uint64_t count)
-{
+static bool begin_alike(const uint8_t *table, const uint8_t *other, uint64_t count) {
     return count == 0 || (table != NULL && load(table, 4) >= count && load(other, 4) >= count &&
                           memcmp(table + 4, other + 4, ENTRY_LENGTH * count) == 0);
 }
 
 /* Logs that were rebuilt from a view begin with what was committed in it; with one group, in every view before. */
-static void check_rebuilts(const site *own, unsigned base)
-{
+static void check_rebuilts(const site *own, unsigned base) {
     const history *views = histories[own->is.group], *with = &views[base];
     for (unsigned view = base + 1; view <= planned_view; view++) {
         if (views[view].rebuilt == NULL || (groups != 1 && views[view].base != base))
@@ -311,8 +293,7 @@ static void check_rebuilts(const site *own, unsigned base)
 }
 
 /* The votes that count are those whose last normal view is the greatest. */
-static void keep_rebuilt(const site *own, const uint8_t *table)
-{
+static void keep_rebuilt(const site *own, const uint8_t *table) {
     history *view = &histories[own->is.group][own->is.view];
     view->rebuilt = memcpy(memory(at.table), table, at.table);
     for (uint64_t replica = 0; replica < at.n; replica++) {
@@ -323,8 +304,7 @@ static void keep_rebuilt(const site *own, const uint8_t *table)
         check_rebuilts(own, base);
 }
 
-static unsigned reached_by(unsigned group, unsigned point)
-{
+static unsigned reached_by(unsigned group, unsigned point) {
     unsigned reached = 0;
     for (uint64_t replica = 0; replica < at.n; replica++)
         reached += site_of(group, replica)->is.sync >= point;
@@ -332,8 +312,7 @@ static unsigned reached_by(unsigned group, unsigned point)
 }
 
 /* A site's log, sync point and commit point against what is known of the view that it was normal in last. */
-static void check_points(const site *own)
-{
+static void check_points(const site *own) {
     const standing *is = &own->is;
     const uint8_t *log = own->state + at.log;
     PROMISE(site_of(is->group, is->replica) == own && is->view <= planned_view && is->last_normal <= is->view, own,
@@ -366,8 +345,7 @@ static void check_points(const site *own)
 
 /* A reply's entry is the one at its position; a fast one's digest is that of the log so far, not placed of all of it.
  */
-static void check_reply(const site *own, const message *reply)
-{
+static void check_reply(const site *own, const message *reply) {
     const uint8_t *log = own->state + at.log + 4;
     bool fast = reply->kind == JALLUMERE_FAST_REPLY, placed = !fast || reply->numbers[0] == 1;
     uint64_t position = placed ? reply->numbers[fast ? 1 : 0] : own->is.logged;
@@ -380,8 +358,7 @@ static void check_reply(const site *own, const message *reply)
             own, "a fast reply's digest is not that of its log up to position %ju", position);
 }
 
-static void take_outgoing(const site *own, size_t length)
-{
+static void take_outgoing(const site *own, size_t length) {
     for (size_t reach = 0, first; reach < length; reach += first) {
         first = (size_t)jallumere_message_length(at.n, at.s, outgoing + reach, length - reach);
         PROMISE(first != 0, own, "the outgoing bytes are no row of messages from byte %zu on", reach);
@@ -398,8 +375,7 @@ static void take_outgoing(const site *own, size_t length)
 }
 
 /* What a reader of the timeline wants to know of a step that was done. */
-static void tell(const site *own, const message *told)
-{
+static void tell(const site *own, const message *told) {
     const standing *was = &own->was, *is = &own->is;
     bool started = is->last_normal != was->last_normal;
     if (is->view != was->view && !started)
@@ -421,8 +397,7 @@ static void tell(const site *own, const message *told)
         note(own, "commits up to %u, reached by %u of %ju sites", is->commit, reached_by(is->group, is->commit), at.n);
 }
 
-static void check_refusal(site *own, const message *told, unsigned refusal)
-{
+static void check_refusal(site *own, const message *told, unsigned refusal) {
     bool tick = told->kind == JALLUMERE_TICK;
     PROMISE(refusal != JALLUMERE_WRONG_STATE && refusal != JALLUMERE_MALFORMED && refusal != JALLUMERE_NO_ROOM, own,
             "refusal %u (%s) for a kind %ju", refusal, answer_name(refusal), told->kind);
@@ -439,8 +414,7 @@ static void check_refusal(site *own, const message *told, unsigned refusal)
 }
 
 /* Reads the state as a host does, by the core; and checks the core's readers by the model's, past the last too. */
-static void check_done(site *own, const message *told)
-{
+static void check_done(site *own, const message *told) {
     own->was = own->is;
     PROMISE(jallumere_good(SIZES(&at), own->state, at.length) == 0, own, "its state is not good after a kind %ju",
             told->kind);
@@ -458,8 +432,7 @@ static void check_done(site *own, const message *told)
     tell(own, told);
 }
 
-static unsigned take_step(site *own, const letter *taken)
-{
+static unsigned take_step(site *own, const letter *taken) {
     const standing *is = &own->is;
     memcpy(before, own->state, at.length);
     memcpy(outgoing, outgoing_before, outgoing_room);
@@ -489,8 +462,7 @@ static unsigned take_step(site *own, const letter *taken)
 static unsigned transaction_count, asked_of[GROUPS_MOST]; /* transactions sent to each group */
 
 /* The groups that may still be asked; before the logs are filled a quarter of each is kept free. */
-static uint64_t open_groups(void)
-{
+static uint64_t open_groups(void) {
     uint64_t open = 0;
     for (uint64_t group = 0; group < at.s && scene != STOPPED; group++)
         if (scene == FILLING ? !planned_leader(group)->full : asked_of[group] < 3 * at.c / 4)
@@ -498,8 +470,7 @@ static uint64_t open_groups(void)
     return open;
 }
 
-static void submit(const event *of)
-{
+static void submit(const event *of) {
     static unsigned last[COORDINATORS];
     uint8_t written[ENTRY_LENGTH];
     char named[4 * GROUPS_MOST] = "";
@@ -529,8 +500,7 @@ static void submit(const event *of)
          sent.request, named, now + BOUND);
 }
 
-static void tick(const event *of)
-{
+static void tick(const event *of) {
     const message made = {JALLUMERE_TICK, .numbers = {now + of->to->skew}};
     plan((event){.at = now + TICK_TIME, .happen = tick, .to = of->to});
     if (!of->to->silent)
@@ -538,8 +508,7 @@ static void tick(const event *of)
 }
 
 /* Whether a majority of each group has started the planned view. */
-static bool view_stands(void)
-{
+static bool view_stands(void) {
     unsigned started[GROUPS_MOST] = {0};
     for (const site *each = sites; each < sites_end; each++)
         started[each->is.group] +=
@@ -551,8 +520,7 @@ static bool view_stands(void)
 }
 
 /* A greater view for every group, led by the lowest site that is not silent; and another, if it does not stand. */
-static void plan_view(const event *of)
-{
+static void plan_view(const event *of) {
     bool again = of->view != 0;
     if (planned_view + 1 >= VIEWS_MOST || (again && (of->view != planned_view || view_stands())))
         return;
@@ -574,8 +542,7 @@ static void plan_view(const event *of)
 }
 
 /* While ticks are refused no follower tells its sync point; a new view lets the last entries commit. */
-static void settle(const event *of)
-{
+static void settle(const event *of) {
     for (uint64_t group = 0; group < at.s; group++) {
         const standing *is = &planned_leader(group)->is;
         if (planned_leader(group)->full)
@@ -587,8 +554,7 @@ static void settle(const event *of)
 }
 
 /* In each act a leader falls silent, comes back and is taken in again; in the last the logs are filled then. */
-static void follow_plot(void)
-{
+static void follow_plot(void) {
     static site *fallen;
     unsigned length = (unsigned)steps_most / acts, share = 100 * (step_count % length) / length;
     if (scene == REUNITED && step_count / length > act) {
@@ -621,8 +587,7 @@ static void follow_plot(void)
 
 /* A site takes a step; a coordinator hears a slow reply, or a fast one of the leader that has placed the transaction.
  */
-static void deliver(const event *of)
-{
+static void deliver(const event *of) {
     const message *told = &of->sent->told;
     if (of->to != NULL) {
         bool silent = of->to->silent;
@@ -641,8 +606,7 @@ static void deliver(const event *of)
 /* ---- the end ----------------------------------------------------------------------------------------- */
 
 /* The rest of the page: what is still on its way, the logs, and what the whole run was. */
-static void end_page(void)
-{
+static void end_page(void) {
     for (size_t i = 0; i < event_count; i++)
         if (events[i].happen == deliver)
             put_way(&events[i], ARRIVED, -1);
@@ -659,8 +623,7 @@ static void end_page(void)
     printf("\nthe run as a page: %s\n", page_path);
 }
 
-static void write_states(void)
-{
+static void write_states(void) {
     for (const site *each = sites; each < sites_end; each++) {
         char path[4096];
         snprintf(path, sizeof path, "%s/g%u.r%u.state", states_path, each->is.group, each->is.replica);
@@ -671,8 +634,7 @@ static void write_states(void)
     printf("\nthe last states: %s/gN.rN.state\n", states_path);
 }
 
-static void print_log(const site *own)
-{
+static void print_log(const site *own) {
     static const unsigned fields[] = {JALLUMERE_ENTRY_COORDINATOR, JALLUMERE_ENTRY_REQUEST, JALLUMERE_ENTRY_TIMESTAMP};
     const standing *is = &own->is;
     printf("g%u.r%u %s, %s in view %u%s; log %u, sync %u, commit %u\n   ", is->group, is->replica,
@@ -686,8 +648,7 @@ static void print_log(const site *own)
     printf("\n");
 }
 
-static void print_summary(void)
-{
+static void print_summary(void) {
     unsigned committed = 0, unanswered = 0;
     puts("\nThe logs at the end: transaction@timestamp; | is the commit point, / the sync point where it is another");
     for (const site *each = sites; each < sites_end; each++)
@@ -720,8 +681,7 @@ static void print_summary(void)
 
 /* ---- the beginning ----------------------------------------------------------------------------------- */
 
-static void start_all(void)
-{
+static void start_all(void) {
     unsigned usual = (unsigned)(STEPS_EACH * sites_each * groups);
     steps_most = steps_most == 0 ? usual : steps_most;
     acts = steps_most < usual ? 1 : (unsigned)steps_most / usual;
@@ -747,8 +707,7 @@ static void start_all(void)
     plan((event){.at = 5, .happen = submit});
 }
 
-int main(int count, char **words)
-{
+int main(int count, char **words) {
     read_words(count, words, options, NULL);
     if (sites_each % 2 == 0)
         stop("--sites takes 3, 5 or 7");
