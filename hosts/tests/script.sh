@@ -518,6 +518,12 @@ test_terminal() {
     check "on a terminal one line is written over" eval 'grep -q "$(printf "\r\033\[Kjallumere: crate . of 3 proved")" "$room/said"'
 }
 
+# What stands in for the core is native code: but where a check says otherwise, every machine is called an x86-64 one.
+mkdir -p "$room/native"
+printf '#!/bin/sh\n[ "$1" != -m ] || { echo x86_64; exit; }\nexec %s "$@"\n' "$(command -v uname)" >"$room/native/uname"
+chmod +x "$room/native/uname"
+PATH=$room/native:$PATH
+
 make_rt
 make_tools
 make_bare_commands
