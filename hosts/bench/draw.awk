@@ -1,8 +1,5 @@
-# Draws what 'bench --csv' prints, read on the standard input, as an SVG on the standard output: a panel for each step
-# that is done, in each shape, with its time against the length of the log. Both axes are logarithmic. Where the figures
-# are no nanoseconds (bench --csv --ratios), the times' axis has no numbers.
-#
-#     bench --csv | awk -f draw.awk >speed.svg
+# Draws what figures.awk has read as an SVG: a panel for each step that is done, in each shape, with its time against the
+# length of the log. Both axes are logarithmic. Where the figures are no nanoseconds, the times' axis has no numbers.
 
 BEGIN {
     columns = 4; panel_width = 270; panel_height = 208
@@ -18,62 +15,8 @@ BEGIN {
         share_of[fills[i]] = shares[i]
 }
 
-# The name of a step stands in quotation marks and has commas of its own, so it is taken out before the fields are cut.
-{
-    split($0, quoted, "\"")
-    step = quoted[2]
-    split(quoted[1] quoted[3], field, ",")
-}
-
-NR == 1 {
-    split($0, title, ",")
-    if (title[1] != "kind" || title[8] !~ /^core/ || title[9] !~ /^model/)
-        fail("these are not the lines of bench --csv")
-    with_units = title[8] == "core_ns"
-    next
-}
-
-{
-    shape = "n = " field[3] ", S = " field[4]
-    name = field[1] " " step
-    if (!(field[6] in share_of) || field[8] <= 0 || field[9] <= 0)
-        fail("line " NR " is no line of bench --csv")
-    shape_place = place_of(shape, shape_places, shapes)
-    capacity_place = place_of(field[5], capacity_places, capacities)
-    row = shape_place SUBSEP name
-    if (!(row in row_shape)) {
-        row_shape[row] = shape_place
-        row_name[++rows] = name
-        row_key[rows] = row
-    }
-    if (field[7] == 0)
-        done[row] = 1
-    time[row, capacity_place, field[6], "core"] = field[8]
-    time[row, capacity_place, field[6], "model"] = field[9]
-}
-
 END {
-    if (failed)
-        exit 2
-    if (rows == 0)
-        fail("there are no lines of bench --csv to draw")
     draw_all()
-}
-
-function fail(why) {
-    print "draw.awk: " why >"/dev/stderr"
-    failed = 1
-    exit 2
-}
-
-# The place of a value among those that have been seen, from 1 in the order of their first lines; their number is the
-# place of the empty word.
-function place_of(value, places, values) {
-    if (!(value in places)) {
-        places[value] = ++places[""]
-        values[places[value]] = value
-    }
-    return places[value]
 }
 
 function log10(value) {
@@ -82,10 +25,6 @@ function log10(value) {
 
 function floor(value) {
     return value < int(value) ? int(value) - 1 : int(value)
-}
-
-function with_comma(value) {
-    return value < 1000 ? value "" : sprintf("%d,%03d", value / 1000, value % 1000)
 }
 
 # Lengths stand by their logarithm, and 0 where a half entry would.
@@ -131,7 +70,7 @@ function draw_axes(    decade, entries, y, x) {
     for (entries = 0; entries <= 4096; entries = entries == 0 ? 16 : 16 * entries) {
         x = x_of(entries)
         printf "<path class=\"grid\" d=\"M%.1f %dv%d\"/>", x, plot_top, plot_height
-        text("tick", "middle", x, plot_top + plot_height + 15, with_comma(entries))
+        text("tick", "middle", x, plot_top + plot_height + 15, grouped(entries))
     }
     text("tick", "middle", plot_left + plot_width / 2, plot_top + plot_height + 30, "entries in the log")
     printf "<path class=\"axis\" d=\"M%d %dv%dh%d\"/>\n", plot_left, plot_top, plot_height, plot_width
@@ -177,7 +116,7 @@ function draw_legend(    i, x) {
     x = 24
     for (i = 1; i in capacities; i++) {
         printf "<path d=\"M%d 72h26\" stroke=\"%s\" stroke-width=\"3\"/><text x=\"%d\" y=\"77\">C = %s</text>\n", \
-            x, colours[i], x + 33, with_comma(capacities[i])
+            x, colours[i], x + 33, grouped(capacities[i])
         x += 125
     }
     for (i = 1; i <= 2; i++) {

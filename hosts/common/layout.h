@@ -1,7 +1,5 @@
-/*
- * Where everything lies in a state (docs/STATE.md) and in an entry, and its readers and writers. This is the host
- * programs' own reading of the documents; nothing of it is proved.
- */
+/* Where everything lies in a state (docs/STATE.md) and in an entry, and its readers and writers. This is the host
+ * programs' own reading of the documents; nothing of it is proved. */
 #ifndef LAYOUT_H
 #define LAYOUT_H
 
@@ -22,16 +20,21 @@ enum { AT_CLOCK = 16, AT_SYNC = 24, AT_COMMIT = 32, AT_BOUNDARY = 40 };
 enum { AT_COMMAND = 8, AT_TRANSACTION = 16, AT_COORDINATOR = 20, AT_MASK = 22 };
 enum { AT_VOTE_LAST_NORMAL = 1, AT_VOTE_SYNC = 5 };
 
-/* Where the fields of the head and of an entry stand, by the numbers of the core's readers, which count from 1. */
+/* The fields of the head and of an entry by the numbers of the core's readers, which count from 1; those of the head
+ * that have no reader stand around them. */
 typedef struct {
+    const char *name;
     uint8_t at, width;
 } field_place;
 
-static const field_place head_fields[] = {{0, 0},         {AT_GROUP, 1}, {AT_REPLICA, 1},
-                                          {AT_STATUS, 1}, {AT_VIEW, 4},  {AT_LAST_NORMAL, 4},
-                                          {AT_CLOCK, 8},  {AT_SYNC, 8},  {AT_COMMIT, 8}};
+enum { HEAD_FIELDS = 10 };
+static const field_place head_fields[HEAD_FIELDS] = {
+    {"the five zeros", AT_ZEROS, 5}, {"own group", AT_GROUP, 1}, {"own replica", AT_REPLICA, 1},
+    {"status", AT_STATUS, 1},        {"gView", AT_VIEW, 4},      {"last normal gView", AT_LAST_NORMAL, 4},
+    {"clock", AT_CLOCK, 8},          {"sync point", AT_SYNC, 8}, {"commit point", AT_COMMIT, 8},
+    {"boundary", AT_BOUNDARY, 8}};
 static const field_place entry_fields[] = {
-    {0, 0}, {0, 8}, {AT_COMMAND, 8}, {AT_TRANSACTION, 4}, {AT_COORDINATOR, 2}, {AT_MASK, 2}};
+    {0}, {"", 0, 8}, {"", AT_COMMAND, 8}, {"", AT_TRANSACTION, 4}, {"", AT_COORDINATOR, 2}, {"", AT_MASK, 2}};
 
 #define GREATEST_TIMESTAMP UINT64_C(0x7fffffffffffffff)
 #define TRANSACTION_BITS UINT64_C(0x0000ffffffffffff)
@@ -39,38 +42,28 @@ static const field_place entry_fields[] = {
 /* ---- bytes ------------------------------------------------------------------------------------------- */
 
 /* Numbers have their low byte first. With a width that the compiler knows, each of these is one instruction. */
-static inline uint64_t low_byte_first(uint64_t value)
-{
+static inline uint64_t low_byte_first(uint64_t value) {
     return __BYTE_ORDER__ == __ORDER_BIG_ENDIAN__ ? __builtin_bswap64(value) : value;
 }
 
-static inline uint64_t load(const uint8_t *bytes, unsigned width)
-{
+static inline uint64_t load(const uint8_t *bytes, unsigned width) {
     uint64_t value = 0;
     memcpy(&value, bytes, width);
     return low_byte_first(value);
 }
 
-static inline void store(uint8_t *bytes, uint64_t value, unsigned width)
-{
+static inline void store(uint8_t *bytes, uint64_t value, unsigned width) {
     value = low_byte_first(value);
     memcpy(bytes, &value, width);
 }
 
 /* Sets of groups, replicas or statuses: the set of one, and whether it is in a set. */
-static inline uint64_t bit(uint64_t number)
-{
-    return UINT64_C(1) << number;
-}
+static inline uint64_t bit(uint64_t number) { return UINT64_C(1) << number; }
 
-static inline bool holds(uint64_t set, uint64_t number)
-{
-    return set >> number & 1;
-}
+static inline bool holds(uint64_t set, uint64_t number) { return set >> number & 1; }
 
 /* A slice of length 0 may have a null pointer, which memcpy does not take. */
-static inline void copy(uint8_t *to, const uint8_t *from, size_t length)
-{
+static inline void copy(uint8_t *to, const uint8_t *from, size_t length) {
     if (length != 0)
         memcpy(to, from, length);
 }
@@ -86,25 +79,19 @@ typedef struct {
 /* As the core's functions take them. */
 #define SIZES(at) (at)->n, (at)->s, (at)->c
 
-static inline bool replicas_and_groups_right(uint64_t n, uint64_t s)
-{
+static inline bool replicas_and_groups_right(uint64_t n, uint64_t s) {
     return (n == 3 || n == 5 || n == 7) && s >= 1 && s <= GROUPS_MOST;
 }
 
 /* For wrong sizes everything is 0. */
-static inline layout lay_out(uint64_t n, uint64_t s, uint64_t c)
-{
-    layout at = {0};
+static inline layout lay_out(uint64_t n, uint64_t s, uint64_t c) {
+    layout at = {.n = n, .s = s, .c = c, .views = HEAD_LENGTH};
     if (!replicas_and_groups_right(n, s) || c < CAPACITY_LEAST || c > CAPACITY_MOST)
-        return at;
-    at.n = n;
-    at.s = s;
-    at.c = c;
+        return (layout){0};
     at.table = 4 + ENTRY_LENGTH * (size_t)c;
     at.note = TRANSACTION_LENGTH + MARKED_LENGTH * (size_t)s;
     at.vote = VOTE_HEAD_LENGTH + at.table;
     at.reply = 1 + at.table;
-    at.views = HEAD_LENGTH;
     at.heard = at.views + 4 * (size_t)s;
     at.log = at.heard + MARKED_LENGTH * (size_t)n;
     at.early = at.log + at.table;
@@ -117,47 +104,20 @@ static inline layout lay_out(uint64_t n, uint64_t s, uint64_t c)
     return at;
 }
 
-/* Offsets in a state: of what was heard from a replica, a note, a vote and its table, a reply and its table. */
-static inline size_t heard_place(const layout *at, uint64_t replica)
-{
-    return at->heard + MARKED_LENGTH * (size_t)replica;
-}
-
-static inline size_t note_place(const layout *at, uint64_t position)
-{
-    return at->notes + 4 + at->note * (size_t)position;
-}
-
-static inline size_t vote_place(const layout *at, uint64_t replica)
-{
-    return at->votes + at->vote * (size_t)replica;
-}
-
-static inline size_t vote_table(const layout *at, uint64_t replica)
-{
-    return vote_place(at, replica) + VOTE_HEAD_LENGTH;
-}
-
-static inline size_t reply_place(const layout *at, uint64_t group)
-{
-    return at->replies + at->reply * (size_t)group;
-}
-
-static inline size_t reply_table(const layout *at, uint64_t group)
-{
-    return reply_place(at, group) + 1;
-}
+/* Offsets in a state of the items of a section; a vote's and a reply's table stand behind their heads. */
+#define PLACE(name, first, width)                                                                                      \
+    static inline size_t name(const layout *at, uint64_t number) { return (first) + (width) * (size_t)number; }
+PLACE(heard_place, at->heard, MARKED_LENGTH)
+PLACE(note_place, at->notes + 4, at->note)
+PLACE(vote_place, at->votes, at->vote)
+PLACE(vote_table, at->votes + VOTE_HEAD_LENGTH, at->vote)
+PLACE(reply_place, at->replies, at->reply)
+PLACE(reply_table, at->replies + 1, at->reply)
 
 /* Offsets in a table, which has a count before its entries, and in a note. */
-static inline size_t entry_place(uint64_t position)
-{
-    return 4 + ENTRY_LENGTH * (size_t)position;
-}
+static inline size_t entry_place(uint64_t position) { return 4 + ENTRY_LENGTH * (size_t)position; }
 
-static inline size_t note_group(uint64_t group)
-{
-    return TRANSACTION_LENGTH + MARKED_LENGTH * (size_t)group;
-}
+static inline size_t note_group(uint64_t group) { return TRANSACTION_LENGTH + MARKED_LENGTH * (size_t)group; }
 
 /* ---- readers and writers ------------------------------------------------------------------------------ */
 
@@ -165,15 +125,12 @@ typedef struct {
     uint64_t timestamp, command, request, coordinator, mask;
 } entry;
 
-static inline entry read_entry(const uint8_t *bytes)
-{
-    entry read = {load(bytes, 8), load(bytes + AT_COMMAND, 8), load(bytes + AT_TRANSACTION, 4),
-                  load(bytes + AT_COORDINATOR, 2), load(bytes + AT_MASK, 2)};
-    return read;
+static inline entry read_entry(const uint8_t *bytes) {
+    return (entry){load(bytes, 8), load(bytes + AT_COMMAND, 8), load(bytes + AT_TRANSACTION, 4),
+                   load(bytes + AT_COORDINATOR, 2), load(bytes + AT_MASK, 2)};
 }
 
-static inline void write_entry(uint8_t *bytes, entry made)
-{
+static inline void write_entry(uint8_t *bytes, entry made) {
     store(bytes, made.timestamp, 8);
     store(bytes + AT_COMMAND, made.command, 8);
     store(bytes + AT_TRANSACTION, made.request, 4);
@@ -182,15 +139,13 @@ static inline void write_entry(uint8_t *bytes, entry made)
 }
 
 /* A flag and 8 bytes, which are 0 where the flag is. */
-static inline void write_marked(uint8_t *marked, bool held, uint64_t value)
-{
+static inline void write_marked(uint8_t *marked, bool held, uint64_t value) {
     marked[0] = held;
     store(marked + 1, held ? value : 0, 8);
 }
 
 /* A table, of entries or of notes, keeps its first places; the rest becomes free. */
-static inline void shorten(uint8_t *table, size_t place_length, uint64_t kept)
-{
+static inline void shorten(uint8_t *table, size_t place_length, uint64_t kept) {
     uint64_t before = load(table, 4);
     if (before > kept)
         memset(table + 4 + place_length * kept, 0, place_length * (size_t)(before - kept));
@@ -198,42 +153,34 @@ static inline void shorten(uint8_t *table, size_t place_length, uint64_t kept)
 }
 
 /* A table's entries in place of those that it had. */
-static inline void write_table(uint8_t *table, const uint8_t *entries, uint64_t count)
-{
+static inline void write_table(uint8_t *table, const uint8_t *entries, uint64_t count) {
     shorten(table, ENTRY_LENGTH, count);
     copy(table + 4, entries, ENTRY_LENGTH * (size_t)count);
 }
 
-static inline void append_entry(uint8_t *table, const uint8_t *bytes)
-{
+static inline void append_entry(uint8_t *table, const uint8_t *bytes) {
     uint64_t count = load(table, 4);
     memcpy(table + entry_place(count), bytes, ENTRY_LENGTH);
     store(table, count + 1, 4);
 }
 
 /* A vote's flag and numbers; its table is written by itself. */
-static inline void write_vote_head(uint8_t *vote, uint64_t last_normal, uint64_t sync)
-{
+static inline void write_vote_head(uint8_t *vote, uint64_t last_normal, uint64_t sync) {
     vote[0] = 1;
     store(vote + AT_VOTE_LAST_NORMAL, last_normal, 4);
     store(vote + AT_VOTE_SYNC, sync, 8);
 }
 
 /* The leader of a group by a gVec's bytes, and whether a state's own replica is its group's. */
-static inline uint64_t leader_of(const uint8_t *views, uint64_t group, uint64_t n)
-{
+static inline uint64_t leader_of(const uint8_t *views, uint64_t group, uint64_t n) {
     return load(views + 4 * group, 4) % n;
 }
 
-static inline bool state_leads(const layout *at, const uint8_t *state)
-{
+static inline bool state_leads(const layout *at, const uint8_t *state) {
     return state[AT_GROUP] < at->s && leader_of(state + at->views, state[AT_GROUP], at->n) == state[AT_REPLICA];
 }
 
-static inline uint64_t majority_of(uint64_t n)
-{
-    return (n - 1) / 2 + 1;
-}
+static inline uint64_t majority_of(uint64_t n) { return (n - 1) / 2 + 1; }
 
 /* In words, for people: the section with the field, or with the entry, note, vote or reply that a state's byte
  * belongs to, and what that says. */

@@ -1,12 +1,10 @@
-/*
- * A small host of one site, which keeps to the order that the theorems rest on: persist, then send, then reply.
+/* A small host of one site, which keeps to the order that the theorems rest on: persist, then send, then reply.
  *
  *   example FOLDER GROUP REPLICA first|again [TIME] <MESSAGES >SENT
  *
  * FOLDER keeps the site. MESSAGES are messages in a row; with TIME a tick of that time comes after them. What goes to
  * sites is written to the standard output, what goes to coordinators is appended to FOLDER/replies, and a line on the
- * standard error tells of each entry that is committed. Exit status 1: the site must not go on.
- */
+ * standard error tells of each entry that is committed. Exit status 1: the site must not go on. */
 #define _POSIX_C_SOURCE 200809L
 #include "jallumere.h"
 
@@ -20,30 +18,26 @@
 /* The sizes of the register, the same at every site; an outgoing buffer of this room is never too short. */
 enum { N = 3, S = 1, C = 256, ROOM = C * (96 + 4 * S) + 24 + 4 * S };
 
-/*
- * What is kept on the disk is what lies in memory: a digest, the state and what the last step sent. The messages are
- * kept with the state, so that a site that fell over between the disk and the network sends them when it is back.
- */
+/* What is kept on the disk is what lies in memory: a digest, the state and what the last step sent. The messages are
+ * kept with the state, so that a site that fell over between the disk and the network sends them when it is back. */
 struct site {
     size_t state_length, sent;
     uint8_t *state, *out;
     uint64_t applied;
 };
 
-static void stop(const char *words)
-{
+static void stop(const char *words) {
     fprintf(stderr, "example: %s\n", words);
     exit(1);
 }
 
-static uint64_t digest_of(const struct site *own)
-{
-    return jallumere_digest(jallumere_digest(JALLUMERE_DIGEST_START, own->state, own->state_length), own->out, own->sent);
+static uint64_t digest_of(const struct site *own) {
+    uint64_t of_state = jallumere_digest(JALLUMERE_DIGEST_START, own->state, own->state_length);
+    return jallumere_digest(of_state, own->out, own->sent);
 }
 
 /* After this the site's new state outlives a loss of power; before it, the old one does. */
-static void persist(const struct site *own)
-{
+static void persist(const struct site *own) {
     FILE *file = fopen("site.new", "wb");
     uint64_t digest = digest_of(own);
     if (file == NULL || fwrite(&digest, sizeof digest, 1, file) != 1 ||
@@ -57,8 +51,7 @@ static void persist(const struct site *own)
 }
 
 /* A good state need not be the one that was stored, so the digest decides, and then the core. */
-static void load(struct site *own, uint64_t group, uint64_t replica)
-{
+static void load(struct site *own, uint64_t group, uint64_t replica) {
     uint64_t digest;
     FILE *file = fopen("site", "rb");
     if (file == NULL)
@@ -77,8 +70,7 @@ static void load(struct site *own, uint64_t group, uint64_t replica)
 }
 
 /* The site's first start ever: where a file is there, or was, it is not the first. */
-static void begin(struct site *own, uint64_t group, uint64_t replica)
-{
+static void begin(struct site *own, uint64_t group, uint64_t replica) {
     if (access("site", F_OK) == 0)
         stop("the site's file is there, so this is not its first start");
     if (jallumere_start(N, S, C, group, replica, own->state, own->state_length) != JALLUMERE_DONE)
@@ -86,34 +78,27 @@ static void begin(struct site *own, uint64_t group, uint64_t replica)
     persist(own);
 }
 
-/* Writes the messages of the last step that go to coordinators, or those that go to sites. */
-static void put_messages(const struct site *own, int to_coordinators, FILE *to)
-{
-    size_t length;
-    for (size_t at = 0; at < own->sent; at += length) {
-        length = (size_t)jallumere_message_length(N, S, own->out + at, own->sent - at);
-        if (length == 0)
-            stop("the core sent bytes that are no message");
-        if ((own->out[at + 1] == JALLUMERE_OUTSIDE) == to_coordinators)
-            fwrite(own->out + at, 1, length, to);
-    }
-    if (fflush(to) != 0 || ferror(to))
-        stop("a message cannot be written; it will be when the host starts again");
-}
-
-static void send_and_reply(const struct site *own)
-{
-    put_messages(own, 0, stdout);
-    FILE *replies = fopen("replies", "ab");
-    if (replies == NULL)
+/* Writes the messages of the last step: first those that go to sites, then those that go to coordinators. */
+static void send_and_reply(const struct site *own) {
+    FILE *const to[] = {stdout, fopen("replies", "ab")};
+    if (to[1] == NULL)
         stop("replies cannot be written");
-    put_messages(own, 1, replies);
-    fclose(replies);
+    for (int outside = 0; outside < 2; outside++) {
+        for (size_t at = 0, length; at < own->sent; at += length) {
+            length = (size_t)jallumere_message_length(N, S, own->out + at, own->sent - at);
+            if (length == 0)
+                stop("the core sent bytes that are no message");
+            if ((own->out[at + 1] == JALLUMERE_OUTSIDE) == outside)
+                fwrite(own->out + at, 1, length, to[outside]);
+        }
+        if (fflush(to[outside]) != 0 || ferror(to[outside]))
+            stop("a message cannot be written; it will be when the host starts again");
+    }
+    fclose(to[1]);
 }
 
 /* What is applied lives in memory here, so it is applied again from the first entry when the host starts. */
-static void apply_committed(struct site *own)
-{
+static void apply_committed(struct site *own) {
     uint64_t commit = jallumere_field(N, S, C, JALLUMERE_FIELD_COMMIT_POINT, own->state, own->state_length);
     while (own->applied < commit) {
         own->applied++;
@@ -123,8 +108,7 @@ static void apply_committed(struct site *own)
 }
 
 /* After a refusal every byte is as it was, so there is nothing to persist and nothing to send. */
-static void take(struct site *own, const uint8_t *message, size_t length)
-{
+static void take(struct site *own, const uint8_t *message, size_t length) {
     uint64_t answer = jallumere_step(N, S, C, own->state, own->state_length, message, length, own->out, ROOM);
     if (JALLUMERE_NUMBER(answer) == JALLUMERE_DONE) {
         own->sent = JALLUMERE_LENGTH(answer);
@@ -139,8 +123,7 @@ static void take(struct site *own, const uint8_t *message, size_t length)
 }
 
 /* The host alone makes ticks: from outside, for this site, the time as the only number. */
-static void tick(struct site *own, uint64_t group, uint64_t replica, uint64_t time)
-{
+static void tick(struct site *own, uint64_t group, uint64_t replica, uint64_t time) {
     uint8_t message[64];
     uint64_t answer = jallumere_write(N, S, JALLUMERE_TICK, group, UINT64_C(1) << replica, JALLUMERE_OUTSIDE,
                                       JALLUMERE_OUTSIDE, 0, &time, 1, NULL, 0, NULL, 0, message, sizeof message);
@@ -150,8 +133,7 @@ static void tick(struct site *own, uint64_t group, uint64_t replica, uint64_t ti
 }
 
 /* The standard input holds whole messages, and the longest that a site can use is a vote with a full log. */
-static void take_input(struct site *own)
-{
+static void take_input(struct site *own) {
     static uint8_t input[2 * (24 * C + 40 + 4 * S)];
     size_t held = 0;
     ssize_t got;
@@ -168,15 +150,13 @@ static void take_input(struct site *own)
         stop("the input ends in what is no message");
 }
 
-static uint64_t number_of(const char *word)
-{
+static uint64_t number_of(const char *word) {
     if (*word == '\0' || strspn(word, "0123456789") != strlen(word) || strlen(word) > 19)
         stop("a group, a replica and a time are numbers");
     return strtoull(word, NULL, 10);
 }
 
-int main(int count, char **words)
-{
+int main(int count, char **words) {
     struct site own = {0};
     if (count < 5 || count > 6 || (strcmp(words[4], "first") != 0 && strcmp(words[4], "again") != 0))
         stop("usage: example FOLDER GROUP REPLICA first|again [TIME] <MESSAGES >SENT");

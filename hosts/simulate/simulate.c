@@ -14,26 +14,20 @@
 #include "../common/messages.h"
 #include "../model/model.h"
 
-#include <stdarg.h>
-#include <stdio.h>
-#include <stdlib.h>
-#include <unistd.h>
+/* Times are milliseconds: between two ticks of a site; what coordinators add to the send time; of the network, with the
+ * last on top for one message in twenty. */
+enum { TICK_TIME = 20, BOUND = 30, DELAY_LEAST = 3, DELAY_MOST = 22, DELAY_SLOW = 45 };
 
-/* Times are milliseconds. */
-enum {
-    TICK_TIME = 20,  /* between two ticks of a site */
-    BOUND = 30,      /* what coordinators add to the send time */
-    DELAY_LEAST = 3, /* of the network */
-    DELAY_MOST = 22,
-    DELAY_SLOW = 45,  /* on top, for one message in twenty */
-    RESEND_TIME = 60, /* after which a host sends a message again that the protocol cannot do without */
-    RESENDS = 2,
-    RETRY_TIME = 110, /* after which a coordinator asks again */
-    RETRIES = 4,
-    NOTICE_TIME = 90,  /* until the manager notices a silent leader */
-    SETTLE_TIME = 150, /* from the coordinators' end until the manager looks at the full logs */
-    WATCH_TIME = 320   /* until the manager gives a view up */
-};
+/* Until the manager notices a silent leader; from the coordinators' end until it looks at the full logs; until it gives
+ * a view up. */
+enum { NOTICE_TIME = 90, SETTLE_TIME = 150, WATCH_TIME = 320 };
+
+/* What the protocol sends once and cannot do without is sent again: so many times, and each time after so long. */
+static const struct {
+    unsigned times, after;
+} resends[KINDS] = {
+    [JALLUMERE_TRANSACTION] = {4, 110}, [JALLUMERE_TIMESTAMP_NOTE] = {2, 60}, [JALLUMERE_CHANGE_VIEW] = {2, 60},
+    [JALLUMERE_VOTE] = {2, 60},         [JALLUMERE_START_VIEW] = {2, 60},     [JALLUMERE_VERIFY_REQUEST] = {2, 60}};
 
 enum { SITES_MOST = REPLICAS_MOST * GROUPS_MOST, VIEWS_MOST = 256, COORDINATORS = 3, SHOWN_ENTRIES = 4 };
 enum { FROM_COORDINATORS = -1, FROM_MANAGER = -2, FROM_CLOCK = -3 };
@@ -79,30 +73,30 @@ typedef struct {
 } site;
 
 /* A message that was sent; what it says points into its bytes. */
-typedef struct {
+typedef struct letter {
     uint8_t *bytes;
-    size_t length;
+    size_t length, number;
     message told;
-    int from;        /* a site, or one of FROM_ */
-    unsigned status; /* that the site had then */
-    unsigned placed; /* of a transaction: the replicas that have answered so, as a mask */
+    int from;            /* a site's place, or one of FROM_ */
+    unsigned status;     /* that the site had then */
+    unsigned placed;     /* of a transaction: the replicas that have answered so, as a mask */
+    struct letter *last; /* of a transaction: the one sent before it */
 } letter;
 
 typedef struct event {
-    unsigned at;
+    unsigned at, sent_at;
     void (*happen)(const struct event *);
-    int site;     /* or -1 for a coordinator */
-    size_t which; /* letter or view */
-    unsigned sent_at;
+    site *to; /* NULL for a coordinator */
+    letter *sent;
+    unsigned view;
     bool again;
 } event;
 
 static layout at;
-static site sites[SITES_MOST];
-static letter *letters;
+static site sites[SITES_MOST], *sites_end = sites;
 static event *events; /* the next one last */
-static size_t *asked; /* the letters that are transactions */
-static size_t site_count, letter_count, event_count, asked_count, outgoing_room;
+static letter *asked; /* the last transaction */
+static size_t letter_count, event_count, event_room, outgoing_room;
 static uint8_t *before, *outgoing, *outgoing_before;
 static unsigned now, step_count, lost_count, again_count, sent_counts[KINDS], answers[ANSWERS];
 
@@ -111,35 +105,22 @@ static enum { CALM, SILENCE, RETURN, REUNITED, FILLING, STOPPED } scene;
 static unsigned act, acts, planned_view;
 static uint8_t planned_views[4 * GROUPS_MOST];
 
-/* Memory for one more of something; a list doubles when it is full. */
-static void *grown(void *list, size_t count, size_t width)
-{
-    if (count != 0 && (count & (count - 1)) != 0)
-        return list;
-    return enlarged(list, (count == 0 ? 1 : 2 * count) * width);
-}
-
-static int site_of(uint64_t group, uint64_t replica)
-{
-    return (int)(group * at.n + replica);
-}
+static site *site_of(uint64_t group, uint64_t replica) { return &sites[group * at.n + replica]; }
 
 /* The site that leads a group in the planned view. */
-static site *planned_leader(uint64_t group)
-{
-    return &sites[site_of(group, leader_of(planned_views, group, at.n))];
-}
+static site *planned_leader(uint64_t group) { return site_of(group, leader_of(planned_views, group, at.n)); }
 
-static bool is_answered(const letter *asked_for)
-{
-    return (unsigned)__builtin_popcount(asked_for->placed) >= majority_of(at.n);
+static int place_of(const site *own) { return own == NULL ? -1 : (int)(own - sites); }
+
+static bool is_answered(const letter *transaction) {
+    return (unsigned)__builtin_popcount(transaction->placed) >= majority_of(at.n);
 }
 
 /* Of events at the same time the one that was planned first comes first. */
-static void plan(event made)
-{
-    size_t place = event_count;
-    events = grown(events, event_count++, sizeof *events);
+static void plan(event made) {
+    size_t place = event_count++;
+    if (event_count > event_room)
+        events = enlarged(events, (event_room = 2 * event_count) * sizeof *events);
     for (; place > 0 && events[place - 1].at <= made.at; place--)
         events[place] = events[place - 1];
     events[place] = made;
@@ -147,405 +128,332 @@ static void plan(event made)
 
 /* ---- the page, rows of five lists, and the timeline, both written as things happen -------------------- */
 
-/* The lines of page.html as strings, made by the build; the rows go in place of the line @DATA@. */
-static const char *const page[] = {
+/* What stands in page.html above and below the rows, page_head and page_tail; made by the build. */
 #include "page.h"
-};
 
 static FILE *page_file; /* NULL where no page is asked for */
 
-/* Writes the page on, up to the data or to its end. */
-static void put_page(void)
-{
-    static size_t next;
-    while (next < sizeof page / sizeof *page && strcmp(page[next], "@DATA@\n") != 0)
-        fputs(page[next++], page_file);
-    next++;
-}
+#define PUT(...) (void)(page_file != NULL && fprintf(page_file, __VA_ARGS__))
 
-static void put_row(const char *list, size_t count, const int64_t *numbers)
-{
-    if (page_file == NULL)
-        return;
-    fprintf(page_file, "[\"%s\"", list);
-    for (size_t i = 0; i < count; i++)
-        fprintf(page_file, ",%" PRId64, numbers[i]);
-    fprintf(page_file, "],\n");
-}
-
-static void put_entries(const uint8_t *entries, uint64_t first, uint64_t count)
-{
+static void put_entries(const uint8_t *entries, uint64_t first, uint64_t count) {
     for (uint64_t i = first; i < count; i++) {
         entry read = read_entry(entries + ENTRY_LENGTH * i);
-        fprintf(page_file, "%s[%" PRIu64 ",%u,%u,%u]", i == first ? "" : ",", read.timestamp,
-                (unsigned)read.coordinator, (unsigned)read.request, (unsigned)read.mask);
+        PUT("%s[%ju,%ju,%ju,%ju]", i == first ? "" : ",", read.timestamp, read.coordinator, read.request, read.mask);
     }
-    fprintf(page_file, "]],\n");
-}
-
-static void put_letter(const message *told, int from)
-{
-    if (page_file == NULL)
-        return;
-    fprintf(page_file, "[\"m\",%u,%d,%u,[", (unsigned)told->kind, from, (unsigned)told->view);
-    for (uint64_t i = 0; i < told->number_count; i++)
-        fprintf(page_file, "%s\"%" PRIu64 "\"", i == 0 ? "" : ",", told->numbers[i]);
-    fprintf(page_file, "],[");
-    for (uint64_t i = 0; i < told->view_count; i++)
-        fprintf(page_file, "%s%u", i == 0 ? "" : ",", (unsigned)load(told->views + 4 * i, 4));
-    fprintf(page_file, "],%u,[", (unsigned)told->count);
-    put_entries(told->entries, told->count > SHOWN_ENTRIES ? told->count - SHOWN_ENTRIES : 0, told->count);
+    PUT("]],\n");
 }
 
 enum fate { ARRIVED, LOST, UNHEARD };
 
 /* One way of one letter to one site; the answer is -1 where there is none. */
-static void put_way(const event *of, enum fate fate, int answer)
-{
-    put_row("x", 7, (int64_t[]){of->which, of->site, of->sent_at, of->at, fate, of->again, answer});
+static void put_way(const event *of, enum fate fate, int answer) {
+    PUT("[\"x\",%zu,%d,%u,%u,%d,%d,%d],\n", of->sent->number, place_of(of->to), of->sent_at, of->at, fate, of->again,
+        answer);
 }
 
-/* One line of the timeline, of a site or of none (-1). */
-static void note(int of, const char *format, ...)
-{
+/* One line of the timeline, of a site or of none. */
+__attribute__((format(printf, 2, 3))) static void note(const site *of, const char *format, ...) {
     char text[256], name[16] = "";
     va_list words;
     va_start(words, format);
     vsnprintf(text, sizeof text, format, words);
     va_end(words);
-    if (page_file != NULL)
-        fprintf(page_file, "[\"e\",%u,%d,\"%s\"],\n", now, of, text);
-    if (of >= 0)
-        snprintf(name, sizeof name, "g%u.r%u", sites[of].is.group, sites[of].is.replica);
+    PUT("[\"e\",%u,%d,\"%s\"],\n", now, place_of(of), text);
+    if (of != NULL)
+        snprintf(name, sizeof name, "g%u.r%u", of->is.group, of->is.replica);
     if (!quiet)
         printf("%6u ms  %-5s  %s\n", now, name, text);
 }
 
-static void fails(int of, const char *format, ...)
-{
+__attribute__((format(printf, 2, 3))) _Noreturn static void fails(const site *of, const char *format, ...) {
     va_list words;
     fflush(stdout);
     fprintf(stderr, "simulate: A PROMISE FAILED at step %u, %u ms, ", step_count, now);
-    if (of >= 0)
-        fprintf(stderr, "site g%u.r%u: ", (unsigned)(of / at.n), (unsigned)(of % at.n));
+    if (of != NULL)
+        fprintf(stderr, "site g%d.r%d: ", place_of(of) / (int)at.n, place_of(of) % (int)at.n);
     va_start(words, format);
     vfprintf(stderr, format, words);
     va_end(words);
     fprintf(stderr, "\nsimulate: again by");
     for (const option *each = options; each->number != NULL; each++)
-        fprintf(stderr, " %s %" PRIu64, each->name, *each->number);
+        fprintf(stderr, " %s %ju", each->name, *each->number);
     fprintf(stderr, "\n");
     exit(1);
 }
+
+/* The words are looked at only where the promise does not hold. */
+#define PROMISE(held, ...) ((held) ? (void)0 : fails(__VA_ARGS__))
 
 /* ---- the network ------------------------------------------------------------------------------------- */
 
 static void deliver(const event *of);
 
-static size_t keep_letter(const uint8_t *bytes, size_t length, int from)
-{
-    letter made = {.bytes = memory(length), .length = length, .from = from};
-    made.status = from < 0 ? 0 : sites[from].is.status;
-    memcpy(made.bytes, bytes, length);
-    if (!take_apart(made.bytes, length, &made.told))
-        fails(from, "a message of kind %u has other counts than its length", bytes[0]);
-    letters = grown(letters, letter_count, sizeof *letters);
-    letters[letter_count] = made;
-    sent_counts[made.told.kind]++;
-    put_letter(&made.told, from);
-    return letter_count++;
+/* Keeps what is sent, and shows it on the page with the last of its entries. */
+static letter *keep_letter(const uint8_t *bytes, size_t length, int from) {
+    letter *kept = memory(sizeof *kept);
+    const message *told = &kept->told;
+    *kept = (letter){.bytes = memory(length), .length = length, .number = letter_count++, .from = from};
+    kept->status = from < 0 ? 0 : sites[from].is.status;
+    memcpy(kept->bytes, bytes, length);
+    PROMISE(take_apart(kept->bytes, length, &kept->told), from < 0 ? NULL : &sites[from],
+            "a message of kind %u has other counts than its length", bytes[0]);
+    sent_counts[told->kind]++;
+    PUT("[\"m\",%ju,%d,%ju,[", told->kind, from, told->view);
+    for (uint64_t i = 0; i < told->number_count; i++)
+        PUT("%s\"%ju\"", i == 0 ? "" : ",", told->numbers[i]);
+    PUT("],[");
+    for (uint64_t i = 0; i < told->view_count; i++)
+        PUT("%s%ju", i == 0 ? "" : ",", load(told->views + 4 * i, 4));
+    PUT("],%ju,[", told->count);
+    put_entries(told->entries, told->count > SHOWN_ENTRIES ? told->count - SHOWN_ENTRIES : 0, told->count);
+    return kept;
 }
 
-/* Sends a letter to one site, or for -1 to its coordinator. */
-static void send_to(size_t which, int to, bool again)
-{
-    event way = {.happen = deliver, .site = to, .which = which, .sent_at = now, .again = again};
-    way.at = now + DELAY_LEAST + (unsigned)below(DELAY_MOST - DELAY_LEAST);
-    if (below(20) == 0)
-        way.at += (unsigned)below(DELAY_SLOW);
-    if (chance(loss)) {
-        lost_count++;
-        put_way(&way, LOST, -1);
-    } else
-        plan(way);
-    if (!again && chance(repeats)) {
-        again_count++;
-        send_to(which, to, true);
+/* To every site that the header names, or to the coordinator, for which its mask has one bit. A way may be lost, and
+ * what is sent first may go twice. */
+static void send_out(letter *sent, bool again) {
+    uint64_t group = sent->told.to_group;
+    for (uint64_t replica = 0; replica < at.n; replica++) {
+        event way = {.happen = deliver, .sent = sent, .sent_at = now, .again = again};
+        way.to = group == JALLUMERE_OUTSIDE ? NULL : site_of(group, replica);
+        for (bool goes = holds(sent->told.to_mask, replica); goes; way.again = true) {
+            way.at = now + DELAY_LEAST + (unsigned)below(DELAY_MOST - DELAY_LEAST);
+            way.at += below(20) == 0 ? (unsigned)below(DELAY_SLOW) : 0;
+            bool lost = chance(loss);
+            lost_count += lost;
+            if (lost)
+                put_way(&way, LOST, -1);
+            else
+                plan(way);
+            goes = !way.again && chance(repeats);
+            again_count += goes;
+        }
     }
 }
 
-/* To every site that the header names. */
-static void send_out(size_t which, bool again)
-{
-    const message told = letters[which].told;
-    if (told.to_group == JALLUMERE_OUTSIDE)
-        send_to(which, -1, again);
-    for (uint64_t replica = 0; told.to_group != JALLUMERE_OUTSIDE && replica < at.n; replica++)
-        if (holds(told.to_mask, replica))
-            send_to(which, site_of(told.to_group, replica), again);
+/* A site sends again while in its view and status of then, the manager in its last view, a coordinator till answered.
+ */
+static void send_again(const event *of) {
+    const letter *sent = of->sent;
+    const site *own = sent->from < 0 ? NULL : &sites[sent->from];
+    bool by_site = own != NULL && !own->silent && own->is.view == sent->told.view && own->is.status == sent->status;
+    bool by_manager = sent->from == FROM_MANAGER && sent->told.view == planned_view;
+    if (by_site || by_manager || (sent->from == FROM_COORDINATORS && !is_answered(sent) && scene != STOPPED))
+        send_out(of->sent, true);
 }
 
-/* A site sends again while in its view and status of then, the manager in its last view, a coordinator till
- * answered. */
-static void send_again(const event *of)
-{
-    const letter *again = &letters[of->which];
-    const standing *is = &sites[again->from < 0 ? 0 : again->from].is;
-    bool needed = again->from == FROM_COORDINATORS ? !is_answered(again) && scene != STOPPED
-                  : again->from == FROM_MANAGER    ? again->told.view == planned_view
-                                                   : is->view == again->told.view && is->status == again->status;
-    if (needed && (again->from < 0 || !sites[again->from].silent))
-        send_out(of->which, true);
-}
-
-/* What the protocol sends once and cannot do without is sent again later. */
-static void send_first(size_t which)
-{
-    uint64_t kind = letters[which].told.kind;
-    bool asks = kind == JALLUMERE_TRANSACTION;
-    bool needed = asks || kind == JALLUMERE_TIMESTAMP_NOTE || kind == JALLUMERE_CHANGE_VIEW ||
-                  kind == JALLUMERE_VOTE || kind == JALLUMERE_START_VIEW || kind == JALLUMERE_VERIFY_REQUEST;
-    send_out(which, false);
-    for (unsigned i = 1; needed && i <= (asks ? RETRIES : RESENDS); i++)
-        plan((event){.at = now + i * (asks ? RETRY_TIME : RESEND_TIME), .happen = send_again, .which = which});
+static void send_first(letter *sent) {
+    send_out(sent, false);
+    for (unsigned i = 1; i <= resends[sent->told.kind].times; i++)
+        plan((event){.at = now + i * resends[sent->told.kind].after, .happen = send_again, .sent = sent});
 }
 
 /* A message from outside to some replicas of a group, written by the core's writer. */
-static size_t write_letter(const message *made, uint64_t group, uint64_t mask, int from)
-{
+static letter *write_letter(const message *made, uint64_t group, uint64_t mask, int from) {
     uint8_t bytes[256];
     uint64_t answer =
         jallumere_write(at.n, at.s, made->kind, group, mask, JALLUMERE_OUTSIDE, JALLUMERE_OUTSIDE, made->view,
                         made->numbers, forms[made->kind].numbers, made->views, 4 * made->view_count, made->entries,
                         ENTRY_LENGTH * made->count, bytes, sizeof bytes);
-    if (JALLUMERE_NUMBER(answer) != JALLUMERE_DONE)
-        fails(-1, "the writer refuses a kind %u with %u", (unsigned)made->kind, JALLUMERE_NUMBER(answer));
+    PROMISE(JALLUMERE_NUMBER(answer) == JALLUMERE_DONE, NULL, "the writer refuses a kind %ju with %u", made->kind,
+            JALLUMERE_NUMBER(answer));
     return keep_letter(bytes, JALLUMERE_LENGTH(answer), from);
 }
 
 /* ---- what is promised -------------------------------------------------------------------------------- */
 
-/* The log of a view's leader, as far as it has come, and the greatest commit point held in that view. */
+/* What is known of a view in a group: its leader's log, as far as it has come; the log that it was rebuilt with, a
+ * draft or with one group what it starts with; the view that a draft's votes were of; the greatest commit point held.
+ */
 typedef struct {
-    uint8_t *log; /* NULL before the view starts */
-    unsigned count, committed;
+    uint8_t *log, *rebuilt; /* tables; NULL before there is one */
+    unsigned base, committed;
 } history;
 
-/* A draft and the view whose votes it was rebuilt from, or the log that a view starts with. */
-typedef struct {
-    unsigned group, view, base, count;
-    bool at_start; /* then it follows from every earlier view */
-    uint8_t *log;
-} rebuilt;
-
 static history histories[GROUPS_MOST][VIEWS_MOST];
-static rebuilt *rebuilts;
-static size_t rebuilt_count;
 static unsigned checks_made, committed_most[GROUPS_MOST];
 
-static bool same_entries(const uint8_t *log, const uint8_t *other, unsigned count)
-{
-    return count == 0 || memcmp(log, other, ENTRY_LENGTH * count) == 0;
+/* Whether two tables have so many entries and begin with the same. */
+static bool begin_alike(const uint8_t *table, const uint8_t *other, uint64_t count) {
+    return count == 0 || (table != NULL && load(table, 4) >= count && load(other, 4) >= count &&
+                          memcmp(table + 4, other + 4, ENTRY_LENGTH * count) == 0);
 }
 
-/* Logs that were rebuilt from a view begin with what was committed in it. */
-static void check_rebuilts(int of, unsigned group, unsigned base)
-{
-    const history *with = &histories[group][base];
-    for (const rebuilt *each = rebuilts; each < rebuilts + rebuilt_count; each++) {
-        if (each->group != group || (each->at_start ? each->view <= base : each->base != base))
+/* Logs that were rebuilt from a view begin with what was committed in it; with one group, in every view before. */
+static void check_rebuilts(const site *own, unsigned base) {
+    const history *views = histories[own->is.group], *with = &views[base];
+    for (unsigned view = base + 1; view <= planned_view; view++) {
+        if (views[view].rebuilt == NULL || (groups != 1 && views[view].base != base))
             continue;
         checks_made++;
-        if (each->count < with->committed || !same_entries(each->log, with->log, with->committed))
-            fails(of, "the %s of view %u does not begin with the %u entries committed in view %u",
-                  each->at_start ? "log at the start" : "rebuilt log", each->view, with->committed, base);
+        PROMISE(begin_alike(with->log, views[view].rebuilt, with->committed), own,
+                "the %s of view %u does not begin with the %u entries committed in view %u",
+                groups == 1 ? "log at the start" : "rebuilt log", view, with->committed, base);
     }
 }
 
-/* A draft, or the log that a view starts with, as a table; the votes tell what a draft was rebuilt from. */
-static void keep_rebuilt(int of, const uint8_t *table, bool at_start)
-{
-    rebuilt made = {sites[of].is.group, sites[of].is.view, 0, (unsigned)load(table, 4), at_start, NULL};
+/* The votes that count are those whose last normal view is the greatest. */
+static void keep_rebuilt(const site *own, const uint8_t *table) {
+    history *view = &histories[own->is.group][own->is.view];
+    view->rebuilt = memcpy(memory(at.table), table, at.table);
     for (uint64_t replica = 0; replica < at.n; replica++) {
-        const uint8_t *vote = sites[of].state + vote_place(&at, replica);
-        uint64_t last_normal = vote[0] == 1 ? load(vote + AT_VOTE_LAST_NORMAL, 4) : 0;
-        made.base = last_normal > made.base ? (unsigned)last_normal : made.base;
+        unsigned last_normal = (unsigned)load(own->state + vote_place(&at, replica) + AT_VOTE_LAST_NORMAL, 4);
+        view->base = last_normal > view->base ? last_normal : view->base;
     }
-    made.log = memory(ENTRY_LENGTH * made.count);
-    copy(made.log, table + 4, ENTRY_LENGTH * made.count);
-    rebuilts = grown(rebuilts, rebuilt_count, sizeof *rebuilts);
-    rebuilts[rebuilt_count++] = made;
-    for (unsigned base = 0; base < made.view; base++)
-        check_rebuilts(of, made.group, base);
+    for (unsigned base = 0; base < own->is.view; base++)
+        check_rebuilts(own, base);
 }
 
-static unsigned reached_by(unsigned group, unsigned point)
-{
+static unsigned reached_by(unsigned group, unsigned point) {
     unsigned reached = 0;
     for (uint64_t replica = 0; replica < at.n; replica++)
-        reached += sites[site_of(group, replica)].is.sync >= point;
+        reached += site_of(group, replica)->is.sync >= point;
     return reached;
 }
 
 /* A site's log, sync point and commit point against what is known of the view that it was normal in last. */
-static void check_points(int of)
-{
-    const standing *is = &sites[of].is;
-    const uint8_t *log = sites[of].state + at.log + 4;
-    history *view = &histories[is->group % GROUPS_MOST][is->last_normal % VIEWS_MOST];
+static void check_points(const site *own) {
+    const standing *is = &own->is;
+    const uint8_t *log = own->state + at.log;
+    PROMISE(site_of(is->group, is->replica) == own && is->view <= planned_view && is->last_normal <= is->view, own,
+            "it takes itself for g%u.r%u in view %u, normal last in %u", is->group, is->replica, is->view,
+            is->last_normal);
+    history *view = &histories[is->group][is->last_normal];
     bool starts = view->log == NULL;
     checks_made += 2;
-    if (site_of(is->group, is->replica) != of || is->view > planned_view || is->last_normal > is->view)
-        fails(of, "it takes itself for g%u.r%u in view %u, normal last in %u", is->group, is->replica, is->view,
-              is->last_normal);
-    if (is->status == JALLUMERE_STATUS_NORMAL && sites[of].leads) {
-        if (view->count > is->logged || !same_entries(log, view->log, view->count))
-            fails(of, "the leader's log of view %u did not only grow", is->last_normal);
+    if (is->status == JALLUMERE_STATUS_NORMAL && own->leads) {
         view->log = starts ? memory(at.table) : view->log;
-        copy(view->log, log, ENTRY_LENGTH * is->logged);
-        view->count = is->logged;
+        PROMISE(begin_alike(view->log, log, load(view->log, 4)), own, "the leader's log of view %u did not only grow",
+                is->last_normal);
+        write_table(view->log, log + 4, is->logged);
         if (starts && groups == 1)
-            keep_rebuilt(of, log - 4, true);
+            keep_rebuilt(own, log);
     }
-    if (is->sync > view->count || !same_entries(log, view->log, is->sync))
-        fails(of, "its log up to the sync point %u is not the leader's of view %u", is->sync, is->last_normal);
-    if (reached_by(is->group, is->commit) < majority_of(at.n))
-        fails(of, "its commit point %u has been reached by %u of %u sites alone", is->commit,
-              reached_by(is->group, is->commit), (unsigned)at.n);
+    PROMISE(begin_alike(view->log, log, is->sync), own,
+            "its log up to the sync point %u is not the leader's of view %u", is->sync, is->last_normal);
+    PROMISE(reached_by(is->group, is->commit) >= majority_of(at.n), own,
+            "its commit point %u has been reached by %u of %ju sites alone", is->commit,
+            reached_by(is->group, is->commit), at.n);
     if (is->commit > view->committed) {
         view->committed = is->commit;
-        if (is->commit > committed_most[is->group])
-            committed_most[is->group] = is->commit;
-        check_rebuilts(of, is->group, is->last_normal);
+        committed_most[is->group] = is->commit > committed_most[is->group] ? is->commit : committed_most[is->group];
+        check_rebuilts(own, is->last_normal);
     }
 }
 
 /* ---- a step ------------------------------------------------------------------------------------------ */
 
-/* A reply's entry is the one at its position; a fast one's digest is that of the log so far, not placed of all of
- * it. */
-static void check_reply(int of, const message *reply)
-{
-    const uint8_t *log = sites[of].state + at.log + 4;
+/* A reply's entry is the one at its position; a fast one's digest is that of the log so far, not placed of all of it.
+ */
+static void check_reply(const site *own, const message *reply) {
+    const uint8_t *log = own->state + at.log + 4;
     bool fast = reply->kind == JALLUMERE_FAST_REPLY, placed = !fast || reply->numbers[0] == 1;
-    uint64_t position = placed ? reply->numbers[fast ? 1 : 0] : sites[of].is.logged;
+    uint64_t position = placed ? reply->numbers[fast ? 1 : 0] : own->is.logged;
     size_t length = ENTRY_LENGTH * (size_t)position;
-    if (position > sites[of].is.logged || (placed && position == 0) ||
-        (placed && memcmp(log + length - ENTRY_LENGTH, reply->entries, ENTRY_LENGTH) != 0))
-        fails(of, "a reply is for position %u, where its log has another entry", (unsigned)position);
-    if (fast && (reply->numbers[2] != model_digest(JALLUMERE_DIGEST_START, log, length) ||
-                 reply->numbers[2] != jallumere_digest(JALLUMERE_DIGEST_START, log, length)))
-        fails(of, "a fast reply's digest is not that of its log up to position %u", (unsigned)position);
+    PROMISE(position <= own->is.logged && (!placed || position != 0) &&
+                (!placed || memcmp(log + length - ENTRY_LENGTH, reply->entries, ENTRY_LENGTH) == 0),
+            own, "a reply is for position %ju, where its log has another entry", position);
+    PROMISE(!fast || (reply->numbers[2] == model_digest(JALLUMERE_DIGEST_START, log, length) &&
+                      reply->numbers[2] == jallumere_digest(JALLUMERE_DIGEST_START, log, length)),
+            own, "a fast reply's digest is not that of its log up to position %ju", position);
 }
 
-static void take_outgoing(int of, size_t length)
-{
+static void take_outgoing(const site *own, size_t length) {
     for (size_t reach = 0, first; reach < length; reach += first) {
         first = (size_t)jallumere_message_length(at.n, at.s, outgoing + reach, length - reach);
-        if (first == 0)
-            fails(of, "the outgoing bytes are no row of messages from byte %zu on", reach);
-        if (jallumere_read(at.n, at.s, outgoing + reach, first) != 0)
-            fails(of, "it sent a message of kind %u that is not well formed", outgoing[reach]);
-        size_t which = keep_letter(outgoing + reach, first, of);
-        const message *told = &letters[which].told;
-        if (told->from_group != sites[of].is.group || told->from_replica != sites[of].is.replica)
-            fails(of, "it sent a message in another's name");
+        PROMISE(first != 0, own, "the outgoing bytes are no row of messages from byte %zu on", reach);
+        PROMISE(jallumere_read(at.n, at.s, outgoing + reach, first) == 0, own,
+                "it sent a message of kind %u that is not well formed", outgoing[reach]);
+        letter *sent = keep_letter(outgoing + reach, first, place_of(own));
+        const message *told = &sent->told;
+        PROMISE(told->from_group == own->is.group && told->from_replica == own->is.replica, own,
+                "it sent a message in another's name");
         if (told->kind == JALLUMERE_FAST_REPLY || told->kind == JALLUMERE_SLOW_REPLY)
-            check_reply(of, told);
-        send_first(which);
+            check_reply(own, told);
+        send_first(sent);
     }
 }
 
 /* What a reader of the timeline wants to know of a step that was done. */
-static void tell(int of, const message *told)
-{
-    const standing *was = &sites[of].was, *is = &sites[of].is;
-    bool leader = sites[of].leads, started = is->last_normal != was->last_normal;
+static void tell(const site *own, const message *told) {
+    const standing *was = &own->was, *is = &own->is;
+    bool started = is->last_normal != was->last_normal;
     if (is->view != was->view && !started)
-        note(of, "enters view %u%s", is->view, leader ? " as its leader" : ", votes");
+        note(own, "enters view %u%s", is->view, own->leads ? " as its leader" : ", votes");
     if (is->status == JALLUMERE_STATUS_CROSS_SHARD && was->status != JALLUMERE_STATUS_CROSS_SHARD)
-        note(of, "has %u votes, drafts %u entries, asks the other groups past %u", (unsigned)majority_of(at.n),
-             (unsigned)load(sites[of].state + at.draft, 4), (unsigned)load(sites[of].state + AT_BOUNDARY, 8));
-    if (started && leader)
-        note(of, "STARTS view %u with %u entries, %u of them committed", is->view, is->logged, is->commit);
+        note(own, "has %ju votes, drafts %ju entries, asks the other groups past %ju", majority_of(at.n),
+             load(own->state + at.draft, 4), load(own->state + AT_BOUNDARY, 8));
+    if (started && own->leads)
+        note(own, "STARTS view %u with %u entries, %u of them committed", is->view, is->logged, is->commit);
     else if (started)
-        note(of, "follows in view %u with %u entries", is->view, is->logged);
-    else if (told->kind == JALLUMERE_TICK && leader && is->logged != was->logged)
-        note(of, "releases %u, its log has %u", is->logged - was->logged, is->logged);
+        note(own, "follows in view %u with %u entries", is->view, is->logged);
+    else if (told->kind == JALLUMERE_TICK && own->leads && is->logged != was->logged)
+        note(own, "releases %u, its log has %u", is->logged - was->logged, is->logged);
     else if (told->kind == JALLUMERE_VERIFY_REPLY || told->kind == JALLUMERE_VERIFY_REQUEST)
-        note(of, "takes a %s of group %u", kind_name(told->kind), (unsigned)told->from_group);
+        note(own, "takes a %s of group %ju", kind_name(told->kind), told->from_group);
     else if (told->kind == JALLUMERE_VOTE)
-        note(of, "takes the vote of replica %u", (unsigned)told->from_replica);
+        note(own, "takes the vote of replica %ju", told->from_replica);
     else if (told->kind == JALLUMERE_SYNC_STATUS && is->commit != was->commit)
-        note(of, "commits up to %u, reached by %u of %u sites", is->commit, reached_by(is->group, is->commit),
-             (unsigned)at.n);
+        note(own, "commits up to %u, reached by %u of %ju sites", is->commit, reached_by(is->group, is->commit), at.n);
 }
 
-static void check_refusal(int of, const message *told, unsigned refusal)
-{
-    site *own = &sites[of];
-    if (refusal == JALLUMERE_WRONG_STATE || refusal == JALLUMERE_MALFORMED || refusal == JALLUMERE_NO_ROOM)
-        fails(of, "refusal %u (%s) for a kind %u", refusal, answer_name(refusal), (unsigned)told->kind);
-    if (memcmp(before, own->state, at.length) != 0)
-        fails(of, "a refusal changed its state");
+static void check_refusal(site *own, const message *told, unsigned refusal) {
+    bool tick = told->kind == JALLUMERE_TICK;
+    PROMISE(refusal != JALLUMERE_WRONG_STATE && refusal != JALLUMERE_MALFORMED && refusal != JALLUMERE_NO_ROOM, own,
+            "refusal %u (%s) for a kind %ju", refusal, answer_name(refusal), told->kind);
+    PROMISE(memcmp(before, own->state, at.length) == 0, own, "a refusal changed its state");
     if (refusal != JALLUMERE_FULL)
         return;
-    if (told->kind != JALLUMERE_TICK)
-        note(of, "has no room for what a %s brings: refusal 8", kind_name(told->kind));
-    else if (load(own->state + at.log, 4) != at.c)
-        fails(of, "refusal 8 for a tick, with room in its log");
+    PROMISE(!tick || load(own->state + at.log, 4) == at.c, own, "refusal 8 for a tick, with room in its log");
+    if (!tick)
+        note(own, "has no room for what a %s brings: refusal 8", kind_name(told->kind));
     else if (!own->full)
-        note(of, "is FULL: its log has %u entries, %u of them committed, and one more is due: refusal 8",
+        note(own, "is FULL: its log has %u entries, %u of them committed, and one more is due: refusal 8",
              own->is.logged, own->is.commit);
-    own->full = own->full || told->kind == JALLUMERE_TICK;
+    own->full = own->full || tick;
 }
 
 /* Reads the state as a host does, by the core; and checks the core's readers by the model's, past the last too. */
-static void check_done(int of, const message *told)
-{
-    site *own = &sites[of];
+static void check_done(site *own, const message *told) {
     own->was = own->is;
-    if (jallumere_good(SIZES(&at), own->state, at.length) != 0)
-        fails(of, "its state is not good after a kind %u", (unsigned)told->kind);
+    PROMISE(jallumere_good(SIZES(&at), own->state, at.length) == 0, own, "its state is not good after a kind %ju",
+            told->kind);
     for (uint64_t field = 1; field <= JALLUMERE_FIELD_LEADER + 1; field++) {
         uint64_t says = jallumere_field(SIZES(&at), field, own->state, at.length);
-        if (says != model_field(SIZES(&at), field, own->state, at.length))
-            fails(of, "the reader of field %u does not say what stands in its state", (unsigned)field);
+        PROMISE(says == model_field(SIZES(&at), field, own->state, at.length), own,
+                "the reader of field %ju does not say what stands in its state", field);
         if (field <= JALLUMERE_FIELD_LEADER)
             own->is.fields[field - 1] = (unsigned)says;
     }
     own->leads = own->is.leader == own->is.replica;
-    check_points(of);
+    check_points(own);
     if (own->is.status == JALLUMERE_STATUS_CROSS_SHARD && own->was.status != JALLUMERE_STATUS_CROSS_SHARD)
-        keep_rebuilt(of, own->state + at.draft, false);
-    tell(of, told);
+        keep_rebuilt(own, own->state + at.draft);
+    tell(own, told);
 }
 
-static unsigned take_step(int of, size_t which)
-{
-    const letter taken = letters[which];
-    const standing *is = &sites[of].is;
-    uint8_t *state = sites[of].state;
-    memcpy(before, state, at.length);
+static unsigned take_step(site *own, const letter *taken) {
+    const standing *is = &own->is;
+    memcpy(before, own->state, at.length);
     memcpy(outgoing, outgoing_before, outgoing_room);
     uint64_t answer =
-        jallumere_step(SIZES(&at), state, at.length, taken.bytes, taken.length, outgoing, outgoing_room);
+        jallumere_step(SIZES(&at), own->state, at.length, taken->bytes, taken->length, outgoing, outgoing_room);
     unsigned refusal = JALLUMERE_NUMBER(answer);
     size_t length = JALLUMERE_LENGTH(answer);
     step_count++;
-    if (refusal >= ANSWERS || length > outgoing_room || (refusal != JALLUMERE_DONE && length != 0))
-        fails(of, "the step answers %" PRIu64, answer);
-    if (memcmp(outgoing + length, outgoing_before + length, outgoing_room - length) != 0)
-        fails(of, "the step wrote past what it sends");
+    PROMISE(refusal < ANSWERS && length <= outgoing_room && (refusal == JALLUMERE_DONE || length == 0), own,
+            "the step answers %ju", answer);
+    PROMISE(memcmp(outgoing + length, outgoing_before + length, outgoing_room - length) == 0, own,
+            "the step wrote past what it sends");
     answers[refusal]++;
     if (refusal == JALLUMERE_DONE)
-        check_done(of, &taken.told);
+        check_done(own, &taken->told);
     else
-        check_refusal(of, &taken.told, refusal);
-    put_row("p", 13,
-            (int64_t[]){now, of, which, refusal, is->status, is->view, is->logged, is->sync, is->commit,
-                        load(state + at.early, 4), load(state + at.late, 4), sites[of].leads, length});
-    take_outgoing(of, length);
+        check_refusal(own, &taken->told, refusal);
+    PUT("[\"p\",%u,%d,%zu,%u,%u,%u,%u,%u,%u,%ju,%ju,%d,%zu],\n", now, place_of(own), taken->number, refusal, is->status,
+        is->view, is->logged, is->sync, is->commit, load(own->state + at.early, 4), load(own->state + at.late, 4),
+        own->leads, length);
+    take_outgoing(own, length);
     return refusal;
 }
 
@@ -554,21 +462,19 @@ static unsigned take_step(int of, size_t which)
 static unsigned transaction_count, asked_of[GROUPS_MOST]; /* transactions sent to each group */
 
 /* The groups that may still be asked; before the logs are filled a quarter of each is kept free. */
-static uint64_t open_groups(void)
-{
-    uint64_t open = 0, limit = 3 * at.c / 4;
-    for (uint64_t group = 0; group < at.s; group++)
-        if (scene == FILLING ? !planned_leader(group)->full : asked_of[group] < limit)
+static uint64_t open_groups(void) {
+    uint64_t open = 0;
+    for (uint64_t group = 0; group < at.s && scene != STOPPED; group++)
+        if (scene == FILLING ? !planned_leader(group)->full : asked_of[group] < 3 * at.c / 4)
             open |= bit(group);
-    return scene == STOPPED ? 0 : open;
+    return open;
 }
 
-static void submit(const event *of)
-{
+static void submit(const event *of) {
     static unsigned last[COORDINATORS];
     uint8_t written[ENTRY_LENGTH];
     char named[4 * GROUPS_MOST] = "";
-    message made = message_of_kind(JALLUMERE_TRANSACTION, at.s);
+    const message made = {JALLUMERE_TRANSACTION, .numbers = {now, BOUND}, .entries = written, .count = 1};
     entry sent = {.command = draw() >> 32, .coordinator = below(COORDINATORS)};
     uint64_t mask = 1 + below(bit(at.s) - 1);
     if (groups > 2 && below(3) != 0) /* mostly in one group or two */
@@ -581,78 +487,66 @@ static void submit(const event *of)
     transaction_count++;
     sent.request = ++last[sent.coordinator];
     write_entry(written, sent);
-    made.entries = written;
-    made.count = 1;
-    made.numbers[0] = now;
-    made.numbers[1] = BOUND;
     for (unsigned group = 0; group < at.s; group++)
         if (holds(sent.mask, group)) {
+            letter *asks = write_letter(&made, group, bit(at.n) - 1, FROM_COORDINATORS);
             snprintf(named + strlen(named), sizeof named - strlen(named), " %u", group);
             asked_of[group]++;
-            asked = grown(asked, asked_count, sizeof *asked);
-            asked[asked_count] = write_letter(&made, group, bit(at.n) - 1, FROM_COORDINATORS);
-            send_first(asked[asked_count++]);
+            asks->last = asked;
+            asked = asks;
+            send_first(asks);
         }
-    note(-1, "coordinator %u sends transaction %u.%u to group%s, due at %u", (unsigned)sent.coordinator,
-         (unsigned)sent.coordinator, (unsigned)sent.request, named, now + BOUND);
+    note(NULL, "coordinator %ju sends transaction %ju.%ju to group%s, due at %u", sent.coordinator, sent.coordinator,
+         sent.request, named, now + BOUND);
 }
 
-static void tick(const event *of)
-{
-    const site *own = &sites[of->site];
-    message made = message_of_kind(JALLUMERE_TICK, at.s);
-    made.numbers[0] = now + own->skew;
-    plan((event){.at = now + TICK_TIME, .happen = tick, .site = of->site});
-    if (!own->silent)
-        take_step(of->site, write_letter(&made, own->is.group, bit(own->is.replica), FROM_CLOCK));
+static void tick(const event *of) {
+    const message made = {JALLUMERE_TICK, .numbers = {now + of->to->skew}};
+    plan((event){.at = now + TICK_TIME, .happen = tick, .to = of->to});
+    if (!of->to->silent)
+        take_step(of->to, write_letter(&made, of->to->is.group, bit(of->to->is.replica), FROM_CLOCK));
 }
 
 /* Whether a majority of each group has started the planned view. */
-static bool view_stands(void)
-{
-    bool stands = true;
-    for (uint64_t group = 0; group < at.s; group++) {
-        unsigned started = 0;
-        for (const site *each = &sites[site_of(group, 0)]; each < &sites[site_of(group + 1, 0)]; each++)
-            started +=
-                each->is.status == JALLUMERE_STATUS_NORMAL && each->is.view == planned_view && !each->silent;
-        stands = stands && started >= majority_of(at.n);
-    }
-    return stands;
+static bool view_stands(void) {
+    unsigned started[GROUPS_MOST] = {0};
+    for (const site *each = sites; each < sites_end; each++)
+        started[each->is.group] +=
+            each->is.status == JALLUMERE_STATUS_NORMAL && each->is.view == planned_view && !each->silent;
+    for (uint64_t group = 0; group < at.s; group++)
+        if (started[group] < majority_of(at.n))
+            return false;
+    return true;
 }
 
 /* A greater view for every group, led by the lowest site that is not silent; and another, if it does not stand. */
-static void plan_view(const event *of)
-{
-    message made = message_of_kind(JALLUMERE_CHANGE_VIEW, at.s);
-    bool again = of->which != 0;
-    if (planned_view + 1 >= VIEWS_MOST || (again && (of->which != planned_view || view_stands())))
+static void plan_view(const event *of) {
+    bool again = of->view != 0;
+    if (planned_view + 1 >= VIEWS_MOST || (again && (of->view != planned_view || view_stands())))
         return;
     if (again)
-        note(-1, "view %u has not come to stand", planned_view);
-    made.view = ++planned_view;
-    made.views = planned_views;
+        note(NULL, "view %u has not come to stand", planned_view);
+    planned_view++;
     for (uint64_t group = 0; group < at.s; group++) {
         uint64_t old = load(planned_views + 4 * group, 4), leader = 0;
-        while (leader + 1 < at.n && sites[site_of(group, leader)].silent)
+        while (leader + 1 < at.n && site_of(group, leader)->silent)
             leader++;
         store(planned_views + 4 * group, (old / at.n + 1) * at.n + leader, 4);
     }
-    note(-1, "the view manager plans view %u, leader of group 0 is replica %u", planned_view,
-         (unsigned)leader_of(planned_views, 0, at.n));
+    note(NULL, "the view manager plans view %u, leader of group 0 is replica %ju", planned_view,
+         leader_of(planned_views, 0, at.n));
+    const message made = {JALLUMERE_CHANGE_VIEW, .view = planned_view, .views = planned_views, .view_count = at.s};
     for (uint64_t group = 0; group < at.s; group++)
         send_first(write_letter(&made, group, bit(at.n) - 1, FROM_MANAGER));
-    plan((event){.at = now + WATCH_TIME, .happen = plan_view, .which = planned_view});
+    plan((event){.at = now + WATCH_TIME, .happen = plan_view, .view = planned_view});
 }
 
 /* While ticks are refused no follower tells its sync point; a new view lets the last entries commit. */
-static void settle(const event *of)
-{
+static void settle(const event *of) {
     for (uint64_t group = 0; group < at.s; group++) {
         const standing *is = &planned_leader(group)->is;
         if (planned_leader(group)->full)
-            note(-1,
-                 "group %u has %u of %u entries committed; no sync status goes out, the last %u wait for a view",
+            note(NULL, "group %u has %u of %u entries committed; no sync status goes out, the last %u wait for a view",
                  is->group, is->commit, is->logged, is->logged - is->commit);
     }
     if (answers[JALLUMERE_FULL] != 0)
@@ -660,121 +554,107 @@ static void settle(const event *of)
 }
 
 /* In each act a leader falls silent, comes back and is taken in again; in the last the logs are filled then. */
-static void follow_plot(void)
-{
-    static int fallen;
+static void follow_plot(void) {
+    static site *fallen;
     unsigned length = (unsigned)steps_most / acts, share = 100 * (step_count % length) / length;
     if (scene == REUNITED && step_count / length > act) {
         act = step_count / length;
         scene = CALM;
     }
     if (scene == CALM && share >= FALLS) {
-        fallen = (int)(planned_leader(below(at.s)) - sites);
-        sites[fallen].silent = true;
-        note(fallen, "FALLS SILENT, the leader of group %u", sites[fallen].is.group);
+        fallen = planned_leader(below(at.s));
+        fallen->silent = true;
+        note(fallen, "FALLS SILENT, the leader of group %u", fallen->is.group);
         plan((event){.at = now + NOTICE_TIME, .happen = plan_view});
         scene = SILENCE;
     } else if (scene == SILENCE && share >= COMES_BACK) {
-        sites[fallen].silent = false;
+        fallen->silent = false;
         note(fallen, "COMES BACK with the state that it had");
         scene = RETURN;
     } else if (scene == RETURN && share >= TAKEN_IN) {
-        note(-1, "a view is planned to take the site in again");
-        plan_view(&(event){.which = 0});
+        note(NULL, "a view is planned to take the site in again");
+        plan_view(&(event){.view = 0});
         scene = REUNITED;
     } else if (scene == REUNITED && act + 1 == acts && share >= FILLS) {
-        note(-1, "the coordinators hurry, until the logs are full");
+        note(NULL, "the coordinators hurry, until the logs are full");
         scene = FILLING;
     } else if (scene == FILLING && (share >= ENDS || open_groups() == 0)) {
-        note(-1, "the coordinators stop");
+        note(NULL, "the coordinators stop");
         plan((event){.at = now + SETTLE_TIME, .happen = settle});
         scene = STOPPED;
     }
 }
 
-/* A coordinator hears a slow reply, or a fast one of the leader that has placed the transaction. */
-static void hear_reply(const message *told)
-{
-    bool leader = told->from_replica == leader_of(told->views, told->from_group, at.n);
-    for (size_t i = 0; i < asked_count; i++) {
-        letter *each = &letters[asked[i]];
+/* A site takes a step; a coordinator hears a slow reply, or a fast one of the leader that has placed the transaction.
+ */
+static void deliver(const event *of) {
+    const message *told = &of->sent->told;
+    if (of->to != NULL) {
+        bool silent = of->to->silent;
+        put_way(of, silent ? UNHEARD : ARRIVED, silent ? -1 : (int)take_step(of->to, of->sent));
+        return;
+    }
+    bool leads = told->from_replica == leader_of(told->views, told->from_group, at.n);
+    bool placed = told->kind == JALLUMERE_SLOW_REPLY || (leads && told->numbers[0] == 1);
+    for (letter *each = asked; each != NULL && placed; each = each->last)
         if (each->told.to_group == told->from_group &&
-            (told->kind == JALLUMERE_SLOW_REPLY || (leader && told->numbers[0] == 1)) &&
             memcmp(each->told.entries + AT_TRANSACTION, told->entries + AT_TRANSACTION, TRANSACTION_LENGTH) == 0)
             each->placed |= 1u << told->from_replica;
-    }
-}
-
-static void deliver(const event *of)
-{
-    if (of->site < 0)
-        hear_reply(&letters[of->which].told);
-    if (of->site >= 0 && sites[of->site].silent)
-        put_way(of, UNHEARD, -1);
-    else
-        put_way(of, ARRIVED, of->site < 0 ? 0 : (int)take_step(of->site, of->which));
+    put_way(of, ARRIVED, 0);
 }
 
 /* ---- the end ----------------------------------------------------------------------------------------- */
 
 /* The rest of the page: what is still on its way, the logs, and what the whole run was. */
-static void end_page(void)
-{
+static void end_page(void) {
     for (size_t i = 0; i < event_count; i++)
         if (events[i].happen == deliver)
             put_way(&events[i], ARRIVED, -1);
-    for (const site *each = sites; each < sites + site_count; each++) {
-        fprintf(page_file, "[\"g\",%d,%u,%u,%d,%u,%u,[", (int)(each - sites), each->is.status, each->is.view,
-                each->leads, each->is.sync, each->is.commit);
+    for (const site *each = sites; each < sites_end; each++) {
+        PUT("[\"g\",%d,%u,%u,%d,%u,%u,[", place_of(each), each->is.status, each->is.view, each->leads, each->is.sync,
+            each->is.commit);
         put_entries(each->state + at.log + 4, 0, each->is.logged);
     }
-    fprintf(page_file, "{\"n\":%u,\"s\":%u,\"c\":%u,\"seed\":%" PRIu64 ",\"loss\":%u,\"steps\":%u,\"end\":%u}]\n",
-            (unsigned)at.n, (unsigned)at.s, (unsigned)at.c, seed, (unsigned)loss, step_count, now);
-    put_page();
+    PUT("{\"n\":%ju,\"s\":%ju,\"c\":%ju,\"seed\":%ju,\"loss\":%ju,\"steps\":%u,\"end\":%u}]\n", SIZES(&at), seed, loss,
+        step_count, now);
+    PUT("%s", page_tail);
     if (ferror(page_file) != 0 || fclose(page_file) != 0)
         stop("'%s' cannot be written", page_path);
     printf("\nthe run as a page: %s\n", page_path);
 }
 
-static void write_states(void)
-{
-    for (size_t i = 0; i < site_count; i++) {
+static void write_states(void) {
+    for (const site *each = sites; each < sites_end; each++) {
         char path[4096];
-        snprintf(path, sizeof path, "%s/g%u.r%u.state", states_path, sites[i].is.group, sites[i].is.replica);
+        snprintf(path, sizeof path, "%s/g%u.r%u.state", states_path, each->is.group, each->is.replica);
         FILE *to = fopen(path, "wb");
-        if (to == NULL || fwrite(sites[i].state, 1, at.length, to) != at.length || fclose(to) != 0)
+        if (to == NULL || fwrite(each->state, 1, at.length, to) != at.length || fclose(to) != 0)
             stop("'%s' cannot be written", path);
     }
     printf("\nthe last states: %s/gN.rN.state\n", states_path);
 }
 
-static void print_log(const site *own)
-{
-    static const unsigned fields[] = {JALLUMERE_ENTRY_COORDINATOR, JALLUMERE_ENTRY_REQUEST,
-                                      JALLUMERE_ENTRY_TIMESTAMP};
+static void print_log(const site *own) {
+    static const unsigned fields[] = {JALLUMERE_ENTRY_COORDINATOR, JALLUMERE_ENTRY_REQUEST, JALLUMERE_ENTRY_TIMESTAMP};
     const standing *is = &own->is;
     printf("g%u.r%u %s, %s in view %u%s; log %u, sync %u, commit %u\n   ", is->group, is->replica,
            own->leads ? "leader" : "follower", status_name(is->status), is->view, own->silent ? ", silent" : "",
            is->logged, is->sync, is->commit);
     for (unsigned position = 0; position <= is->logged; position++) {
         for (unsigned i = 0; i < 3 && position != 0; i++)
-            printf("%c%u", " .@"[i],
-                   (unsigned)jallumere_entry(SIZES(&at), position, fields[i], own->state, at.length));
-        printf("%s%s", position == is->commit ? " |" : "",
-               position == is->sync && is->sync != is->commit ? " /" : "");
+            printf("%c%ju", " .@"[i], jallumere_entry(SIZES(&at), position, fields[i], own->state, at.length));
+        printf("%s%s", position == is->commit ? " |" : "", position == is->sync && is->sync != is->commit ? " /" : "");
     }
     printf("\n");
 }
 
-static void print_summary(void)
-{
+static void print_summary(void) {
     unsigned committed = 0, unanswered = 0;
-    printf("\nThe logs at the end: transaction@timestamp; | is the commit point, / the sync point where it is "
-           "another\n");
-    for (size_t i = 0; i < site_count; i++)
-        print_log(&sites[i]);
-    for (size_t i = 0; i < asked_count; i++)
-        unanswered += !is_answered(&letters[asked[i]]);
+    puts("\nThe logs at the end: transaction@timestamp; | is the commit point, / the sync point where it is another");
+    for (const site *each = sites; each < sites_end; each++)
+        print_log(each);
+    for (const letter *each = asked; each != NULL; each = each->last)
+        unanswered += !is_answered(each);
     for (uint64_t group = 0; group < at.s; group++)
         committed += committed_most[group];
     printf("\n%u steps in %u ms; %u transactions, %u not answered by a group; %zu messages sent, %u ways lost, "
@@ -789,66 +669,56 @@ static void print_summary(void)
         if (sent_counts[kind] != 0)
             printf(" %s %u;", kind_name(kind), sent_counts[kind]);
     if (answers[JALLUMERE_FULL] != 0)
-        printf(
-            "\nRefusal 8: a log was full. With one entry due every tick is then refused and no sync status goes\n"
-            "out, so the last entries stay uncommitted until the next view.%s",
-            groups == 1 ? ""
-                        : " With several groups that view may never\nstand: what a verify reply adds to a full "
-                          "draft has no room, which is refusal 8 again, in every view.");
-    printf("\nEvery promise held: %u checks of logs and commit points, %u states good, every message sent well "
-           "formed.\n",
-           checks_made, answers[JALLUMERE_DONE]);
+        printf("\nRefusal 8: a log was full. With one entry due every tick is then refused and no sync status goes\n"
+               "out, so the last entries stay uncommitted until the next view.%s",
+               groups == 1 ? ""
+                           : " With several groups that view may never\nstand: what a verify reply adds to a full "
+                             "draft has no room, which is refusal 8 again, in every view.");
+    printf(
+        "\nEvery promise held: %u checks of logs and commit points, %u states good, every message sent well formed.\n",
+        checks_made, answers[JALLUMERE_DONE]);
 }
 
 /* ---- the beginning ----------------------------------------------------------------------------------- */
 
-static void start_all(void)
-{
+static void start_all(void) {
     unsigned usual = (unsigned)(STEPS_EACH * sites_each * groups);
     steps_most = steps_most == 0 ? usual : steps_most;
     acts = steps_most < usual ? 1 : (unsigned)steps_most / usual;
     at = lay_out(sites_each, groups, capacity);
     seed_chance(seed * UINT64_C(0x2545f4914f6cdd1d) + 1);
     if (jallumere_version() != JALLUMERE_VERSION)
-        stop("the core's interface has version %u, the header %u", (unsigned)jallumere_version(),
-             JALLUMERE_VERSION);
-    if (jallumere_state_length(SIZES(&at)) != at.length)
-        fails(-1, "the core says %" PRIu64 " bytes for a state, the documents %zu",
-              jallumere_state_length(SIZES(&at)), at.length);
-    site_count = (size_t)(at.n * at.s);
+        stop("the core's interface has version %ju, the header %u", jallumere_version(), JALLUMERE_VERSION);
+    PROMISE(jallumere_state_length(SIZES(&at)) == at.length, NULL,
+            "the core says %ju bytes for a state, the documents %zu", jallumere_state_length(SIZES(&at)), at.length);
     outgoing_room = ample_room(&at);
     before = memory(at.length);
     outgoing = memory(outgoing_room);
-    outgoing_before = memory(outgoing_room);
-    memset(outgoing_before, 0xa5, outgoing_room);
-    for (size_t i = 0; i < site_count; i++) {
-        sites[i].skew = (unsigned)below(4);
-        sites[i].state = memory(at.length);
-        memset(sites[i].state, 0xa5, at.length);
-        if (jallumere_start(SIZES(&at), i / at.n, i % at.n, sites[i].state, at.length) != 0)
-            fails((int)i, "it cannot be started");
-        check_done((int)i, &(message){0});
-        plan((event){.at = 1 + (unsigned)below(TICK_TIME), .happen = tick, .site = (int)i});
+    outgoing_before = memset(memory(outgoing_room), 0xa5, outgoing_room);
+    for (; sites_end < site_of(at.s, 0); sites_end++) {
+        site *own = sites_end;
+        own->skew = (unsigned)below(4);
+        own->state = memset(memory(at.length), 0xa5, at.length);
+        PROMISE(jallumere_start(SIZES(&at), (own - sites) / at.n, (own - sites) % at.n, own->state, at.length) == 0,
+                own, "it cannot be started");
+        check_done(own, &(message){0});
+        plan((event){.at = 1 + (unsigned)below(TICK_TIME), .happen = tick, .to = own});
     }
     plan((event){.at = 5, .happen = submit});
 }
 
-int main(int count, char **words)
-{
+int main(int count, char **words) {
     read_words(count, words, options, NULL);
     if (sites_each % 2 == 0)
         stop("--sites takes 3, 5 or 7");
     if (page_path != NULL && (page_file = fopen(page_path, "w")) == NULL)
         stop("'%s' cannot be written", page_path);
-    if (page_file != NULL)
-        put_page();
+    PUT("%s", page_head);
     if (jallumere_is_model() != 0)
         printf("This runs on the C model of hosts/model, not on the proved core.\n");
     start_all();
-    printf("%u group%s of %u sites, capacity %u, seed %" PRIu64
-           ", %u of 100 messages lost, %u repeated, %u steps\n\n",
-           (unsigned)groups, groups == 1 ? "" : "s", (unsigned)sites_each, (unsigned)capacity, seed,
-           (unsigned)loss, (unsigned)repeats, (unsigned)steps_most);
+    printf("%ju group%s of %ju sites, capacity %ju, seed %ju, %ju of 100 messages lost, %ju repeated, %ju steps\n\n",
+           groups, groups == 1 ? "" : "s", sites_each, capacity, seed, loss, repeats, steps_most);
     while (step_count < steps_most) {
         event next = events[--event_count];
         now = next.at;

@@ -416,6 +416,7 @@ test_read_only() {
     check "a folder with crates of its own is not built in" said 'is there and is no link'
 }
 
+# A stand-in that measures nothing: it prints the figures of two steps, and fails with --turns 3.
 test_bench() {
     fresh_tree
     rm "$room"/tree/hosts/common/*.c
@@ -424,23 +425,45 @@ test_bench() {
 #include <string.h>
 int main(int count, char **words)
 {
-    printf("%s", count > 1 && strcmp(words[1], "--csv") == 0 ? "the figures\n" : "a table\n");
-    return count > 2 && strcmp(words[2], "--turns") == 0;
+    static const char *const logs[] = {"empty", "1/16", "1/4", "half", "full"};
+    printf("kind,step,n,s,c,log,answer,core_ns,model_ns,ratio\n");
+    for (int i = 0; i < 30; i++)
+        printf("%s,3,1,%d,%s,%s,%d.000,1000.000,1.234\n", i < 15 ? "23,\"tick\"" : "11,\"4: an older view\"",
+               i / 5 % 3 == 0 ? 16 : i / 5 % 3 == 1 ? 256 : 4096, logs[i % 5], i < 15 ? "0" : "4", 1234 + i % 5);
+    return count > 2 && strcmp(words[2], "3") == 0;
 }
 END
-    echo '{ print "<svg>" $0 "</svg>" } END { print "drawn" }' >"$room/tree/hosts/bench/draw.awk"
     jallumere bench --svg speed.svg
-    check "bench draws its figures" grep -q '<svg>the figures</svg>' speed.svg
+    check "bench draws its figures" grep -q '>23 tick</text>' speed.svg
     check "bench tells of the drawing" said "'speed.svg' has the drawing"
+    printf 'above\n<!-- figures -->\nbefore\n<!-- figures -->\nbelow\n' >page.md
+    cp page.md unchanged.md
     echo old >speed.svg
-    jallumere bench --svg speed.svg --turns 3
+    jallumere bench --svg speed.svg --into page.md --turns 3
     check "a bench that fails gives its status" is_status 1
     check "a bench that fails leaves the drawing" grep -q old speed.svg
+    check "a bench that fails leaves the page" cmp -s page.md unchanged.md
     jallumere bench
-    check "bench prints its table" printed 'a table'
+    check "bench prints its table" printed '^|   23 | tick                    |              1,234 |     1,000 |  1.23     |'
+    check "bench prints a table for each shape and capacity" [ "$(grep -c '^### n = 3, S = 1, C = ' "$room/out")" -eq 3 ]
     check "bench runs no model first" not said 'First the same run'
+    jallumere bench --csv
+    check "bench prints its figures" printed '^23,"tick",3,1,16,empty,0,1234.000,1000.000,1.234$'
+    jallumere bench --markdown
+    check "bench prints what it was measured on" printed '^Measured on an* .*; model and bench compiled by gcc [0-9.]* at `-O3`; the whole run took [0-9]* s\.$'
+    check "bench prints its figures in short" printed '^|   23 | tick                    | 1.23 | 1.23 | 1.23 |$'
+    jallumere bench --into page.md
+    check "a page is filled" [ "$(grep -c '^### ' page.md)" -eq 5 ]
+    check "what was between the marks of a page is gone" not grep -q before page.md
+    check "what is around the marks of a page stays" [ "$(sed -n '1p;2p;$p' page.md | tr '\n' ' ')" = 'above <!-- figures --> below ' ]
+    jallumere bench --into unchanged.md --markdown
+    check "a page is filled with what is printed" [ "$(grep -c '^|' unchanged.md)" -eq "$(grep -c '^|' "$room/out")" ]
     path=$room/arm:$room/bin:$PATH jallumere bench
     check "under an emulator bench gives ratios" grep -q '^qemu .*bench --ratios' "$room/calls"
+    fresh_tree
+    jallumere bench --into calls
+    check "a page without marks is told" said "has no two lines '<!-- figures -->'"
+    check "nothing is built for a page without marks" nothing_built
 }
 
 test_replay_and_gate() {
@@ -494,6 +517,12 @@ test_terminal() {
     PATH=$room/bin:$PATH script -qec "$room/tree/jallumere compare --help; $room/tree/jallumere simulate --quiet --steps 30" /dev/null >"$room/said" 2>&1 </dev/null
     check "on a terminal one line is written over" eval 'grep -q "$(printf "\r\033\[Kjallumere: crate . of 3 proved")" "$room/said"'
 }
+
+# What stands in for the core is native code: but where a check says otherwise, every machine is called an x86-64 one.
+mkdir -p "$room/native"
+printf '#!/bin/sh\n[ "$1" != -m ] || { echo x86_64; exit; }\nexec %s "$@"\n' "$(command -v uname)" >"$room/native/uname"
+chmod +x "$room/native/uname"
+PATH=$room/native:$PATH
 
 make_rt
 make_tools

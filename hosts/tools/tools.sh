@@ -85,8 +85,9 @@ build() {
     contents=$(contents_of "$name" "$core" "$flag" | "$digest")
     if [ -x "$program" ] && [ "$(cat "$program.made-of" 2>/dev/null)" = "$contents" ]; then return; fi
     try_tools
-    if [ "$name" = simulate ]; then # the page's lines as C strings
-        sed -e 's/\\/\\\\/g' -e 's/"/\\"/g' -e 's/^/"/' -e 's/$/\\n",/' "$tree/hosts/simulate/page.html" >"$built/page.h" || stop "no page.html"
+    if [ "$name" = simulate ]; then # the page's lines as two C strings
+        sed -e 's/\\/\\\\/g' -e 's/"/\\"/g' -e 's/.*/"&\\n"/' -e '1s/^/static const char page_head[] =\n/' -e '$s/$/;/' \
+            -e 's/^"@DATA@.*/;\nstatic const char page_tail[] =/' "$tree/hosts/simulate/page.html" >"$built/page.h" || stop "no page.html"
     fi
     mapfile -t sources < <(find "$tree/hosts/$name" "$tree/hosts/common" -name '*.c' | LC_ALL=C sort)
     if [ "$core" = model ]; then core=$tree/hosts/model/core.c; fi

@@ -4,6 +4,7 @@ use mathlib.Core.Path.{_≡_, refl, sym, ap, _∙_}
 use mathlib.Core.Bool.{Bool, true, false, _||_, not, true≢false}
 use mathlib.Core.List.{List}
 use lib.Dec.{eqb}
+use borrow.Author.Tests.{not-true, not-false}
 use Rattle.rules.specs.Choice.{pick, any}
 use Rattle.rules.specs.Kind.{known, toOutside}
 use Rattle.rules.specs.Wire.{tagOf, headerIn}
@@ -13,6 +14,7 @@ use Rattle.rules.specs.Step.{here, viewRight, statusRight, roleRight}
 use Rattle.rules.specs.declared.Shape.{Shape}
 use Rattle.rules.specs.declared.Message.{Message}
 use Rattle.rules.specs.declared.Message.the-variants as m
+use Rattle.rules.proofs.Choice.{or-left}
 use Rattle.writer.specs.Said.{saidOf}
 use Rattle.writer.specs.declared.Said.{Said}
 use Rattle.handler.proofs.Told.{told, told-sender}
@@ -37,18 +39,6 @@ tag-known (m.VerifyRequest h boundary) e = refl
 tag-known (m.VerifyReply h) e = refl
 tag-known (m.Tick h time) e = refl
 
-left-false : (a b : Bool) → (a || b) ≡ false → a ≡ false
-left-false true b e = absurd (true≢false e)
-left-false false b e = refl
-
-not-true : (a : Bool) → not a ≡ true → a ≡ false
-not-true true e = absurd (true≢false (sym e))
-not-true false e = refl
-
-not-false : (a : Bool) → not a ≡ false → a ≡ true
-not-false true e = refl
-not-false false e = absurd (true≢false e)
-
 module _ (sh : Shape) (msg : List ℕ) (x : Message) (u : Said) (d : x ≡ decoded (sh .n) (sh .s) msg) (e : u ≡ saidOf x) (o : Bool) (q : o ≡ toOutside (u .tag)) where
   is-tag : u .tag ≡ tagOf x
   is-tag = ap (λ (z : Said). z .tag) e
@@ -58,7 +48,7 @@ module _ (sh : Shape) (msg : List ℕ) (x : Message) (u : Said) (d : x ≡ decod
 
   pub heads : (eqb (u .tag) 0 || o) ≡ false → Heads sh (u .tag) (u .header) msg
   heads f =
-      let n : eqb (tagOf x) 0 ≡ false = left-false (eqb (tagOf x) 0) (toOutside (tagOf x)) (sym first ∙ f) in
+      let n : eqb (tagOf x) 0 ≡ false = or-left (eqb (tagOf x) 0) (toOutside (tagOf x)) (sym first ∙ f) in
       let t = told (sh .n) (sh .s) x msg d (tag-known x n) in
       let h : u .header ≡ headerIn x = ap (λ (z : Said). z .header) e in
       record {

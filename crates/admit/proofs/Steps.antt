@@ -1,28 +1,25 @@
 -- What the refusals 2 to 6 say of the step on bytes: the number refuses it, and 0 leaves it to the handler of the kind. Assumes nothing.
 use Prim.Native.Nat.{ℕ}
 use mathlib.Core.Path.{_≡_, refl, sym, ap, _∙_, subst}
-use mathlib.Core.Bool.{Bool, true, false, _&&_, _||_, true≢false}
+use mathlib.Core.Bool.{Bool, true, false, true≢false}
 use mathlib.Core.List.{List}
-use lib.ListN.{length}
 use lib.Dec.{eqb}
 use borrow.Author.Tests.{eqb-true, eq-eqb, ne-eqb}
 use Rattle.rules.specs.Choice.{pick, any}
 use Rattle.rules.specs.Group.{sizesFit, shapeFits}
-use Rattle.rules.specs.Wire.{Wire, tagOf, caseOf}
+use Rattle.rules.specs.Wire.{Wire, tagOf}
 use Rattle.rules.specs.Kind.{known, toOutside}
-use Rattle.rules.specs.Read.{Read, malformed, message, read, wireIn, fieldsOf, caseRead, decoded}
+use Rattle.rules.specs.Read.{Read, malformed, message, read, wireIn, caseRead, decoded}
 use Rattle.rules.specs.State.{State}
 use Rattle.rules.specs.Image.{stateOf, goodBytes}
-use Rattle.rules.specs.Step.{Outcome, refused, done, step, handle, here, viewRight, statusRight, roleRight}
+use Rattle.rules.specs.Step.{Outcome, refused, step, handle, here, viewRight, statusRight, roleRight}
 use Rattle.rules.specs.Bytes.{Left, leaves, closes, stepRead, stepBytes}
 use Rattle.rules.specs.declared.Shape.{Shape}
 use Rattle.rules.specs.declared.Message.{Message}
-use Rattle.rules.specs.declared.Message.the-variants.{WrongSizes, Malformed}
 use Rattle.rules.proofs.Tests.{and-l}
 use Rattle.rules.proofs.Good.{good-bytes}
 use Rattle.rules.proofs.Case.{tag-case}
-use Rattle.rules.proofs.Verdicts.{message-right}
-use Rattle.rules.proofs.Messages.{Whole, read-whole}
+use Rattle.rules.proofs.Messages.{read-whole, whole-known}
 use Rattle.places.proofs.Sections.{stands}
 use Rattle.handler.specs.Handler.{Ready}
 use Rattle.handler.proofs.Told.{Told, told}
@@ -75,10 +72,6 @@ by-number sh st k w z e = subst (Judged sh st w) e (own-number sh st w (ap (λ (
 none-two : (sh : Shape) (st : State) (k : ℕ) (w : Wire) → k ≡ 0 → refusalOf sh st k w ≡ 2
 unfolding refusalOf pick
 none-two sh st k w e = rw e
-
-whole-known : (n s : ℕ) (b : List ℕ) (w : Wire) → Whole n s b w → known (w .kind) ≡ true
-unfolding fieldsOf
-whole-known n s b w q = message-right n s (fieldsOf w) (length (w .entries)) (length (w .entries)) (q .fine) .head 0
 
 known-some : (k : ℕ) → known k ≡ true → eqb k 0 ≡ false
 unfolding any

@@ -1,7 +1,7 @@
 -- Why each test of a message at a state's bytes is that of the rules. Assumes nothing.
 use Prim.Native.Nat.{ℕ, suc, _+_, _*_, _%_, _≤_, _<_}
 use mathlib.Core.Path.{_≡_, refl, sym, ap, _∙_}
-use mathlib.Core.Bool.{Bool, true, false, _&&_, _||_, not}
+use mathlib.Core.Bool.{Bool, true, false, _&&_, _||_, not, and-true}
 use mathlib.Core.List.{List, [], _∷_}
 use native.Mathlib.Omega.{arith}
 use lib.ListN.{getD}
@@ -20,10 +20,10 @@ use Rattle.rules.specs.Step.{here, newer, equal, viewRight, statusRight, leadsB
 use Rattle.rules.specs.declared.Header.{Header}
 use Rattle.rules.specs.declared.Shape.{Shape}
 use Rattle.places.specs.Layout.{Stands}
-use Rattle.places.proofs.Sections.{stands-laid, stands-fits, drop-all}
+use Rattle.places.proofs.Sections.{stands-laid, stands-fits, stands-midway, drop-all}
 use Rattle.places.proofs.Head.{group-of, replica-of, status-of, view-of}
 use Rattle.handler.proofs.Own.{own-below}
-use Rattle.form.proofs.Same.{same-append, and-true}
+use Rattle.rules.proofs.Tests.{same-append}
 use Rattle.kinds.specs.Rows.{rowAs}
 use Rattle.kinds.specs.declared.Row.{Row}
 use Rattle.rules.specs.declared.Sender.the-variants.{Outsider, OwnLeader, OwnReplica, OtherLeader, AnyReplica}
@@ -68,12 +68,12 @@ module _ {sh : Shape} {b msg : List ℕ} {k : ℕ} {h : Header} (s : Stands sh (
   here-is g r x e f y =
       let a : h .«to_group» ≡ w .toGroup = ap (λ (z : Header). z .«to_group») (sym (q .header)) in
       let c : h .«to_mask» ≡ w .toMask = ap (λ (z : Header). z .«to_mask») (sym (q .header)) in
-      rw (y, a, c, e ∙ group-of s, f ∙ replica-of s)
+      rw (y, a, c, e ∙ group-of (stands-midway s), f ∙ replica-of (stands-midway s))
 
   pub newer-is : (v : ℕ) → v ≡ num b 8 4 → ltb v (h .view) ≡ newer st w
   newer-is v e =
       let a : h .view ≡ w .view = ap (λ (z : Header). z .view) (sym (q .header)) in
-      rw (a, e ∙ view-of s)
+      rw (a, e ∙ view-of (stands-midway s))
 
   views-of : bare k ≡ false → w .gVec ≡ items (λ a. num msg a 4) 4 16 (sh .s)
   unfolding wireIn pick
@@ -82,7 +82,7 @@ module _ {sh : Shape} {b msg : List ℕ} {k : ℕ} {h : Header} (s : Stands sh (
   pub equal-is : (v : ℕ) (x : Bool) → bare k ≡ false → v ≡ num b 8 4 → x ≡ same (items (λ a. num msg a 4) 4 16 (sh .s)) (st .view .gVec) → (eqb (h .view) v && x) ≡ equal st w
   equal-is v x n e y =
       let a : h .view ≡ w .view = ap (λ (z : Header). z .view) (sym (q .header)) in
-      rw (y, a, e ∙ view-of s, views-of n)
+      rw (y, a, e ∙ view-of (stands-midway s), views-of n)
 
   -- ---- views, status
 
@@ -107,7 +107,7 @@ module _ {sh : Shape} {b msg : List ℕ} {k : ℕ} {h : Header} (s : Stands sh (
       taken : y ≡ asked (rowOf k .status) (st .view .status)
       taken =
           let l = good-is sh st (s .good) .ranges in
-          m ∙ rw (ap (λ (x : Row). x .statuses) e, f ∙ status-of s) (mask-asks k (st .view .status) (leb-true _ _ (l .leastStatus)) (leb-true _ _ (l .mostStatus)))
+          m ∙ rw (ap (λ (x : Row). x .statuses) e, f ∙ status-of (stands-midway s)) (mask-asks k (st .view .status) (leb-true _ _ (l .leastStatus)) (leb-true _ _ (l .mostStatus)))
 
       pub status-if-equal : (x : Bool) → r .«only_if_equal» ≡ true → x ≡ newer st w → (x || y) ≡ statusRight k st w
       unfolding statusRight
@@ -124,14 +124,14 @@ module _ {sh : Shape} {b msg : List ℕ} {k : ℕ} {h : Header} (s : Stands sh (
 
   pub leads-is : (g r : ℕ) (x : Bool) → bare k ≡ false → g ≡ num b 0 1 → r ≡ num b 1 1 → x ≡ eqb r (num msg (16 + 4 * g) 4 % sh .n) → x ≡ leadsBy sh st w
   leads-is g r x n e f y =
-      let a : st .site .group ≡ g = sym (e ∙ group-of s) in
-      let c : st .site .replica ≡ r = sym (f ∙ replica-of s) in
+      let a : st .site .group ≡ g = sym (e ∙ group-of (stands-midway s)) in
+      let c : st .site .replica ≡ r = sym (f ∙ replica-of (stands-midway s)) in
       y ∙ rw (a, c, view-in g n (own-below s g e))
 
   pub inside-is : (g : ℕ) → g ≡ num b 0 1 → eqb (h .«from_group») g ≡ fromOwn st w
   inside-is g e =
       let a : h .«from_group» ≡ w .fromGroup = ap (λ (z : Header). z .«from_group») (sym (q .header)) in
-      rw (a, e ∙ group-of s)
+      rw (a, e ∙ group-of (stands-midway s))
 
   pub from-leader-is : (x : Bool) → fromOutside k ≡ false → x ≡ eqb (h .«from_replica») (num msg (16 + 4 * h .«from_group») 4 % sh .n) → x ≡ fromLeader sh w
   from-leader-is x o y =
@@ -165,7 +165,7 @@ module _ {sh : Shape} {b msg : List ℕ} {k : ℕ} {h : Header} (s : Stands sh (
       pub by-member : (i : ℕ) → r .sender ≡ OwnReplica → i ≡ num b 1 1 → (eqb (h .«from_group») g && not (eqb (h .«from_replica») i)) ≡ senderFits (rowOf k .sender) sh st w
       by-member i d y =
           let a : h .«from_replica» ≡ w .fromReplica = ap (λ (v : Header). v .«from_replica») (sym (q .header)) in
-          rw (sym (sender-cell k r e) ∙ d, inside-is g eg, a, y ∙ replica-of s)
+          rw (sym (sender-cell k r e) ∙ d, inside-is g eg, a, y ∙ replica-of (stands-midway s))
 
       pub by-other : (z : Bool) → r .sender ≡ OtherLeader → z ≡ fromLeader sh w → (not (eqb (h .«from_group») g) && z) ≡ senderFits (rowOf k .sender) sh st w
       by-other z d y = rw (sym (sender-cell k r e) ∙ d, inside-is g eg, y)

@@ -1,7 +1,7 @@
 -- Which of the refusals 2 to 6 a message meets at a state.
 use Prim.Native.Nat.{ℕ, _<_}
 use mathlib.Core.Path.{_≡_}
-use mathlib.Core.Bool.{Bool, _||_, false}
+use mathlib.Core.Bool.{_||_, false}
 use mathlib.Core.List.{List}
 use lib.Dec.{eqb}
 use Rattle.rules.specs.Choice.{pick}

@@ -20,6 +20,9 @@ ghost use Rattle.rules.specs.Step.{newer, equal, here, viewRight, statusRight, 
 ghost use Rattle.places.specs.Layout.{Stands, startOf};
 ghost use Rattle.admit.specs.Refusal.{refusalOf, Heads};
 
+// The kind of what is no message.
+const NO_KIND: u8 = 0;
+
 // Whether a message is addressed to this site.
 fn is_here(shape: Shape, state: &[u8], kind: u8, h: Header, message: &[u8]) -> bool
     requires { ⌜ Stands shape (stateOf shape (now state)) (now state) × Heads shape kind h (now message) ⌝ }
@@ -175,7 +178,7 @@ pub fn refusal(shape: Shape, state: &[u8], m: Message, message: &[u8]) -> u8
     let said = writer::said_of(m);
     let kind = said.tag;
     let h = said.header;
-    if (kind == 0) | kinds::to_outside(kind) {
+    if (kind == NO_KIND) | kinds::to_outside(kind) {
         return rules::refusal::MALFORMED;
     }
     if !is_here(shape, state, kind, h, message) {

@@ -1,6 +1,6 @@
 -- The ways through the handler of kind 3. Assumes nothing.
 use Prim.Native.Nat.{ℕ, _+_, _≤_, _<_, max}
-use mathlib.Core.Path.{_≡_, sym, ap, _∙_}
+use mathlib.Core.Path.{_≡_, refl, sym, ap, _∙_}
 use mathlib.Core.Bool.{Bool, true, false, not}
 use mathlib.Core.List.{List, []}
 use native.Mathlib.Omega.{arith}
@@ -11,13 +11,12 @@ use Rattle.rules.specs.Choice.{pick, isSome, any}
 use Rattle.rules.specs.Entry.{among}
 use Rattle.rules.specs.Wire.{Wire, firstEntry, tagOf, headerIn}
 use Rattle.rules.specs.Kind.{known, fromOutside, rowOf}
-use Rattle.rules.specs.Wire as wires
 use Rattle.rules.specs.Read.{wireIn}
 use Rattle.rules.specs.State.{Note, State, noted}
 use Rattle.rules.specs.Image.{image, stateOf}
-use Rattle.rules.specs.Step.{Outcome, refused, done, buffered, onNote}
+use Rattle.rules.specs.Step.{refused, done, buffered, onNote}
 use Rattle.rules.specs.Early.{keepNote, lifted}
-use Rattle.rules.specs.Bytes.{leaves, closes}
+use Rattle.rules.specs.Bytes.{leaves}
 use Rattle.rules.specs.declared.Entry.{Entry}
 use Rattle.rules.specs.declared.Header.{Header}
 use Rattle.rules.specs.declared.Shape.{Shape}
@@ -29,8 +28,8 @@ use Rattle.notes.specs.Notes.{row}
 use Rattle.notes.proofs.Row.{length-kept}
 use Rattle.places.proofs.Sections.{stands-fits}
 use Rattle.handler.specs.Handler.{Ready, handled}
-use Rattle.handler.proofs.Told.{told-sender, ready-told}
-use Rattle.handler.proofs.Closes.{quiet, closes-refused, closes-quiet, handled-own}
+use Rattle.handler.proofs.Closes.{quiet}
+use Rattle.handler.proofs.Ways.{refuses, keeps, said-group, said-sender}
 
 -- one note more fits where the transaction's place is below C
 pub room-is : (sh : Shape) (e : Entry) (j t : ℕ) (xs : List Note) → length xs ≤ sh .c → leb (length (keepNote sh e j t xs)) (sh .c) ≡ ltb (row (e .request) (e .coordinator) xs) (sh .c)
@@ -74,39 +73,38 @@ module _ (sh : Shape) (b msg out : List ℕ) (m : Message) (h : Header) (r : Rea
   abbrev j : ℕ
   j = h .«from_group»
 
-  kind-known : known (tagOf m) ≡ true
+  own : tagOf m ≡ 3
+  own = ap tagOf e
+
+  kind-known : known 3 ≡ true
   unfolding pick any
-  kind-known = ap (λ (x : Message). known (tagOf x)) e
+  kind-known = refl
 
   from-is : wireIn (sh .s) msg .fromGroup ≡ j
-  from-is = ap (λ (x : Header). x .«from_group») (ready-told sh b msg m r kind-known .header ∙ ap headerIn e)
+  from-is = said-group r 3 own kind-known ∙ ap (λ (x : Message). headerIn x .«from_group») e
 
   -- the sender's group is one of the shape's
   pub from-below : j < sh .s
   unfolding rowOf
-  from-below = rw e at (told-sender (sh .n) (sh .s) m msg (ready-told sh b msg m r kind-known) (ap (λ (x : Message). fromOutside (tagOf x)) e) .0)
-
-  by-rule : (o : Outcome) → onNote sh st (wireIn (sh .s) msg) ≡ o → handled 3 onNote sh m b msg out ≡ closes sh b out o
-  by-rule o q = handled-own 3 onNote sh m b msg out (ap tagOf e) ∙ ap (closes sh b out) q
+  from-below = rw e at (said-sender r 3 own kind-known refl .0)
 
   module _ (x : Entry) (q : x ≡ firstEntry (wireIn (sh .s) msg)) (t : Bool) (a : t ≡ among (st .logged .log) x) where
     pub in-log-way : t ≡ true → leaves 7 b out ≡ handled 3 onNote sh m b msg out
-    in-log-way z = sym (by-rule (refused 7) (logged sh st _ x j q from-is (sym a ∙ z)) ∙ closes-refused sh b out 7)
+    in-log-way z = refuses 3 onNote sh b msg out m own 7 (logged sh st _ x j q from-is (sym a ∙ z))
 
     module _ (z : t ≡ false) (u : Bool) (v : u ≡ isSome (noted (st .waiting .notes) x j)) where
       pub noted-way : u ≡ true → leaves 7 b out ≡ handled 3 onNote sh m b msg out
-      noted-way y = sym (by-rule (refused 7) (again sh st _ x j q from-is (sym a ∙ z) (sym v ∙ y)) ∙ closes-refused sh b out 7)
+      noted-way y = refuses 3 onNote sh b msg out m own 7 (again sh st _ x j q from-is (sym a ∙ z) (sym v ∙ y))
 
       module _ (y : u ≡ false) (p : Bool) (g : p ≡ ltb (row (x .request) (x .coordinator) (st .waiting .notes)) (sh .c)) where
         room : leb (length (keepNote sh x j (x .stamp) (st .waiting .notes))) (sh .c) ≡ p
         room = room-is sh x j (x .stamp) (st .waiting .notes) (stands-fits (r .stands) .notes .room) ∙ sym g
 
         pub full-way : not p ≡ true → leaves 8 b out ≡ handled 3 onNote sh m b msg out
-        full-way k = sym (by-rule (refused 8) (full sh st _ x j q from-is (sym a ∙ z) (sym v ∙ y) (room ∙ when-not p k)) ∙ closes-refused sh b out 8)
+        full-way k = refuses 3 onNote sh b msg out m own 8 (full sh st _ x j q from-is (sym a ∙ z) (sym v ∙ y) (room ∙ when-not p k))
 
         pub kept-way : (b′ : List ℕ) → not p ≡ false → b′ ≡ image sh (buffered st (lifted sh (keepNote sh x j (x .stamp) (st .waiting .notes)) x (st .waiting .early)) (st .waiting .late) (keepNote sh x j (x .stamp) (st .waiting .notes))) → quiet b′ out ≡ handled 3 onNote sh m b msg out
-        kept-way b′ k w =
-            sym (by-rule _ (fits sh st _ x j q from-is (sym a ∙ z) (sym v ∙ y) (room ∙ unless-not p k)) ∙ closes-quiet sh b out _ ∙ ap (λ (y : List ℕ). quiet y out) (sym w))
+        kept-way b′ k = keeps 3 onNote sh b msg out m own _ b′ (fits sh st _ x j q from-is (sym a ∙ z) (sym v ∙ y) (room ∙ unless-not p k))
 
 -- there is room for the note that is kept
 pub room-below : (a c : ℕ) (p : Bool) → p ≡ ltb a c → not p ≡ false → a < c

@@ -16,7 +16,7 @@ use Rattle.rules.specs.Group.{holds}
 use Rattle.rules.specs.Log.{followsLast}
 use Rattle.rules.specs.Wire.{entryBytes, wireBytes}
 use Rattle.rules.specs.Read.{lengthFor}
-use Rattle.rules.specs.State.{State}
+use Rattle.rules.specs.State.{State, withWaiting}
 use Rattle.rules.specs.Image.{image, stateOf}
 use Rattle.rules.specs.Step.{refused, done, sendLeader, otherGroups, buffered, leaderTakes, followerTakes}
 use Rattle.rules.specs.Early.{keepNote, lifted}
@@ -27,17 +27,14 @@ use Rattle.rules.proofs.Choice.{all-given}
 use Rattle.rules.proofs.Entries.{EntryFits, long-entry}
 use Rattle.logs.proofs.Every.{when-not, unless-not}
 use Rattle.notes.specs.Notes.{row}
-use Rattle.places.specs.Layout.{Stands}
-use Rattle.places.specs.With.{withEarly, withLate}
-use Rattle.places.proofs.Sections.{stands-fits, stands-laid}
+use Rattle.places.specs.Layout.{Midway, Stands}
+use Rattle.places.proofs.Sections.{midway-is, stands-fits, stands-laid}
 use Rattle.handler.specs.Sending.{othersIn, leaderBytes}
 use Rattle.handler.proofs.Closes.{quiet, closes-refused, closes-sent, closes-tight, closes-quiet}
 use Rattle.handler.proofs.Rows.{sends-length}
 use Rattle.handler.proofs.Sends.{sender, sent-length}
 use Rattle.handler.proofs.Leaders.{others-are, notes-sent}
-use Rattle.stamps.specs.Midway.{Midway}
 use Rattle.arrivals.specs.Taken.{noteSends, ownNoted, takenEarly}
-use Rattle.stamps.proofs.Midway.{midway-as}
 use Rattle.arrivals.proofs.NoteWays.{room-is}
 
 -- ---- the rules, by their tests
@@ -48,7 +45,7 @@ module _ (sh : Shape) (st : State) (e : Entry) where
     unfolding followerTakes pick
     no-early h = rw (f, lt-leb (suc (length (st .waiting .early))) (sh .c) (omega arith))
 
-    to-early : length (st .waiting .early) < sh .c → followerTakes sh st e ≡ done (withEarly st (st .waiting .early ++ (e ∷ []))) []
+    to-early : length (st .waiting .early) < sh .c → followerTakes sh st e ≡ done (withWaiting (record { early = st .waiting .early ++ (e ∷ []); late = st .waiting .late; notes = st .waiting .notes }) st) []
     unfolding followerTakes pick
     to-early h = rw (f, le-leb (suc (length (st .waiting .early))) (sh .c) (omega arith))
 
@@ -57,7 +54,7 @@ module _ (sh : Shape) (st : State) (e : Entry) where
     unfolding followerTakes pick
     no-late h = rw (f, lt-leb (suc (length (st .waiting .late))) (sh .c) (omega arith))
 
-    to-late : length (st .waiting .late) < sh .c → followerTakes sh st e ≡ done (withLate st (st .waiting .late ++ (e ∷ []))) []
+    to-late : length (st .waiting .late) < sh .c → followerTakes sh st e ≡ done (withWaiting (record { early = st .waiting .early; late = st .waiting .late ++ (e ∷ []); notes = st .waiting .notes }) st) []
     unfolding followerTakes pick
     to-late h = rw (f, le-leb (suc (length (st .waiting .late))) (sh .c) (omega arith))
 
@@ -84,15 +81,15 @@ module _ (sh : Shape) (b out : List ℕ) (e : Entry) (t : Bool) (q : t ≡ follo
     pub early-full : sh .c ≤ n → leaves 8 b out ≡ closes sh b out (followerTakes sh st e)
     early-full h = sym (ap (closes sh b out) (no-early sh st e (sym q ∙ z) (rw k at h)) ∙ closes-refused sh b out 8)
 
-    pub early-taken : n < sh .c → (b′ : List ℕ) → Midway sh (withEarly st (st .waiting .early ++ (e ∷ []))) b′ → quiet b′ out ≡ closes sh b out (followerTakes sh st e)
-    early-taken h b′ m = sym (ap (closes sh b out) (to-early sh st e (sym q ∙ z) (rw k at h)) ∙ closes-quiet sh b out _ ∙ ap (λ (y : List ℕ). quiet y out) (sym (m .laid .bytes)))
+    pub early-taken : n < sh .c → (b′ : List ℕ) → Midway sh (withWaiting (record { early = st .waiting .early ++ (e ∷ []); late = st .waiting .late; notes = st .waiting .notes }) st) b′ → quiet b′ out ≡ closes sh b out (followerTakes sh st e)
+    early-taken h b′ m = sym (ap (closes sh b out) (to-early sh st e (sym q ∙ z) (rw k at h)) ∙ closes-quiet sh b out _ ∙ ap (λ (y : List ℕ). quiet y out) (sym (m .bytes)))
 
   module _ (z : t ≡ false) (n : ℕ) (k : n ≡ length (st .waiting .late)) where
     pub late-full : sh .c ≤ n → leaves 8 b out ≡ closes sh b out (followerTakes sh st e)
     late-full h = sym (ap (closes sh b out) (no-late sh st e (sym q ∙ z) (rw k at h)) ∙ closes-refused sh b out 8)
 
-    pub late-taken : n < sh .c → (b′ : List ℕ) → Midway sh (withLate st (st .waiting .late ++ (e ∷ []))) b′ → quiet b′ out ≡ closes sh b out (followerTakes sh st e)
-    late-taken h b′ m = sym (ap (closes sh b out) (to-late sh st e (sym q ∙ z) (rw k at h)) ∙ closes-quiet sh b out _ ∙ ap (λ (y : List ℕ). quiet y out) (sym (m .laid .bytes)))
+    pub late-taken : n < sh .c → (b′ : List ℕ) → Midway sh (withWaiting (record { early = st .waiting .early; late = st .waiting .late ++ (e ∷ []); notes = st .waiting .notes }) st) b′ → quiet b′ out ≡ closes sh b out (followerTakes sh st e)
+    late-taken h b′ m = sym (ap (closes sh b out) (to-late sh st e (sym q ∙ z) (rw k at h)) ∙ closes-quiet sh b out _ ∙ ap (λ (y : List ℕ). quiet y out) (sym (m .bytes)))
 
 -- ---- what a leader sends
 
@@ -124,12 +121,12 @@ module _ {sh : Shape} {st : State} {b : List ℕ} (s : Stands sh st b) (e : Entr
 
 -- ---- what a leader keeps
 
-pub taken-is : {sh : Shape} {b : List ℕ} (st : State) (e : Entry) (own : ℕ) (b′ : List ℕ) → Midway sh (withEarly st (st .waiting .early ++ (e ∷ []))) b → own ≡ st .site .group
+pub taken-is : {sh : Shape} {b : List ℕ} (st : State) (e : Entry) (own : ℕ) (b′ : List ℕ) → Midway sh (withWaiting (record { early = st .waiting .early ++ (e ∷ []); late = st .waiting .late; notes = st .waiting .notes }) st) b → own ≡ st .site .group
     → b′ ≡ image sh (buffered (stateOf sh b) (lifted sh (keepNote sh e own (e .stamp) (stateOf sh b .waiting .notes)) e (stateOf sh b .waiting .early)) (stateOf sh b .waiting .late) (keepNote sh e own (e .stamp) (stateOf sh b .waiting .notes)))
     → b′ ≡ image sh (takenEarly sh st e)
 taken-is {sh} {b} st e own b′ m g w =
     w
-    ∙ ap (λ (x : State). image sh (buffered x (lifted sh (keepNote sh e own (e .stamp) (x .waiting .notes)) e (x .waiting .early)) (x .waiting .late) (keepNote sh e own (e .stamp) (x .waiting .notes)))) (midway-as m)
+    ∙ ap (λ (x : State). image sh (buffered x (lifted sh (keepNote sh e own (e .stamp) (x .waiting .notes)) e (x .waiting .early)) (x .waiting .late) (keepNote sh e own (e .stamp) (x .waiting .notes)))) (midway-is m)
     ∙ ap (λ (k : ℕ). image sh (buffered st (lifted sh (keepNote sh e k (e .stamp) (st .waiting .notes)) e (st .waiting .early ++ (e ∷ []))) (st .waiting .late) (keepNote sh e k (e .stamp) (st .waiting .notes)))) g
 
 -- ---- a leader's ways

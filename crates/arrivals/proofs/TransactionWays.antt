@@ -1,6 +1,6 @@
 -- The ways through the handler of kind 1. Assumes nothing.
 use Prim.Native.Nat.{ℕ, _+_, _≤_}
-use mathlib.Core.Path.{_≡_, sym, ap, ap₂, _∙_}
+use mathlib.Core.Path.{_≡_, refl, sym, ap, ap₂, _∙_}
 use mathlib.Core.Bool.{Bool, true, false}
 use mathlib.Core.List.{List}
 use native.Mathlib.Omega.{arith}
@@ -16,7 +16,7 @@ use Rattle.rules.specs.Wire as wires
 use Rattle.rules.specs.Read.{wireIn}
 use Rattle.rules.specs.State.{State, leads}
 use Rattle.rules.specs.Image.{stateOf}
-use Rattle.rules.specs.Step.{Outcome, refused, due, knownTo, leaderTakes, followerTakes, onTransaction}
+use Rattle.rules.specs.Step.{refused, due, knownTo, leaderTakes, followerTakes, onTransaction}
 use Rattle.rules.specs.Bytes.{leaves, closes}
 use Rattle.rules.specs.declared.Entry.{Entry}
 use Rattle.rules.specs.declared.Header.{Header}
@@ -26,8 +26,8 @@ use Rattle.rules.specs.declared.Message.the-variants as cases
 use Rattle.rules.proofs.Choice.{and-right, or-left, or-right}
 use Rattle.rules.proofs.Tests.{split}
 use Rattle.handler.specs.Handler.{Ready, handled}
-use Rattle.handler.proofs.Told.{told-number, told-right, ready-told}
-use Rattle.handler.proofs.Closes.{closes-refused, handled-own}
+use Rattle.handler.proofs.Told.{told-right}
+use Rattle.handler.proofs.Ways.{by-rule, refuses, said, said-number}
 
 -- ---- the rule, by its tests
 
@@ -53,12 +53,15 @@ module _ (sh : Shape) (b msg out : List ℕ) (m : Message) (h : Header) (time bo
   abbrev w : Wire
   w = wireIn (sh .s) msg
 
-  kind-known : known (tagOf m) ≡ true
+  own : tagOf m ≡ 1
+  own = ap tagOf e
+
+  kind-known : known 1 ≡ true
   unfolding pick any
-  kind-known = ap (λ (x : Message). known (tagOf x)) e
+  kind-known = refl
 
   number-is : (i : ℕ) → wires.number w i ≡ getD (numbersOf (cases.Transaction h time bound)) i 0
-  number-is i = told-number (sh .n) (sh .s) m msg (ready-told sh b msg m r kind-known) i ∙ ap (λ (x : Message). getD (numbersOf x) i 0) e
+  number-is i = said-number r 1 own kind-known i ∙ ap (λ (x : Message). getD (numbersOf x) i 0) e
 
   due-is : due w ≡ time + bound
   due-is = ap₂ _+_ (number-is 0) (number-is 1)
@@ -67,15 +70,12 @@ module _ (sh : Shape) (b msg out : List ℕ) (m : Message) (h : Header) (time bo
   pub due-low : time + bound ≤ latest
   unfolding pick rowOf
   due-low =
-      let f = split _ (told-right (sh .n) (sh .s) m msg (ready-told sh b msg m r kind-known) 1 (ap tagOf e) .number 1 (omega arith)) 0 in
+      let f = split _ (told-right (sh .n) (sh .s) m msg (said r 1 own kind-known) 1 own .number 1 (omega arith)) 0 in
       omega (arith, due-is, leb-true (due w) latest (and-right (leb 1 (due w)) (leb (due w) latest) f))
-
-  by-rule : (o : Outcome) → onTransaction sh st w ≡ o → handled 1 onTransaction sh m b msg out ≡ closes sh b out o
-  by-rule o q = handled-own 1 onTransaction sh m b msg out (ap tagOf e) ∙ ap (closes sh b out) q
 
   module _ (x : Entry) (q : x ≡ firstEntry w) (t : Bool) (a : t ≡ knownTo st x) where
     pub known-way : t ≡ true → leaves 7 b out ≡ handled 1 onTransaction sh m b msg out
-    known-way z = sym (by-rule (refused 7) (again sh st w x q (sym a ∙ z)) ∙ closes-refused sh b out 7)
+    known-way z = refuses 1 onTransaction sh b msg out m own 7 (again sh st w x q (sym a ∙ z))
 
     module _ (z : t ≡ false) (l : Bool) (v : l ≡ leads sh st) where
       module _ (y : Entry) (u : y ≡ stamped (time + bound) x) where
@@ -84,7 +84,7 @@ module _ (sh : Shape) (b msg out : List ℕ) (m : Message) (h : Header) (time bo
         not-early z′ v′ = ap (λ (d : Entry). among (st .waiting .early) d) (v′ ∙ ap (raised (st .logged .log)) u) ∙ or-left (among (st .waiting .early) x) (among (st .waiting .late) x) (or-right (among (st .logged .log) x) _ (sym a ∙ z))
 
         pub leader-way : l ≡ true → (z′ : Entry) → z′ ≡ raised (st .logged .log) y → closes sh b out (leaderTakes sh st z′) ≡ handled 1 onTransaction sh m b msg out
-        leader-way k z′ g = sym (by-rule _ (at-leader sh st w x q (sym a ∙ z) (sym v ∙ k)) ∙ ap (λ (d : ℕ). closes sh b out (leaderTakes sh st (raised (st .logged .log) (stamped d x)))) due-is ∙ rw (g, u))
+        leader-way k z′ g = rw (g, u, ← due-is) (by-rule 1 onTransaction sh b msg out m own _ (at-leader sh st w x q (sym a ∙ z) (sym v ∙ k)))
 
         pub follower-way : l ≡ false → closes sh b out (followerTakes sh st y) ≡ handled 1 onTransaction sh m b msg out
-        follower-way k = sym (by-rule _ (at-follower sh st w x q (sym a ∙ z) (sym v ∙ k)) ∙ ap (λ (d : ℕ). closes sh b out (followerTakes sh st (stamped d x))) due-is ∙ rw u)
+        follower-way k = rw (u, ← due-is) (by-rule 1 onTransaction sh b msg out m own _ (at-follower sh st w x q (sym a ∙ z) (sym v ∙ k)))

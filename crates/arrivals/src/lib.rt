@@ -1,4 +1,5 @@
 // The handlers of transaction (kind 1) and timestamp note (kind 3): what arrives is put into the early or the late buffer, and the notes are kept.
+use handler::Asking;
 use rules::Answer;
 use rules::Entry;
 use rules::Message;
@@ -14,6 +15,7 @@ ghost use lib.ListN.{length};
 ghost use Rattle.octets.specs.Bytes.{splice, flat};
 ghost use Rattle.rules.specs.Entry.{among};
 ghost use Rattle.rules.specs.Log.{distinct};
+ghost use Rattle.rules.specs.State.{withWaiting};
 ghost use Rattle.rules.specs.Image.{tableAt, image, stateOf};
 ghost use Rattle.rules.specs.Wire.{wireBytes};
 ghost use Rattle.rules.specs.Early.{keepNote, lifted};
@@ -21,10 +23,8 @@ ghost use Rattle.rules.specs.Step.{knownTo, buffered, leaderTakes, followerTake
 ghost use Rattle.rules.specs.Bytes.{left, closes};
 ghost use Rattle.entries.specs.Table.{Table};
 ghost use Rattle.notes.specs.Notes.{row};
-ghost use Rattle.places.specs.Layout.{Stands};
-ghost use Rattle.places.specs.With.{withEarly, withLate, withNotes};
+ghost use Rattle.places.specs.Layout.{Midway, Stands};
 ghost use Rattle.handler.specs.Handler.{Ready, handled};
-ghost use Rattle.stamps.specs.Midway.{Midway};
 ghost use Rattle.arrivals.specs.Taken.{noteSends, takenEarly};
 
 // ---- what stands in the tables
@@ -42,8 +42,11 @@ fn is_among(t: &[u8], c: usize, e: Entry) -> bool
 
 // Keeps group j's timestamp of e's transaction.
 fn keep_note(shape: Shape, state: &mut [u8], e: Entry, j: u64, stamp: u64)
-    requires { ⌜ Midway shape (stateOf shape (now state)) (now state) × (row (e .request) (e .coordinator) (stateOf shape (now state) .waiting .notes) < shape .c) × (j < shape .s) ⌝ }
-    ensures { λ _. ⌜ Midway shape (withNotes (stateOf shape (now (state .entry))) (keepNote shape e j stamp (stateOf shape (now (state .entry)) .waiting .notes))) (now (state .exit)) ⌝ }
+    requires { ⌜ Midway shape (stateOf shape (now state)) (now state)
+        × (row (e .request) (e .coordinator) (stateOf shape (now state) .waiting .notes) < shape .c) × (j < shape .s) ⌝ }
+    ensures { λ _. ⌜ (let st = stateOf shape (now (state .entry)) in
+        let notes = keepNote shape e j stamp (st .waiting .notes) in
+        Midway shape (withWaiting (record { early = st .waiting .early; late = st .waiting .late; notes = notes }) st) (now (state .exit))) ⌝ }
 {
     let layout = places::places_of(shape);
     let start = layout.notes;
@@ -55,8 +58,12 @@ fn keep_note(shape: Shape, state: &mut [u8], e: Entry, j: u64, stamp: u64)
 
 // Keeps a note, and lifts the early entry where it was the last that was missing.
 fn keep_and_lift(shape: Shape, state: &mut [u8], e: Entry, j: u64, stamp: u64)
-    requires { ⌜ Midway shape (stateOf shape (now state)) (now state) × (distinct (stateOf shape (now state) .waiting .early) ≡ true) × (row (e .request) (e .coordinator) (stateOf shape (now state) .waiting .notes) < shape .c) × (j < shape .s) ⌝ }
-    ensures { λ _. ⌜ now (state .exit) ≡ image shape (buffered (stateOf shape (now (state .entry))) (lifted shape (keepNote shape e j stamp (stateOf shape (now (state .entry)) .waiting .notes)) e (stateOf shape (now (state .entry)) .waiting .early)) (stateOf shape (now (state .entry)) .waiting .late) (keepNote shape e j stamp (stateOf shape (now (state .entry)) .waiting .notes))) ⌝ }
+    requires { ⌜ (let st = stateOf shape (now state) in
+        Midway shape st (now state) × (distinct (st .waiting .early) ≡ true)
+        × (row (e .request) (e .coordinator) (st .waiting .notes) < shape .c) × (j < shape .s)) ⌝ }
+    ensures { λ _. ⌜ (let st = stateOf shape (now (state .entry)) in
+        let notes = keepNote shape e j stamp (st .waiting .notes) in
+        now (state .exit) ≡ image shape (buffered st (lifted shape notes e (st .waiting .early)) (st .waiting .late) notes)) ⌝ }
 {
     keep_note(shape, state, e, j, stamp);
     stamps::lift(shape, state, e);
@@ -64,45 +71,16 @@ fn keep_and_lift(shape: Shape, state: &mut [u8], e: Entry, j: u64, stamp: u64)
 
 // ---- what is known already
 
-// Whether the transaction of e stands in the log.
-fn in_log(shape: Shape, state: &[u8], e: Entry) -> bool
-    requires { ⌜ Midway shape (stateOf shape (now state)) (now state) ⌝ }
-    ensures { λ r. ⌜ r ≡ among (stateOf shape (now (state .entry)) .logged .log) e ⌝ }
-{
-    let layout = places::places_of(shape);
-    let start = layout.log;
-    let end = layout.early;
-    is_among(&state[start..end], shape.c as usize, e)
-}
-
-// Whether it stands in the early buffer.
-fn in_early(shape: Shape, state: &[u8], e: Entry) -> bool
-    requires { ⌜ Midway shape (stateOf shape (now state)) (now state) ⌝ }
-    ensures { λ r. ⌜ r ≡ among (stateOf shape (now (state .entry)) .waiting .early) e ⌝ }
-{
-    let layout = places::places_of(shape);
-    let start = layout.early;
-    let end = layout.late;
-    is_among(&state[start..end], shape.c as usize, e)
-}
-
-// Whether it stands in the late buffer.
-fn in_late(shape: Shape, state: &[u8], e: Entry) -> bool
-    requires { ⌜ Midway shape (stateOf shape (now state)) (now state) ⌝ }
-    ensures { λ r. ⌜ r ≡ among (stateOf shape (now (state .entry)) .waiting .late) e ⌝ }
-{
-    let layout = places::places_of(shape);
-    let start = layout.late;
-    let end = layout.notes;
-    is_among(&state[start..end], shape.c as usize, e)
-}
-
-// Whether it stands in any of the three.
+// Whether the transaction of e stands in log, early or late.
 fn known(shape: Shape, state: &[u8], e: Entry) -> bool
     requires { ⌜ Midway shape (stateOf shape (now state)) (now state) ⌝ }
     ensures { λ r. ⌜ r ≡ knownTo (stateOf shape (now (state .entry))) e ⌝ }
 {
-    in_log(shape, state, e) | (in_early(shape, state, e) | in_late(shape, state, e))
+    let c = shape.c as usize;
+    let logged = is_among(places::log(shape, state), c, e);
+    let early = is_among(places::early(shape, state), c, e);
+    let late = is_among(places::late(shape, state), c, e);
+    logged | (early | late)
 }
 
 // Whether there is room for a note of e's transaction: it has one, or there are fewer than fit.
@@ -110,53 +88,30 @@ fn room_for_note(shape: Shape, state: &[u8], e: Entry) -> bool
     requires { ⌜ Midway shape (stateOf shape (now state)) (now state) ⌝ }
     ensures { λ r. ⌜ r ≡ ltb (row (e .request) (e .coordinator) (stateOf shape (now (state .entry)) .waiting .notes)) (shape .c) ⌝ }
 {
-    let layout = places::places_of(shape);
-    let start = layout.notes;
-    let end = layout.votes;
     let c = shape.c as usize;
     let s = shape.s as usize;
-    notes::find(&state[start..end], c, s, e.request, e.coordinator) < c
+    notes::find(places::notes(shape, state), c, s, e.request, e.coordinator) < c
 }
 
 // ---- taking an entry
 
-// How many entries are early.
-fn early_count(shape: Shape, state: &[u8]) -> u64
-    requires { ⌜ Midway shape (stateOf shape (now state)) (now state) ⌝ }
-    ensures { λ r. ⌜ r ≡ length (stateOf shape (now (state .entry)) .waiting .early) ⌝ }
-{
-    let layout = places::places_of(shape);
-    let start = layout.early;
-    let end = layout.late;
-    entries::count(&state[start..end]) as u64
-}
-
-// How many entries are late.
-fn late_count(shape: Shape, state: &[u8]) -> u64
-    requires { ⌜ Midway shape (stateOf shape (now state)) (now state) ⌝ }
-    ensures { λ r. ⌜ r ≡ length (stateOf shape (now (state .entry)) .waiting .late) ⌝ }
-{
-    let layout = places::places_of(shape);
-    let start = layout.late;
-    let end = layout.notes;
-    entries::count(&state[start..end]) as u64
-}
-
-// Puts e after the last early entry.
+// Puts e into early.
 fn add_early(shape: Shape, state: &mut [u8], e: Entry)
     requires { ⌜ Midway shape (stateOf shape (now state)) (now state) × (length (stateOf shape (now state) .waiting .early) < shape .c) ⌝ }
-    ensures { λ _. ⌜ Midway shape (withEarly (stateOf shape (now (state .entry))) (stateOf shape (now (state .entry)) .waiting .early ++ (e ∷ []))) (now (state .exit)) ⌝ }
+    ensures { λ _. ⌜ (let st = stateOf shape (now (state .entry)) in
+        Midway shape (withWaiting (record { early = st .waiting .early ++ (e ∷ []); late = st .waiting .late; notes = st .waiting .notes }) st) (now (state .exit))) ⌝ }
 {
     let layout = places::places_of(shape);
     let start = layout.early;
     let end = layout.late;
-    entries::append(&mut state[start..end], shape.c as usize, e);
+    early::put(&mut state[start..end], shape.c as usize, e);
 }
 
 // Puts e after the last late entry.
 fn add_late(shape: Shape, state: &mut [u8], e: Entry)
     requires { ⌜ Midway shape (stateOf shape (now state)) (now state) × (length (stateOf shape (now state) .waiting .late) < shape .c) ⌝ }
-    ensures { λ _. ⌜ Midway shape (withLate (stateOf shape (now (state .entry))) (stateOf shape (now (state .entry)) .waiting .late ++ (e ∷ []))) (now (state .exit)) ⌝ }
+    ensures { λ _. ⌜ (let st = stateOf shape (now (state .entry)) in
+        Midway shape (withWaiting (record { early = st .waiting .early; late = st .waiting .late ++ (e ∷ []); notes = st .waiting .notes }) st) (now (state .exit))) ⌝ }
 {
     let layout = places::places_of(shape);
     let start = layout.late;
@@ -167,16 +122,17 @@ fn add_late(shape: Shape, state: &mut [u8], e: Entry)
 // A follower puts e in early if it may follow the log's last, else in late.
 fn follower_takes(shape: Shape, state: &mut [u8], e: Entry, out: &mut [u8]) -> Answer
     requires { ⌜ Stands shape (stateOf shape (now state)) (now state) ⌝ }
-    ensures { λ r. ⌜ left r (now (state .exit)) (now (out .exit)) ≡ closes shape (now (state .entry)) (now (out .entry)) (followerTakes shape (stateOf shape (now (state .entry))) e) ⌝ }
+    ensures { λ r. ⌜ left r (now (state .exit)) (now (out .exit))
+        ≡ closes shape (now (state .entry)) (now (out .entry)) (followerTakes shape (stateOf shape (now (state .entry))) e) ⌝ }
 {
     if stamps::may_follow(shape, state, e) {
-        if shape.c <= early_count(shape, state) {
+        if shape.c as usize <= entries::count(places::early(shape, state)) {
             return Answer::Refused(refusal::FULL);
         }
         add_early(shape, state, e);
         return Answer::Done(0);
     }
-    if shape.c <= late_count(shape, state) {
+    if shape.c as usize <= entries::count(places::late(shape, state)) {
         return Answer::Refused(refusal::FULL);
     }
     add_late(shape, state, e);
@@ -194,17 +150,25 @@ fn notes_length(shape: Shape, state: &[u8], e: Entry) -> usize
 
 // Writes them first into the outgoing buffer, and says where the last ends.
 fn tell_notes(shape: Shape, state: &[u8], e: Entry, out: &mut [u8]) -> usize
-    requires { ⌜ Stands shape (stateOf shape (now state)) (now state) × (length (flat wireBytes (noteSends shape (stateOf shape (now state)) e)) ≤ length (now out)) ⌝ }
-    ensures { λ r. ⌜ (r ≡ length (flat wireBytes (noteSends shape (stateOf shape (now (state .entry))) e))) × (now (out .exit) ≡ splice (now (out .entry)) 0 (flat wireBytes (noteSends shape (stateOf shape (now (state .entry))) e))) ⌝ }
+    requires { ⌜ Stands shape (stateOf shape (now state)) (now state)
+        × (length (flat wireBytes (noteSends shape (stateOf shape (now state)) e)) ≤ length (now out)) ⌝ }
+    ensures { λ r. ⌜ (let bytes = flat wireBytes (noteSends shape (stateOf shape (now (state .entry))) e) in
+        (r ≡ length bytes) × (now (out .exit) ≡ splice (now (out .entry)) 0 bytes)) ⌝ }
 {
     let mut bytes = [0u8; 24];
     entries::put_entry(&mut bytes, 0, e);
-    handler::tell_leaders(shape, state, out, kind::TIMESTAMP_NOTE, 0, e.mask, &bytes)
+    let asking = Asking {
+        kind: kind::TIMESTAMP_NOTE,
+        number: 0,
+    };
+    handler::tell_leaders(shape, state, out, asking, e.mask, &bytes)
 }
 
 // Puts e in early with the own group's note of it.
 fn take_early(shape: Shape, state: &mut [u8], e: Entry)
-    requires { ⌜ Stands shape (stateOf shape (now state)) (now state) × (among (stateOf shape (now state) .waiting .early) e ≡ false) × (length (stateOf shape (now state) .waiting .early) < shape .c) × (row (e .request) (e .coordinator) (stateOf shape (now state) .waiting .notes) < shape .c) ⌝ }
+    requires { ⌜ (let st = stateOf shape (now state) in
+        Stands shape st (now state) × (among (st .waiting .early) e ≡ false) × (length (st .waiting .early) < shape .c)
+        × (row (e .request) (e .coordinator) (st .waiting .notes) < shape .c)) ⌝ }
     ensures { λ _. ⌜ now (state .exit) ≡ image shape (takenEarly shape (stateOf shape (now (state .entry))) e) ⌝ }
 {
     let own = places::get_group(state);
@@ -215,9 +179,10 @@ fn take_early(shape: Shape, state: &mut [u8], e: Entry)
 // A leader puts e in early, keeps its own note, and tells the other masked groups' leaders.
 fn leader_takes(shape: Shape, state: &mut [u8], e: Entry, out: &mut [u8]) -> Answer
     requires { ⌜ Stands shape (stateOf shape (now state)) (now state) × (among (stateOf shape (now state) .waiting .early) e ≡ false) ⌝ }
-    ensures { λ r. ⌜ left r (now (state .exit)) (now (out .exit)) ≡ closes shape (now (state .entry)) (now (out .entry)) (leaderTakes shape (stateOf shape (now (state .entry))) e) ⌝ }
+    ensures { λ r. ⌜ left r (now (state .exit)) (now (out .exit))
+        ≡ closes shape (now (state .entry)) (now (out .entry)) (leaderTakes shape (stateOf shape (now (state .entry))) e) ⌝ }
 {
-    if shape.c <= early_count(shape, state) {
+    if shape.c as usize <= entries::count(places::early(shape, state)) {
         return Answer::Refused(refusal::FULL);
     }
     if !room_for_note(shape, state, e) {
@@ -236,14 +201,15 @@ fn leader_takes(shape: Shape, state: &mut [u8], e: Entry, out: &mut [u8]) -> Ans
 // Kind 3: the timestamp that another group's leader gave a transaction is kept, unless the log has the transaction or that group's was heard.
 pub fn on_note(shape: Shape, state: &mut [u8], m: Message, message: &[u8], out: &mut [u8]) -> Answer
     requires { ⌜ Ready shape (now state) m (now message) ⌝ }
-    ensures { λ r. ⌜ left r (now (state .exit)) (now (out .exit)) ≡ handled 3 onNote shape m (now (state .entry)) (now (message .entry)) (now (out .entry)) ⌝ }
+    ensures { λ r. ⌜ left r (now (state .exit)) (now (out .exit))
+        ≡ handled 3 onNote shape m (now (state .entry)) (now (message .entry)) (now (out .entry)) ⌝ }
 {
     let Message::Note(h) = m else {
         return Answer::Refused(refusal::MALFORMED);
     };
     let from = h.from_group as u64;
     let e = handler::first_entry(shape, state, m, message, kind::TIMESTAMP_NOTE);
-    if in_log(shape, state, e) {
+    if is_among(places::log(shape, state), shape.c as usize, e) {
         return Answer::Refused(refusal::NOTHING_TO_DO);
     }
     if stamps::is_noted(shape, state, e, from) {
@@ -265,7 +231,8 @@ pub fn on_transaction(
     out: &mut [u8],
 ) -> Answer
     requires { ⌜ Ready shape (now state) m (now message) ⌝ }
-    ensures { λ r. ⌜ left r (now (state .exit)) (now (out .exit)) ≡ handled 1 onTransaction shape m (now (state .entry)) (now (message .entry)) (now (out .entry)) ⌝ }
+    ensures { λ r. ⌜ left r (now (state .exit)) (now (out .exit))
+        ≡ handled 1 onTransaction shape m (now (state .entry)) (now (message .entry)) (now (out .entry)) ⌝ }
 {
     let Message::Transaction(_, send_time, bound) = m else {
         return Answer::Refused(refusal::MALFORMED);

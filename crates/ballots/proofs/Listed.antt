@@ -20,7 +20,7 @@ use Rattle.rules.specs.declared.Shape.{Shape}
 use Rattle.entries.specs.Table.{Holds}
 use Rattle.entries.proofs.Table.{decoded}
 use Rattle.places.specs.Layout.{startOf, PlaceAt}
-use Rattle.places.proofs.Sections.{stands-fits, stands-laid}
+use Rattle.places.proofs.Sections.{stands-fits, stands-laid, stands-midway}
 use Rattle.places.proofs.Lent.{log-lent, vote-lent}
 use Rattle.ballots.specs.Ballots.{sentLog, votesIn, voteOf, Given, Lists}
 use Rattle.ballots.specs.declared.Cast.{Cast}
@@ -92,4 +92,4 @@ module _ (sh : Shape) (b msg : List ℕ) (k : Cast) (g : Given sh b msg k) (r : 
     log-kept y p f i q =
         let o : getD (votesIn sh b msg k) r none ≡ getD (stateOf sh b .change .votes) r none = at-kept sh b msg k (g .sent) r d y in
         let v = is-some (getD (stateOf sh b .change .votes) r none) (rw o at s) in
-        rw (o ∙ v .1) (lists-table (vote-lent (g .sent .stands) r (v .0) a (e - a) h (v .1) (omega (arith, f .at)) (omega arith)))
+        rw (o ∙ v .1) (lists-table (vote-lent (stands-midway (g .sent .stands)) r (v .0) a (e - a) h (v .1) (omega (arith, f .at)) (omega arith)))

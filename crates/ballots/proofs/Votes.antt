@@ -17,7 +17,7 @@ use Rattle.rules.specs.Step.{ownVote}
 use Rattle.rules.specs.declared.Shape.{Shape}
 use Rattle.rules.proofs.Choice.{by-cases, pick-true, pick-false}
 use Rattle.places.specs.Layout.{startOf}
-use Rattle.places.proofs.Sections.{stands-fits}
+use Rattle.places.proofs.Sections.{stands-fits, stands-midway}
 use Rattle.places.proofs.Head.{replica-of, normal-of, sync-of}
 use Rattle.places.proofs.Kept.{vote-at, vote-normal, vote-sync}
 use Rattle.ballots.specs.Ballots.{ballots, sentLog, votesIn, voteOf, Sent, Tells}
@@ -99,14 +99,14 @@ module _ (sh : Shape) (b msg : List ℕ) (k : Cast) (g : Sent sh b k) where
 
   pub tells-own : (r own normal sync : ℕ) → r < sh .n → (r ≡ k .sender → ⊥) → k .entering ≡ true → own ≡ num b 1 1 → normal ≡ num b 12 4 → sync ≡ num b 24 8 → Tells (getD (votesIn sh b msg k) r none) (record { held = eqb r own; normal = normal; sync = sync })
   tells-own r own normal sync h d e p q s =
-      rw (at-own r h d e, p ∙ replica-of (g .stands), q ∙ normal-of (g .stands), s ∙ sync-of (g .stands)) (own-tells (ownVote st) (eqb r (st .site .replica)))
+      rw (at-own r h d e, p ∙ replica-of (stands-midway (g .stands)), q ∙ normal-of (stands-midway (g .stands)), s ∙ sync-of (stands-midway (g .stands))) (own-tells (ownVote st) (eqb r (st .site .replica)))
 
   pub tells-kept : (r : ℕ) (held : Bool) (normal sync : ℕ) → r < sh .n → (r ≡ k .sender → ⊥) → k .entering ≡ false → held ≡ isSome (voteAt (sh .c) b (startOf sh atVotes + voteLength (sh .c) * r)) → normal ≡ num b (startOf sh atVotes + voteLength (sh .c) * r + 1) 4 → sync ≡ num b (startOf sh atVotes + voteLength (sh .c) * r + 5) 8 → Tells (getD (votesIn sh b msg k) r none) (record { held = held; normal = normal; sync = sync })
   unfolding voteOf
   tells-kept r held normal sync h d e p q s =
       rw (at-kept r d e)
       (record {
-        held = p ∙ ap isSome (vote-at (g .stands) r h);
-        normal = λ t. let v = is-some (getD (st .change .votes) r none) t in q ∙ vote-normal (g .stands) r (v .0) h (v .1) ∙ ap (λ (x : Option Vote). voteOf x .normal) (sym (v .1));
-        sync = λ t. let v = is-some (getD (st .change .votes) r none) t in s ∙ vote-sync (g .stands) r (v .0) h (v .1) ∙ ap (λ (x : Option Vote). voteOf x .sync) (sym (v .1));
+        held = p ∙ ap isSome (vote-at (stands-midway (g .stands)) r h);
+        normal = λ t. let v = is-some (getD (st .change .votes) r none) t in q ∙ vote-normal (stands-midway (g .stands)) r (v .0) h (v .1) ∙ ap (λ (x : Option Vote). voteOf x .normal) (sym (v .1));
+        sync = λ t. let v = is-some (getD (st .change .votes) r none) t in s ∙ vote-sync (stands-midway (g .stands)) r (v .0) h (v .1) ∙ ap (λ (x : Option Vote). voteOf x .sync) (sym (v .1));
       })

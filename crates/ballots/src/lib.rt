@@ -11,8 +11,10 @@ ghost use Rattle.rules.specs.Choice.{pick, isSome};
 ghost use Rattle.rules.specs.Rebuild.{topFrom};
 ghost use Rattle.ballots.specs.Ballots.{votesIn, voteOf, countsAt, Sent, Given, Tells, Lists, BestTo};
 
-// The vote that a message brings: its sender, last normal gView and sync point, where the count of its entries stands, and whether it enters a greater view.
+// The vote that a message brings: its gView, its sender, last normal gView and sync point, where the count of its entries stands, and whether it enters a
+// greater view.
 pub struct Cast {
+    pub view: u32,
     pub sender: u64,
     pub normal: u64,
     pub sync: u64,

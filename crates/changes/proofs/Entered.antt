@@ -17,8 +17,8 @@ use Rattle.rules.specs.State.{State}
 use Rattle.rules.specs.Image.{voteLength, voteBytes, image, atEarly, atVotes}
 use Rattle.rules.specs.Step.{entered}
 use Rattle.rules.specs.declared.Shape.{Shape}
-use Rattle.places.specs.Layout.{startOf, ownBytes, Laid, Stands}
-use Rattle.places.proofs.Sections.{stands-fits, stands-laid}
+use Rattle.places.specs.Layout.{startOf, ownBytes, Stands}
+use Rattle.places.proofs.Sections.{Laid, laid-as, stands-fits, stands-laid, stands-midway}
 use Rattle.places.proofs.Head.{get-head, put-status, put-boundary, group-of, replica-of}
 use Rattle.places.proofs.Rows.{Even}
 use Rattle.places.proofs.Kept.{put-own-vote}
@@ -26,15 +26,15 @@ use Rattle.handler.proofs.Own.{group-below, replica-below}
 use Rattle.handler.proofs.Sends.{Sender}
 use Rattle.views.specs.Views.{viewsOf, tablesLength, takenIn}
 use Rattle.views.proofs.Emptied.{empty-laid}
-use Rattle.views.proofs.Taken.{laid-as, views-long, views-fit, view-taken}
+use Rattle.views.proofs.Taken.{views-long, views-fit, view-taken}
 use Rattle.changes.specs.Changes.{leadsWith, enteredBy}
 
 -- by the views of a message the own replica leads or not
 pub leads-with : {sh : Shape} {st : State} {b : List ℕ} (s : Stands sh st b) (msg : List ℕ) (own view replica : ℕ) (r : Bool) → own ≡ num b 0 1 → view ≡ num msg (16 + 4 * own) 4 → replica ≡ num b 1 1 → r ≡ eqb replica (view % sh .n) → r ≡ leadsWith sh st (viewsOf sh msg)
 leads-with {sh} {st} s msg own view replica r e v q h =
-    let g : own ≡ st .site .group = e ∙ group-of s in
+    let g : own ≡ st .site .group = e ∙ group-of (stands-midway s) in
     let x : getD (viewsOf sh msg) (st .site .group) 0 ≡ num msg (16 + 4 * st .site .group) 4 = getD-items (λ a. num msg a 4) 4 16 (sh .s) (st .site .group) 0 (group-below s) in
-    h ∙ rw (q ∙ replica-of s, v, g, x)
+    h ∙ rw (q ∙ replica-of (stands-midway s), v, g, x)
 
 even-none : (c n : ℕ) → Even (voteBytes c) (voteLength c) (replicate n none)
 unfolding voteBytes

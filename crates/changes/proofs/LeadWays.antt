@@ -10,14 +10,15 @@ use Rattle.octets.proofs.Laws.{Bytes}
 use Rattle.rules.specs.Wire.{Wire, wireBytes}
 use Rattle.rules.specs.Read.{lengthFor, entryAt}
 use Rattle.rules.specs.State.{State}
-use Rattle.rules.specs.Image.{tableAt, image, atLog}
+use Rattle.rules.specs.Image.{tableAt, image, stateOf}
 use Rattle.rules.specs.Step.{sendFollowers, started}
 use Rattle.rules.specs.Bytes.{Left, leaves, closes}
 use Rattle.rules.specs.declared.Entry.{Entry}
 use Rattle.rules.specs.declared.Shape.{Shape}
 use Rattle.rules.proofs.Tables.{TableFits}
 use Rattle.entries.specs.Table.{Table}
-use Rattle.places.specs.Layout.{startOf, Laid, Stands}
+use Rattle.places.specs.Layout.{Stands}
+use Rattle.places.proofs.Sections.{Laid}
 use Rattle.places.proofs.Lent.{holds-fits}
 use Rattle.handler.specs.Sending.{messageBytes}
 use Rattle.handler.proofs.Own.{replica-below}
@@ -52,7 +53,7 @@ module _ {sh : Shape} {st : State} {b : List ℕ} (s : Stands sh st b) (view : �
   next-sender = begun-sender s view msg bs h log v
 
   long : length (wireBytes sent-log) ≡ lengthFor (sh .s) 9 number
-  long = start-long (next-laid (image sh next) refl) table next-sender ∙ ap (lengthFor (sh .s) 9) (sym number-is)
+  long = start-long (next-laid (image sh next) refl) table (s .fits) next-sender ∙ ap (lengthFor (sh .s) 9) (sym number-is)
 
   pub lead-short : (need : ℕ) → need ≡ lengthFor (sh .s) 9 number → length out < need → leaves 9 b out ≡ closes sh b out (ledBy sh st view (viewsOf sh msg) log)
   lead-short need e k =
@@ -64,15 +65,15 @@ module _ {sh : Shape} {st : State} {b : List ℕ} (s : Stands sh st b) (view : �
     begun-is = w ∙ ap (λ (es : List Entry). image sh (started sh st view (viewsOf sh msg) es)) (table-row (sh .c) draft number t n)
 
     -- the log may be told
-    pub lead-tells : (num b′ 1 1 < sh .n) × (num b′ (startOf sh atLog) 4 ≤ sh .c) × (24 + 4 * sh .s + 24 * num b′ (startOf sh atLog) 4 ≤ length out)
+    pub lead-tells : (num b′ 1 1 < sh .n) × (24 + 4 * sh .s + 24 * length (stateOf sh b′ .logged .log) ≤ length out)
     lead-tells =
-        let x : num b′ (startOf sh atLog) 4 ≡ length log = log-counted (next-laid b′ begun-is) table in
+        let x : length (stateOf sh b′ .logged .log) ≡ length log = log-counted (next-laid b′ begun-is) table (s .fits) in
         let g : num b′ 1 1 ≡ st .site .replica = own-replica (next-laid b′ begun-is) next-sender in
         let y : need ≡ 24 + 4 * sh .s + 24 * number = e ∙ start-room (sh .s) number in
-        (omega (arith, replica-below s), omega (arith, table .room), omega (arith, number-is))
+        (omega (arith, replica-below s), omega (arith, number-is))
 
     pub lead-sent : (sent : ℕ) (out′ : List ℕ) → sent ≡ length (messageBytes sh b′ (startIn sh b′) (logIn sh b′)) → out′ ≡ splice out 0 (messageBytes sh b′ (startIn sh b′) (logIn sh b′)) → _≡_ {A = Left} (record { refused = false; number = 0; sent = sent; state = b′; out = out′ }) (closes sh b out (ledBy sh st view (viewsOf sh msg) log))
     lead-sent sent out′ q o =
-        let x = start-sent (next-laid b′ begun-is) table next-sender in
+        let x = start-sent (next-laid b′ begun-is) table (s .fits) next-sender in
         let g : length (wireBytes sent-log) ≤ length out = rw (long, ← e) k in
         sym (closes-one sh b out next sent-log g ∙ rw (q, o, x, begun-is))

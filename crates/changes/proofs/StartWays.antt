@@ -14,8 +14,8 @@ use Rattle.rules.specs.Kind.{bare, known, rowOf}
 use Rattle.rules.specs.Read.{wireIn, entriesAt, lengthFor, entryAt}
 use Rattle.rules.specs.State.{State}
 use Rattle.rules.specs.Image.{image, stateOf}
-use Rattle.rules.specs.Step.{Outcome, refused, done, started, onStartView}
-use Rattle.rules.specs.Bytes.{leaves, closes}
+use Rattle.rules.specs.Step.{refused, done, started, onStartView}
+use Rattle.rules.specs.Bytes.{leaves}
 use Rattle.rules.specs.declared.Entry.{Entry}
 use Rattle.rules.specs.declared.Header.{Header}
 use Rattle.rules.specs.declared.Shape.{Shape}
@@ -24,7 +24,8 @@ use Rattle.rules.specs.declared.Message.the-variants.{StartView}
 use Rattle.rules.proofs.Choice.{pick-true, pick-false}
 use Rattle.handler.specs.Handler.{Ready, handled}
 use Rattle.handler.proofs.Told.{Told, told-length, told-entries, told-count, ready-told}
-use Rattle.handler.proofs.Closes.{quiet, closes-refused, closes-quiet, handled-own}
+use Rattle.handler.proofs.Closes.{quiet}
+use Rattle.handler.proofs.Ways.{refuses, keeps}
 use Rattle.views.specs.Views.{viewsOf}
 use Rattle.changes.proofs.Said.{view-said, views-said, views-stand}
 
@@ -67,9 +68,6 @@ module _ (sh : Shape) (b msg out : List ℕ) (m : Message) (h : Header) (r : Rea
   pub start-views : 16 + 4 * sh .s ≤ length msg
   start-views = views-stand sh b msg m r kind-known kind-views
 
-  by-rule : (o : Outcome) → onStartView sh st w ≡ o → handled 9 onStartView sh m b msg out ≡ closes sh b out o
-  by-rule o q = handled-own 9 onStartView sh m b msg out kind-is ∙ ap (closes sh b out) q
-
   module _ (at : ℕ) (a : at ≡ entriesAt (sh .s) 9) where
     whole : length msg ≡ at + 4 + 24 * num msg at 4
     whole = told-length (sh .n) (sh .s) m msg told-so ∙ ap (λ (j : ℕ). lengthFor (sh .s) j (num msg (entriesAt (sh .s) j) 4)) kind-is ∙ ap (λ (x : ℕ). x + 4 + 24 * num msg x 4) (sym a)
@@ -94,12 +92,11 @@ module _ (sh : Shape) (b msg out : List ℕ) (m : Message) (h : Header) (r : Rea
       start-stands = omega (arith, whole)
 
       pub start-past : sh .c < number → leaves 8 b out ≡ handled 9 onStartView sh m b msg out
-      start-past k = sym (by-rule (refused 8) (many sh st w (omega (arith, entries-long))) ∙ closes-refused sh b out 8)
+      start-past k = refuses 9 onStartView sh b msg out m kind-is 8 (many sh st w (omega (arith, entries-long)))
 
       pub start-done : (b′ : List ℕ) → number ≤ sh .c → b′ ≡ image sh (started sh st (h .view) (viewsOf sh msg) (items (entryAt msg) 24 (at + 4) number)) → quiet b′ out ≡ handled 9 onStartView sh m b msg out
       start-done b′ k i =
           let es = items (entryAt msg) 24 (at + 4) number in
           let v : w .view ≡ h .view = view-said sh b msg m r kind-known ∙ ap (λ (x : Message). headerIn x .view) e in
           let f : length es ≤ sh .c = omega (arith, entries-long, ap length entries-are) in
-          let s = started sh st (h .view) (viewsOf sh msg) es in
-          sym (by-rule (done s []) (few sh st w (h .view) (viewsOf sh msg) es v (views-said sh b msg m r kind-known kind-views) entries-are f) ∙ closes-quiet sh b out s ∙ ap (λ (x : List ℕ). quiet x out) (sym i))
+          keeps 9 onStartView sh b msg out m kind-is _ b′ (few sh st w (h .view) (viewsOf sh msg) es v (views-said sh b msg m r kind-known kind-views) entries-are f) i

@@ -3,7 +3,7 @@ use Prim.Native.Nat.{ℕ, _+_, _*_}
 use mathlib.Core.Bool.{Bool}
 use mathlib.Core.Option.{Option, none, some}
 use mathlib.Core.List.{List, [], _∷_}
-use lib.ListN.{set, replicate}
+use lib.ListN.{length, set, replicate}
 use lib.Dec.{eqb}
 use Rattle.octets.specs.Bytes.{num, part}
 use Rattle.rules.specs.Choice.{pick}
@@ -16,7 +16,7 @@ use Rattle.rules.specs.declared.Message.{Message}
 use Rattle.rules.specs.declared.Message.the-variants as cases
 use Rattle.places.specs.Layout.{startOf}
 use Rattle.handler.specs.Sending.{headedIn, leaderIn}
-use Rattle.rules.specs.Image.{atLog}
+use Rattle.rules.specs.Image.{stateOf, atLog}
 
 -- ---- states
 
@@ -43,7 +43,7 @@ ledBy sh st view gVec draft = done (started sh st view gVec draft) (sendFollower
 
 -- the entries of the log, as they stand
 abbrev pub logIn : Shape → List ℕ → List ℕ
-logIn sh b = part b (startOf sh atLog + 4) (24 * num b (startOf sh atLog) 4)
+logIn sh b = part b (startOf sh atLog + 4) (24 * length (stateOf sh b .logged .log))
 
 -- ---- what is sent
 

@@ -10,11 +10,11 @@ ghost use Prim.Native.Nat.{_+_, _*_, _≤_, _<_};
 ghost use lib.ListN.{length};
 ghost use Rattle.octets.specs.Bytes.{num, splice};
 ghost use Rattle.rules.specs.Wire.{numbersOf};
-ghost use Rattle.rules.specs.Image.{tableAt, image, stateOf, atLog};
+ghost use Rattle.rules.specs.Image.{tableAt, image, stateOf};
 ghost use Rattle.rules.specs.Step.{onChangeView, onStartView};
 ghost use Rattle.rules.specs.Bytes.{left, closes};
 ghost use Rattle.entries.specs.Table.{Table};
-ghost use Rattle.places.specs.Layout.{startOf, Sized, Stands};
+ghost use Rattle.places.specs.Layout.{Sized, Stands};
 ghost use Rattle.handler.specs.Handler.{Ready, handled};
 ghost use Rattle.handler.specs.Sending.{messageBytes};
 ghost use Rattle.views.specs.Views.{viewsOf};
@@ -25,14 +25,15 @@ ghost use Rattle.changes.specs.Changes.{leadsWith, enteredBy, ledBy, log
 // Enters the view: status 2, no boundary, empty tables; a leader keeps its own vote.
 pub fn enter(shape: Shape, state: &mut [u8], view: u32, leads: bool, message: &[u8])
     requires { ⌜ Stands shape (stateOf shape (now state)) (now state) × (16 + 4 * shape .s ≤ length (now message)) ⌝ }
-    ensures { λ _. ⌜ now (state .exit) ≡ image shape (enteredBy shape (stateOf shape (now (state .entry))) view (viewsOf shape (now (message .entry))) leads) ⌝ }
+    ensures { λ _. ⌜ now (state .exit)
+        ≡ image shape (enteredBy shape (stateOf shape (now (state .entry))) view (viewsOf shape (now (message .entry))) leads) ⌝ }
 {
     views::take_view(shape, state, view, message);
     places::put_status(state, status::VIEW_CHANGE);
     places::put_boundary(state, 0);
     views::empty_tables(shape, state);
     if leads {
-        keeping::keep_own_vote(shape, state);
+        views::keep_own_vote(shape, state);
     }
 }
 
@@ -48,29 +49,26 @@ pub fn leads_by(shape: Shape, state: &[u8], message: &[u8]) -> bool
 
 // ---- what is sent
 
-// How many entries the log has.
-fn log_count(shape: Shape, state: &[u8]) -> usize
-    requires { ⌜ Sized shape (now state) ⌝ }
-    ensures { λ r. ⌜ r ≡ num (now (state .entry)) (startOf shape atLog) 4 ⌝ }
-{
-    let place = places::places_of(shape).log;
-    octets::get32(state, place) as usize
-}
-
 // Writes a message with the log, lent as it stands, first into the outgoing buffer, and says where it ends.
 fn tell_log(shape: Shape, state: &[u8], out: &mut [u8], m: Message) -> usize
-    requires { ⌜ Sized shape (now state) × (num (now state) (startOf shape atLog) 4 ≤ shape .c) × (24 + 4 * shape .s + 8 * length (numbersOf m) + 24 * num (now state) (startOf shape atLog) 4 ≤ length (now out)) ⌝ }
-    ensures { λ r. ⌜ (r ≡ length (messageBytes shape (now (state .entry)) m (logIn shape (now (state .entry))))) × (now (out .exit) ≡ splice (now (out .entry)) 0 (messageBytes shape (now (state .entry)) m (logIn shape (now (state .entry))))) ⌝ }
+    requires { ⌜ Sized shape (now state)
+        × (24 + 4 * shape .s + 8 * length (numbersOf m) + 24 * length (stateOf shape (now state) .logged .log) ≤ length (now out)) ⌝ }
+    ensures { λ r. ⌜ (let b = now (state .entry) in
+        let bytes = messageBytes shape b m (logIn shape b) in
+        (r ≡ length bytes) × (now (out .exit) ≡ splice (now (out .entry)) 0 bytes)) ⌝ }
 {
-    let start = places::places_of(shape).log + 4;
-    let end = start + 24 * log_count(shape, state);
+    let start = places::log_place(shape, 0);
+    let end = start + 24 * places::log_length(shape, state);
     handler::tell(shape, state, out, 0, m, &state[start..end])
 }
 
 // Kind 8 to the leader of the own group: last normal gView, sync point and log.
 fn tell_vote(shape: Shape, state: &[u8], out: &mut [u8]) -> usize
-    requires { ⌜ Sized shape (now state) × (num (now state) 0 1 < shape .s) × (num (now state) (startOf shape atLog) 4 ≤ shape .c) × (40 + 4 * shape .s + 24 * num (now state) (startOf shape atLog) 4 ≤ length (now out)) ⌝ }
-    ensures { λ r. ⌜ (r ≡ length (messageBytes shape (now (state .entry)) (voteIn shape (now (state .entry))) (logIn shape (now (state .entry))))) × (now (out .exit) ≡ splice (now (out .entry)) 0 (messageBytes shape (now (state .entry)) (voteIn shape (now (state .entry))) (logIn shape (now (state .entry))))) ⌝ }
+    requires { ⌜ Sized shape (now state) × (num (now state) 0 1 < shape .s)
+        × (40 + 4 * shape .s + 24 * length (stateOf shape (now state) .logged .log) ≤ length (now out)) ⌝ }
+    ensures { λ r. ⌜ (let b = now (state .entry) in
+        let bytes = messageBytes shape b (voteIn shape b) (logIn shape b) in
+        (r ≡ length bytes) × (now (out .exit) ≡ splice (now (out .entry)) 0 bytes)) ⌝ }
 {
     let own = octets::get8(state, 0);
     let leader = places::view_at(shape, state, own as u64) as u64 % shape.n;
@@ -82,8 +80,11 @@ fn tell_vote(shape: Shape, state: &[u8], out: &mut [u8]) -> usize
 
 // Kind 9 to all followers: the log.
 fn tell_start(shape: Shape, state: &[u8], out: &mut [u8]) -> usize
-    requires { ⌜ Sized shape (now state) × (num (now state) 1 1 < shape .n) × (num (now state) (startOf shape atLog) 4 ≤ shape .c) × (24 + 4 * shape .s + 24 * num (now state) (startOf shape atLog) 4 ≤ length (now out)) ⌝ }
-    ensures { λ r. ⌜ (r ≡ length (messageBytes shape (now (state .entry)) (startIn shape (now (state .entry))) (logIn shape (now (state .entry))))) × (now (out .exit) ≡ splice (now (out .entry)) 0 (messageBytes shape (now (state .entry)) (startIn shape (now (state .entry))) (logIn shape (now (state .entry))))) ⌝ }
+    requires { ⌜ Sized shape (now state) × (num (now state) 1 1 < shape .n)
+        × (24 + 4 * shape .s + 24 * length (stateOf shape (now state) .logged .log) ≤ length (now out)) ⌝ }
+    ensures { λ r. ⌜ (let b = now (state .entry) in
+        let bytes = messageBytes shape b (startIn shape b) (logIn shape b) in
+        (r ≡ length bytes) × (now (out .exit) ≡ splice (now (out .entry)) 0 bytes)) ⌝ }
 {
     let own = octets::get8(state, 0);
     let mask = group::others(shape.n, places::get_replica(state));
@@ -103,7 +104,8 @@ pub fn on_change_view(
     out: &mut [u8],
 ) -> Answer
     requires { ⌜ Ready shape (now state) m (now message) ⌝ }
-    ensures { λ r. ⌜ left r (now (state .exit)) (now (out .exit)) ≡ handled 7 onChangeView shape m (now (state .entry)) (now (message .entry)) (now (out .entry)) ⌝ }
+    ensures { λ r. ⌜ left r (now (state .exit)) (now (out .exit))
+        ≡ handled 7 onChangeView shape m (now (state .entry)) (now (message .entry)) (now (out .entry)) ⌝ }
 {
     let Message::ChangeView(h) = m else {
         return Answer::Refused(refusal::MALFORMED);
@@ -113,7 +115,7 @@ pub fn on_change_view(
         enter(shape, state, view, true, message);
         return Answer::Done(0);
     }
-    let count = log_count(shape, state);
+    let count = places::log_length(shape, state);
     if out.len() < kinds::length_for(shape.s, kind::VOTE, count) {
         return Answer::Refused(refusal::NO_ROOM);
     }
@@ -133,7 +135,8 @@ pub fn on_start_view(
     out: &mut [u8],
 ) -> Answer
     requires { ⌜ Ready shape (now state) m (now message) ⌝ }
-    ensures { λ r. ⌜ left r (now (state .exit)) (now (out .exit)) ≡ handled 9 onStartView shape m (now (state .entry)) (now (message .entry)) (now (out .entry)) ⌝ }
+    ensures { λ r. ⌜ left r (now (state .exit)) (now (out .exit))
+        ≡ handled 9 onStartView shape m (now (state .entry)) (now (message .entry)) (now (out .entry)) ⌝ }
 {
     let Message::StartView(h) = m else {
         return Answer::Refused(refusal::MALFORMED);
@@ -158,7 +161,10 @@ pub fn start_leading(
     out: &mut [u8],
 ) -> Answer
     requires { ⌜ Stands shape (stateOf shape (now state)) (now state) × (16 + 4 * shape .s ≤ length (now message)) × Table (shape .c) (now draft) ⌝ }
-    ensures { λ r. ⌜ left r (now (state .exit)) (now (out .exit)) ≡ closes shape (now (state .entry)) (now (out .entry)) (ledBy shape (stateOf shape (now (state .entry))) view (viewsOf shape (now (message .entry))) (tableAt (shape .c) (now (draft .entry)) 0)) ⌝ }
+    ensures { λ r. ⌜ (let st = stateOf shape (now (state .entry)) in
+        left r (now (state .exit)) (now (out .exit))
+        ≡ closes shape (now (state .entry)) (now (out .entry))
+        (ledBy shape st view (viewsOf shape (now (message .entry))) (tableAt (shape .c) (now (draft .entry)) 0))) ⌝ }
 {
     let number = entries::count(draft);
     if out.len() < kinds::length_for(shape.s, kind::START_VIEW, number) {

@@ -26,11 +26,11 @@ fn same_numbers(a: Told, b: Told) -> bool {
 
 // Writes a message again, from its case and from the views and entries that stand in its bytes, and says whether the bytes are the same.
 fn written_again(m: Message, bytes: &[u8], length: usize) -> bool {
-    let views = octets::look32(bytes, 12);
-    if 2 < views {
+    let count = octets::look32(bytes, 12);
+    if 2 < count {
         return false;
     }
-    let upto = 16 + 4 * views as usize;
+    let upto = 16 + 4 * count as usize;
     let numbers = octets::look32(bytes, upto);
     if 3 < numbers {
         return false;
@@ -43,7 +43,10 @@ fn written_again(m: Message, bytes: &[u8], length: usize) -> bool {
         return false;
     }
     let mut out = [0u8; 128];
-    let answer = wire::write(3, 2, m, &bytes[16..upto], &bytes[from..length], &mut out);
+    let mut slots = [0u16; 80];
+    let views = &bytes[16..upto];
+    let entries = &bytes[from..length];
+    let answer = wire::write(3, 2, m, views, entries, &mut out, &mut slots);
     (number_of(answer) == 0) & check::same(&out, bytes)
 }
 

@@ -2,6 +2,11 @@
 use rules::Answer;
 use rules::Header;
 use rules::Message;
+use rules::kind::TICK;
+use rules::kind::TRANSACTION;
+
+// The answer where a sample has fewer bytes than were asked for: no number of the table.
+const NOT_WRITTEN: u8 = 0;
 
 // What a message says: the number of its case and its numbers, 0 where it has none.
 pub struct Told {
@@ -136,7 +141,7 @@ fn entries_of(kind: u8) -> usize {
 
 // The first timestamp in a message of a kind: none yet in kind 1.
 fn stamp_of(kind: u8) -> u8 {
-    if kind == 1 {
+    if kind == TRANSACTION {
         return 0;
     }
     5
@@ -145,21 +150,30 @@ fn stamp_of(kind: u8) -> u8 {
 // Writes a message with the first bytes of gVec 3, 2 and of those entries.
 fn write_with(n: u64, s: u64, kind: u8, views: usize, entries: usize, out: &mut [u8]) -> Answer {
     if 8 < views {
-        return Answer::Refused(0);
+        return Answer::Refused(NOT_WRITTEN);
     }
     if 48 < entries {
-        return Answer::Refused(0);
+        return Answer::Refused(NOT_WRITTEN);
     }
     let gvec = [3u8, 0, 0, 0, 2, 0, 0, 0];
     let block = two_entries(stamp_of(kind));
     let m = message_of(kind);
-    wire::write(n, s, m, &gvec[0..views], &block[0..entries], out)
+    let mut slots = [0u16; 80];
+    wire::write(
+        n,
+        s,
+        m,
+        &gvec[0..views],
+        &block[0..entries],
+        out,
+        &mut slots,
+    )
 }
 
 // Writes the message of a kind, with the views and entries that its kind has.
 pub fn write_in(n: u64, s: u64, kind: u8, out: &mut [u8]) -> Answer {
     let entries = entries_of(kind);
-    if (kind == 1) | (kind == 23) {
+    if (kind == TRANSACTION) | (kind == TICK) {
         return write_with(n, s, kind, 0, entries, out);
     }
     write_with(n, s, kind, 8, entries, out)
@@ -170,7 +184,8 @@ pub fn read_first(bytes: &[u8], length: usize) -> Message {
     if bytes.len() < length {
         return Message::WrongSizes;
     }
-    wire::read(3, 2, &bytes[0..length])
+    let mut slots = [0u16; 80];
+    wire::read(3, 2, &bytes[0..length], &mut slots)
 }
 
 // Whether two headers are the same.

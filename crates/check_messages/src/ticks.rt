@@ -63,7 +63,8 @@ fn written_for(n: u64, s: u64) -> u64 {
 // The reader's.
 fn read_for(n: u64, s: u64) -> u64 {
     let bytes = tick();
-    answer_of(wire::read(n, s, &bytes))
+    let mut slots = [0u16; 80];
+    answer_of(wire::read(n, s, &bytes, &mut slots))
 }
 
 // What a row asks.

@@ -9,16 +9,15 @@ use lib.Dec.{lit<, lit≤}
 use Rattle.octets.specs.Bytes.{le, num, splice}
 use Rattle.octets.proofs.Laws.{length-le}
 use Rattle.octets.proofs.Codecs.{All}
-use Rattle.rules.specs.State.{State}
+use Rattle.rules.specs.State.{State, withHeard}
 use Rattle.rules.specs.Image.{pointBytes, image, atHeard}
 use Rattle.rules.specs.Commit.{commitPoint}
 use Rattle.rules.specs.Step.{committed}
 use Rattle.rules.specs.declared.Shape.{Shape}
 use Rattle.rules.proofs.Tables.{in-row, PointFits, point}
 use Rattle.group.specs.Points.{points}
-use Rattle.places.specs.Layout.{startOf, Laid, Stands}
-use Rattle.places.specs.With.{withHeard}
-use Rattle.places.proofs.Sections.{stands-fits, stands-laid, lent}
+use Rattle.places.specs.Layout.{startOf, Stands}
+use Rattle.places.proofs.Sections.{Laid, stands-fits, stands-laid, lent}
 use Rattle.places.proofs.Head.{get-head, put-commit}
 use Rattle.places.proofs.Kept.{put-heard}
 
@@ -31,7 +30,7 @@ module _ {sh : Shape} {st : State} {b : List ℕ} (s : Stands sh st b) (from p :
   abbrev heard : List (Option ℕ)
   heard = set (st .heard) from (some p)
 
-  laid : Laid sh (withHeard st heard) b₁
+  laid : Laid sh (withHeard heard st) b₁
   laid = put-heard (stands-laid s) from (some p) h w
 
   points-heard : (at n : ℕ) → at ≡ startOf sh atHeard → n ≡ 9 * sh .n → points (sh .n) (take n (drop at b₁)) ≡ heard

@@ -3,13 +3,12 @@ use Prim.Native.Nat.{ℕ, _+_, _*_, _≤_, _<_}
 use mathlib.Core.Path.{_≡_, refl, sym, ap, _∙_}
 use mathlib.Core.Bool.{Bool, true, false, _&&_}
 use mathlib.Core.Option.{Option, none, some}
-use mathlib.Core.List.{List, [], _∷_, append-assoc}
+use mathlib.Core.List.{List, [], _∷_}
 use native.Mathlib.Omega.{arith}
 use lib.ListN.{length, getD, set}
-use lib.Dec.{eqb, leb, lit<}
+use lib.Dec.{eqb, leb}
 use borrow.Author.Tests.{lt-ltb, le-ltb}
 use Rattle.octets.specs.Bytes.{le, num, splice, flat}
-use Rattle.octets.proofs.Codecs.{back-number}
 use Rattle.rules.specs.Choice.{pick, isSome, any}
 use Rattle.rules.specs.Group.{only}
 use Rattle.rules.specs.Wire.{Wire, wireBytes, tagOf, headerIn, numbersOf}
@@ -17,23 +16,22 @@ use Rattle.rules.specs.Kind.{known, fromOutside, rowOf}
 use Rattle.rules.specs.Wire as wires
 use Rattle.rules.specs.Read.{wireIn, lengthFor}
 use Rattle.rules.specs.State.{State}
-use Rattle.rules.specs.Image.{pointAt, tableBytes, image, stateOf, atHeard, atLog}
+use Rattle.rules.specs.Image.{pointAt, image, stateOf, atHeard}
 use Rattle.rules.specs.Commit.{commitPoint}
-use Rattle.rules.specs.Step.{Outcome, refused, done, send, stale, committed, onSyncStatus}
-use Rattle.rules.specs.Bytes.{Left, leaves, closes}
+use Rattle.rules.specs.Step.{refused, done, send, stale, committed, onSyncStatus}
+use Rattle.rules.specs.Bytes.{Left, leaves}
 use Rattle.rules.specs.declared.Header.{Header}
 use Rattle.rules.specs.declared.Shape.{Shape}
 use Rattle.rules.specs.declared.Message.{Message}
 use Rattle.rules.specs.declared.Message.the-variants.{SyncStatus, Commit}
-use Rattle.places.specs.Layout.{startOf, Laid, Stands}
-use Rattle.places.proofs.Sections.{stands-fits, stands-laid, drop-all}
+use Rattle.places.specs.Layout.{startOf, Stands}
+use Rattle.places.proofs.Sections.{Laid, laid-as, stands-fits, stands-laid, stands-midway}
 use Rattle.places.proofs.Head.{put-commit}
 use Rattle.places.proofs.Kept.{put-heard, heard-at}
 use Rattle.handler.specs.Handler.{Ready, handled}
 use Rattle.handler.specs.Sending.{messageBytes, headedIn}
-use Rattle.handler.proofs.Told.{told-number, told-sender, ready-told}
-use Rattle.handler.proofs.Closes.{closes-refused, closes-one, closes-short, handled-own}
-use Rattle.handler.proofs.Sends.{Sender, sent-length, own-group, message-sent}
+use Rattle.handler.proofs.Ways.{refuses, no-room-for, sends-one, said-number, said-replica, said-sender}
+use Rattle.handler.proofs.Sends.{Sender, sender, sent-length, own-group, message-sent}
 
 -- ---- what is read
 
@@ -47,25 +45,16 @@ stale-read b a p v f e q = rw (e, q) (go (eqb (num b a 1) 0))
     go false = refl
 
 module _ {sh : Shape} {st : State} {b : List ℕ} (s : Stands sh st b) where
-  pub log-counted : (at : ℕ) → at ≡ startOf sh atLog → num b at 4 ≡ length (st .logged .log)
-  unfolding tableBytes
-  log-counted at e =
-      let t = stands-fits s .log in
-      back-number 4 b at (length (st .logged .log)) _ (omega (arith, t .room, t .counted)) (drop-all (stands-laid s) 3 at (lit< tt) e ∙ append-assoc (le 4 (length (st .logged .log))) _ _)
-
   -- ---- what is kept and sent
-
   module _ (from p c : ℕ) (l : from < sh .n) (b′ : List ℕ) where
     abbrev next : State
     next = committed st c (set (st .heard) from (some p))
 
     kept-laid : b′ ≡ image sh next → Laid sh next b′
-    kept-laid e =
-        let k = put-commit (put-heard (stands-laid s) from (some p) l refl) c refl in
-        record { bytes = e; long = k .long; size = ap length (e ∙ sym (k .bytes)) ∙ k .size }
+    kept-laid e = laid-as (put-commit (put-heard (stands-laid s) from (some p) l refl) c refl) e
 
     kept-sender : Sender sh next
-    kept-sender = let f = stands-fits s in record { group = f .group; replica = f .replica; view = f .view; places = f .gVecPlaces; gVec = f .gVec }
+    kept-sender = let f = sender (stands-fits s) in record { group = f .group; replica = f .replica; view = f .view; places = f .places; gVec = f .gVec }
 
     pub commit-sent : b′ ≡ image sh next → messageBytes sh b′ (Commit (headedIn b′ 11 (num b′ 0 1) (only from)) c) [] ≡ wireBytes (send st 11 (st .site .group) (only from) (c ∷ []) [])
     unfolding flat
@@ -105,42 +94,42 @@ module _ (sh : Shape) (b msg out : List ℕ) (m : Message) (h : Header) (p : ℕ
   abbrev heard : List (Option ℕ)
   heard = set (st .heard) from (some p)
 
-  kind-known : known (tagOf m) ≡ true
+  own : tagOf m ≡ 10
+  own = ap tagOf e
+
+  kind-known : known 10 ≡ true
   unfolding pick any
-  kind-known = ap (λ (x : Message). known (tagOf x)) e
+  kind-known = refl
 
   point-is : wires.number (wireIn (sh .s) msg) 0 ≡ p
-  point-is = told-number (sh .n) (sh .s) m msg (ready-told sh b msg m r kind-known) 0 ∙ ap (λ (x : Message). getD (numbersOf x) 0 0) e
+  point-is = said-number r 10 own kind-known 0 ∙ ap (λ (x : Message). getD (numbersOf x) 0 0) e
 
   from-is : wireIn (sh .s) msg .fromReplica ≡ from
-  from-is = ap (λ (x : Header). x .«from_replica») (ready-told sh b msg m r kind-known .header ∙ ap headerIn e)
+  from-is = said-replica r 10 own kind-known ∙ ap (λ (x : Message). headerIn x .«from_replica») e
 
   -- the sender is a replica of the group
   pub from-below : from < sh .n
   unfolding rowOf
-  from-below = rw e at (told-sender (sh .n) (sh .s) m msg (ready-told sh b msg m r kind-known) (ap (λ (x : Message). fromOutside (tagOf x)) e) .1)
-
-  by-rule : (o : Outcome) → onSyncStatus sh st (wireIn (sh .s) msg) ≡ o → handled 10 onSyncStatus sh m b msg out ≡ closes sh b out o
-  by-rule o q = handled-own 10 onSyncStatus sh m b msg out (ap tagOf e) ∙ ap (closes sh b out) q
+  from-below = rw e at (said-sender r 10 own kind-known refl .1)
 
   stale-is : (t v : Bool) → t ≡ stale p (pointAt b (startOf sh atHeard + 9 * from)) → t ≡ v → stale p (getD (st .heard) from none) ≡ v
-  stale-is t v q z = ap (stale p) (sym (heard-at (r .stands) from from-below)) ∙ sym q ∙ z
+  stale-is t v q z = ap (stale p) (sym (heard-at (stands-midway (r .stands)) from from-below)) ∙ sym q ∙ z
 
   pub not-news : (t : Bool) → t ≡ stale p (pointAt b (startOf sh atHeard + 9 * from)) → t ≡ true → leaves 7 b out ≡ handled 10 onSyncStatus sh m b msg out
-  not-news t q z = sym (by-rule (refused 7) (old sh st _ from p from-is point-is (stale-is t true q z)) ∙ closes-refused sh b out 7)
+  not-news t q z = refuses 10 onSyncStatus sh b msg out m own 7 (old sh st _ from p from-is point-is (stale-is t true q z))
 
   module _ (t : Bool) (q : t ≡ stale p (pointAt b (startOf sh atHeard + 9 * from))) (z : t ≡ false) (len : ℕ) (d : len ≡ length (st .logged .log)) where
     pub past-log : len < p → leaves 7 b out ≡ handled 10 onSyncStatus sh m b msg out
-    past-log g = sym (by-rule (refused 7) (past sh st _ from p from-is point-is (stale-is t false q z) (rw d at g)) ∙ closes-refused sh b out 7)
+    past-log g = refuses 10 onSyncStatus sh b msg out m own 7 (past sh st _ from p from-is point-is (stale-is t false q z) (rw d at g))
 
     module _ (g : p ≤ len) where
-      after : (c : ℕ) → c ≡ commitPoint (sh .n) (st .site .replica) len heard (st .logged .commit) → handled 10 onSyncStatus sh m b msg out ≡ closes sh b out (done (committed st c heard) (send st 11 (st .site .group) (only from) (c ∷ []) [] ∷ []))
-      after c y = by-rule _ (news sh st _ from p from-is point-is (stale-is t false q z) (rw d at g) c (rw d at y))
+      says : (c : ℕ) → c ≡ commitPoint (sh .n) (st .site .replica) len heard (st .logged .commit) → onSyncStatus sh st (wireIn (sh .s) msg) ≡ done (committed st c heard) (send st 11 (st .site .group) (only from) (c ∷ []) [] ∷ [])
+      says c y = news sh st _ from p from-is point-is (stale-is t false q z) (rw d at g) c (rw d at y)
 
       pub no-room : (need : ℕ) → need ≡ lengthFor (sh .s) 11 0 → length out < need → leaves 9 b out ≡ handled 10 onSyncStatus sh m b msg out
       no-room need n k =
           let c = commitPoint (sh .n) (st .site .replica) len heard (st .logged .commit) in
-          sym (after c refl ∙ closes-short sh b out (committed st c heard) _ (omega (arith, commit-long (r .stands) (only from) c)))
+          no-room-for 10 onSyncStatus sh b msg out m own _ _ (says c refl) (omega (arith, commit-long (r .stands) (only from) c))
 
       pub kept : (need c sent : ℕ) (b′ out′ : List ℕ) → need ≡ lengthFor (sh .s) 11 0 → need ≤ length out → c ≡ commitPoint (sh .n) (st .site .replica) len heard (st .logged .commit) → b′ ≡ image sh (committed st c heard)
           → sent ≡ length (messageBytes sh b′ (Commit (headedIn b′ 11 (num b′ 0 1) (only from)) c) [])
@@ -148,4 +137,4 @@ module _ (sh : Shape) (b msg out : List ℕ) (m : Message) (h : Header) (p : ℕ
           → _≡_ {A = Left} (record { refused = false; number = 0; sent = sent; state = b′; out = out′ }) (handled 10 onSyncStatus sh m b msg out)
       kept need c sent b′ out′ n k y w v o =
           let x = commit-sent (r .stands) from p c from-below b′ w in
-          sym (after c y ∙ closes-one sh b out (committed st c heard) _ (omega (arith, commit-long (r .stands) (only from) c)) ∙ rw (v ∙ ap length x, o ∙ ap (splice out 0) x, w))
+          sends-one 10 onSyncStatus sh b msg out m own _ _ (says c y) b′ out′ sent (omega (arith, commit-long (r .stands) (only from) c)) w (v ∙ ap length x) (o ∙ ap (splice out 0) x)

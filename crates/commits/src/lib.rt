@@ -30,7 +30,8 @@ pub fn on_commit(
     out: &mut [u8],
 ) -> Answer
     requires { ⌜ Ready shape (now state) m (now message) ⌝ }
-    ensures { λ r. ⌜ left r (now (state .exit)) (now (out .exit)) ≡ handled 11 onCommit shape m (now (state .entry)) (now (message .entry)) (now (out .entry)) ⌝ }
+    ensures { λ r. ⌜ left r (now (state .exit)) (now (out .exit))
+        ≡ handled 11 onCommit shape m (now (state .entry)) (now (message .entry)) (now (out .entry)) ⌝ }
 {
     let Message::Commit(_, point) = m else {
         return Answer::Refused(refusal::MALFORMED);
@@ -48,7 +49,10 @@ pub fn on_commit(
 // Kind 10, once nothing refuses it: keeps the point that a follower reports, raises the commit point by it, and gives the commit point.
 pub fn keep_status(shape: Shape, state: &mut [u8], from: u64, point: u64, len: u64) -> u64
     requires { ⌜ Stands shape (stateOf shape (now state)) (now state) × (from < shape .n) ⌝ }
-    ensures { λ r. ⌜ (r ≡ commitPoint (shape .n) (stateOf shape (now (state .entry)) .site .replica) len (set (stateOf shape (now (state .entry)) .heard) from (some point)) (stateOf shape (now (state .entry)) .logged .commit)) × (now (state .exit) ≡ image shape (committed (stateOf shape (now (state .entry))) r (set (stateOf shape (now (state .entry)) .heard) from (some point)))) ⌝ }
+    ensures { λ r. ⌜ (let st = stateOf shape (now (state .entry)) in
+        let heard = set (st .heard) from (some point) in
+        (r ≡ commitPoint (shape .n) (st .site .replica) len heard (st .logged .commit))
+        × (now (state .exit) ≡ image shape (committed st r heard))) ⌝ }
 {
     places::put_heard(shape, state, from, point);
     let layout = places::places_of(shape);
@@ -71,19 +75,12 @@ fn is_stale(shape: Shape, state: &[u8], from: u64, point: u64) -> bool
     heard & (point <= last)
 }
 
-// The length of the own log.
-fn log_length(shape: Shape, state: &[u8]) -> u64
-    requires { ⌜ Stands shape (stateOf shape (now state)) (now state) ⌝ }
-    ensures { λ r. ⌜ r ≡ length (stateOf shape (now (state .entry)) .logged .log) ⌝ }
-{
-    let place = places::places_of(shape).log;
-    octets::get32(state, place) as u64
-}
-
 // Writes the commit point as kind 11 to one replica of the own group, first into the outgoing buffer, and says where it ends.
 fn tell_commit(shape: Shape, state: &[u8], out: &mut [u8], to: u64, commit: u64) -> usize
     requires { ⌜ Sized shape (now state) × (to < 8) × (lengthFor (shape .s) 11 0 ≤ length (now out)) ⌝ }
-    ensures { λ r. ⌜ (r ≡ length (messageBytes shape (now (state .entry)) (cases.Commit (headedIn (now (state .entry)) 11 (num (now (state .entry)) 0 1) (sets.only to)) commit) [])) × (now (out .exit) ≡ splice (now (out .entry)) 0 (messageBytes shape (now (state .entry)) (cases.Commit (headedIn (now (state .entry)) 11 (num (now (state .entry)) 0 1) (sets.only to)) commit) [])) ⌝ }
+    ensures { λ r. ⌜ (let b = now (state .entry) in
+        let bytes = messageBytes shape b (cases.Commit (headedIn b 11 (num b 0 1) (sets.only to)) commit) [] in
+        (r ≡ length bytes) × (now (out .exit) ≡ splice (now (out .entry)) 0 bytes)) ⌝ }
 {
     let own = octets::get8(state, 0);
     let mask = group::only(to);
@@ -101,7 +98,8 @@ pub fn on_sync_status(
     out: &mut [u8],
 ) -> Answer
     requires { ⌜ Ready shape (now state) m (now message) ⌝ }
-    ensures { λ r. ⌜ left r (now (state .exit)) (now (out .exit)) ≡ handled 10 onSyncStatus shape m (now (state .entry)) (now (message .entry)) (now (out .entry)) ⌝ }
+    ensures { λ r. ⌜ left r (now (state .exit)) (now (out .exit))
+        ≡ handled 10 onSyncStatus shape m (now (state .entry)) (now (message .entry)) (now (out .entry)) ⌝ }
 {
     let Message::SyncStatus(h, point) = m else {
         return Answer::Refused(refusal::MALFORMED);
@@ -110,7 +108,7 @@ pub fn on_sync_status(
     if is_stale(shape, state, from, point) {
         return Answer::Refused(refusal::NOTHING_TO_DO);
     }
-    let len = log_length(shape, state);
+    let len = places::log_length(shape, state) as u64;
     if len < point {
         return Answer::Refused(refusal::NOTHING_TO_DO);
     }

@@ -1,6 +1,6 @@
 -- Products modulo M term by term, and the digest byte by byte.
-use mathlib.Core.Path.{_≡_, _∙_, ap, refl, sym}
-use mathlib.Core.List.{List, [], _∷_, _++_}
+use mathlib.Core.Path.{_≡_, _∙_, ap, sym}
+use mathlib.Core.List.{List}
 use Prim.Native.Nat.{ℕ, _+_, _*_, _%_, _^_, _<_, _≤_}
 use native.Mathlib.Nat.{add-mod, mod-add-mod, mul-add, mul-one}
 use native.Mathlib.Numerals.{add-one}

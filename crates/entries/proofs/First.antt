@@ -1,8 +1,8 @@
 -- Laws of the row of a transaction. Assumes nothing.
-use Prim.Native.Nat.{ℕ, zero, suc, _+_, _*_, _≤_, _<_}
-use mathlib.Core.Path.{_≡_, refl, sym, ap, _∙_}
-use mathlib.Core.Bool.{Bool, true, false, _||_}
-use mathlib.Core.List.{List, [], _∷_}
+use Prim.Native.Nat.{ℕ, suc, _+_, _*_, _≤_, _<_}
+use mathlib.Core.Path.{_≡_, sym, ap, _∙_}
+use mathlib.Core.Bool.{Bool, true, false}
+use mathlib.Core.List.{List}
 use native.Mathlib.Omega.{arith}
 use native.Mathlib.Decide.{decLe}
 use lib.ListN.{length, getD}
@@ -14,6 +14,8 @@ use Rattle.rules.specs.Choice.{any}
 use Rattle.rules.specs.Entry.{noEntry, entryOf, among, sameTxn}
 use Rattle.rules.specs.Read.{entryAt}
 use Rattle.rules.specs.declared.Entry.{Entry}
+use Rattle.rules.proofs.Choice.{at-all, none-any}
+pub use Rattle.rules.proofs.Choice.{at-any as any-here}
 use Rattle.repeats.specs.Repeat.{firstTo}
 use Rattle.repeats.proofs.Laws.{First, first-to, first-agree}
 use Rattle.entries.specs.First.{findRow}
@@ -21,20 +23,8 @@ use Rattle.entries.specs.First.{findRow}
 -- ---- in a list
 
 module _ {A : Type 0} (q : A → Bool) (d : A) where
-  pub any-here : (xs : List A) (i : ℕ) → i < length xs → q (getD xs i d) ≡ true → any q xs ≡ true
-  unfolding any
-  any-here [] i l h = absurd (omega arith)
-  any-here (x ∷ xs) zero l h = rw h
-  any-here (x ∷ xs) (suc i) l h = rw (any-here xs i (omega arith) h) (or-true (q x))
-    where
-      or-true : (b : Bool) → (b || true) ≡ true
-      or-true true = refl
-      or-true false = refl
-
   pub any-nowhere : (xs : List A) → ((i : ℕ) → i < length xs → q (getD xs i d) ≡ false) → any q xs ≡ false
-  unfolding any
-  any-nowhere [] h = refl
-  any-nowhere (x ∷ xs) h = rw (h 0 (omega arith), any-nowhere xs (λ i l. h (suc i) (omega arith)))
+  any-nowhere xs h = none-any q xs (at-all (λ x. q x ≡ false) d xs h)
 
   -- some element passes where the first that does is one
   pub any-first : (xs : List A) → any q xs ≡ ltb (firstTo (λ i. q (getD xs i d)) (length xs)) (length xs)
@@ -47,7 +37,7 @@ module _ {A : Type 0} (q : A → Bool) (d : A) where
       f = first-to (λ i. q (getD xs i d)) (length xs)
 
       go : Dec (suc r ≤ length xs) → any q xs ≡ ltb r (length xs)
-      go (yes l) = any-here xs r l (f .at l) ∙ sym (lt-ltb r (length xs) l)
+      go (yes l) = any-here q d xs r l (f .at l) ∙ sym (lt-ltb r (length xs) l)
       go (no n) = any-nowhere xs (λ i l. f .before i (omega arith)) ∙ sym (le-ltb r (length xs) (omega arith))
 
 -- a transaction stands in a list where its row is one of the list

@@ -7,3 +7,4 @@ pub mod Sorting
 pub mod Copies
 pub mod Sifting
 pub mod Keys
+pub mod Rows

@@ -1,12 +1,12 @@
 -- A table's bytes and its entries, and what each write leaves of them. Assumes nothing.
-use Prim.Native.Nat.{ℕ, zero, suc, _+_, _-_, _*_, _≤_, _<_, min}
+use Prim.Native.Nat.{ℕ, zero, suc, _+_, _*_, _≤_, _<_, min}
 use mathlib.Core.Path.{_≡_, refl, sym, ap, subst, _∙_}
 use mathlib.Core.Bool.{Bool}
 use mathlib.Core.List.{List, [], _∷_, _++_, append-nil}
 use native.Mathlib.Omega.{arith}
 use lib.ListN.{length, take, drop}
 use lib.Dec.{ltb}
-use Rattle.octets.specs.Bytes.{num}
+use Rattle.octets.specs.Bytes.{num, items}
 use Rattle.octets.proofs.Codecs.{All, back-number, getD-items}
 use Rattle.rules.specs.Entry.{noEntry, entryOf, among}
 use Rattle.rules.specs.Read.{entryAt}
@@ -80,6 +80,13 @@ module _ (c : ℕ) (es : List Entry) (t : List ℕ) (h : Holds c es t) where
   -- the rows of its bytes are those of its entries
   pub rows-in : (q : Entry → Bool) (n : ℕ) → n ≡ length es → firstTo (λ i. q (entryAt t (4 + 24 * i))) n ≡ firstTo (λ i. q (entryOf es i)) n
   rows-in q n e = first-agree _ _ n (λ i l. ap q (entry-in i (omega arith)))
+
+  -- all of them, by its count
+  pub rows-read : (n : ℕ) → n ≡ num t 0 4 → items (entryAt t) 24 4 n ≡ es
+  unfolding tableAt
+  rows-read n q =
+      let m : n ≡ min (num t 0 4) c = omega (arith, h .count, h .room) in
+      rw m decoded
 
   -- what a search for the transaction of e tells
   pub row-among : (e : Entry) (n r : ℕ) → n ≡ length es → r ≡ findRow (λ i. entryAt t (4 + 24 * i)) (e .request) (e .coordinator) n → ltb r n ≡ among es e

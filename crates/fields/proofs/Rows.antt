@@ -1,11 +1,11 @@
 -- Rows one after the other, and tests by places: what the code makes of them. Assumes nothing.
-use Prim.Native.Nat.{ℕ, zero, suc, _+_, _*_, _≤_, _<_}
+use Prim.Native.Nat.{ℕ, suc, _+_, _*_, _<_}
 use mathlib.Core.Path.{_≡_, refl, sym, ap, _∙_}
 use mathlib.Core.Bool.{Bool, true, false, _&&_, _||_, not}
+pub use mathlib.Core.Bool.{and-true, and-false}
 use mathlib.Core.List.{List, [], _∷_, _++_}
 use native.Mathlib.Omega.{arith}
 use lib.Dec.{eqb, leb}
-use native.Mathlib.Decide.{decLe}
 use native.Mathlib.Numerals.{add-one}
 use borrow.Author.Tests.{lt-leb, not-true, not-false}
 use Rattle.rules.specs.Choice.{pick, allOf}
@@ -14,6 +14,7 @@ use Rattle.rules.specs.Kind.{viewsIn, numbersIn}
 use Rattle.rules.specs.Read.{Fields, Row, _to_is_, bodyRows, numberRows, numbersAt, entriesAt, numberFits, entriesFit, firstWrong, andThen}
 use Rattle.rules.specs.declared.Verdict.{Verdict}
 use Rattle.rules.specs.declared.Verdict.the-variants.{Fine, Wrong}
+use Rattle.rules.proofs.Verdicts.{wrong-stays}
 use Rattle.fields.specs.Parts.{numbersWrong}
 
 pub either-is : (t a b : Bool) → ((t && a) || (not t && b)) ≡ pick t a b
@@ -21,14 +22,6 @@ unfolding pick
 either-is true true b = refl
 either-is true false b = refl
 either-is false a b = refl
-
-pub and-true : (a : Bool) → (a && true) ≡ a
-and-true true = refl
-and-true false = refl
-
-pub and-false : (a : Bool) → (a && false) ≡ false
-and-false true = refl
-and-false false = refl
 
 pub all-three : (a b c : Bool) → allOf (a ∷ b ∷ c ∷ []) ≡ (a && (b && c))
 unfolding allOf
@@ -73,20 +66,11 @@ module _ (s : ℕ) (m : Fields) where
   unfolding andThen pick
   next-fine i t e q h = rw add-one (one-more i ∙ rw (e, sym q ∙ not-false t h))
 
-  stays : (i n a u : ℕ) → verdict i ≡ Wrong a u → i ≤ n → verdict n ≡ Wrong a u
-  unfolding andThen
-  stays i zero a u e l = let q : i ≡ 0 = omega arith in rw q at e
-  stays i (suc n) a u e l = go (decLe i n) (stays i n a u e)
-    where
-      go : Dec (i ≤ n) → (i ≤ n → verdict n ≡ Wrong a u) → verdict (suc n) ≡ Wrong a u
-      go (yes x) r = one-more n ∙ rw (r x)
-      go (no x) r = let q : i ≡ suc n = omega arith in rw q at e
-
   pub next-wrong : (i n a : ℕ) (t : Bool) → verdict i ≡ Fine → t ≡ numberFits m i → not t ≡ true → i < n → a ≡ from → Wrong (a + 8 * i) (a + 8 * i + 8) ≡ verdict n
   unfolding andThen pick
   next-wrong i n a t e q h l f =
       let w : verdict (suc i) ≡ Wrong (from + 8 * i) (from + 8 * i + 8) = one-more i ∙ rw (e, sym q ∙ not-true t h) in
-      rw f (sym (stays (suc i) n (from + 8 * i) (from + 8 * i + 8) w (omega arith)))
+      rw f (sym (wrong-stays verdict (λ j. pick (numberFits m j) Fine (Wrong (from + 8 * j) (from + 8 * j + 8))) one-more (suc i) n (from + 8 * i) (from + 8 * i + 8) w (omega arith)))
 
   pub all-fine : (i n : ℕ) → verdict i ≡ Fine → i ≡ n → Fine ≡ verdict n
   all-fine i n e q = rw q at (sym e)

@@ -17,40 +17,8 @@ use Rattle.rules.specs.Image.{tableLength, noteLength, voteLength, replyLength,
 use Rattle.rules.specs.declared.Entry.{Entry}
 use Rattle.rules.proofs.Tests.{same-self}
 use Rattle.rules.proofs.Tables.{table-long}
+use Rattle.places.proofs.Fields.{table-in}
 use Rattle.form.proofs.Same.{number-first, Flagged, flag-long, row-long}
-
--- ---- what is read from a part of b alone
-
-module _ (b : List ℕ) (a m : ℕ) (l : a + m ≤ length b) where
-  pub part-part : (i k : ℕ) → i + k ≤ m → part (part b a m) i k ≡ part b (a + i) k
-  part-part i k h =
-      let p : List ℕ = take a b in
-      let q : List ℕ = part b a m in
-      let r : List ℕ = drop (a + m) b in
-      let hp : length p ≡ a = length-take-le a b (omega arith) in
-      let hq : length q ≡ m = length-part b a m l in
-      let e : a + i - a ≡ i = omega arith in
-      sym (ap (λ (x : List ℕ). part x (a + i) k) (cut b a m) ∙ part-past p (q ++ r) a (a + i) k hp (omega arith) ∙ ap (λ (j : ℕ). part (q ++ r) j k) e ∙ part-front q r i k (omega arith))
-
-  num-part : (i j k : ℕ) → i + k ≤ m → j ≡ a + i → num (part b a m) i k ≡ num b j k
-  unfolding num
-  num-part i j k h e = rw (part-part i k h, e)
-
-  entry-part : (i j : ℕ) → i + 24 ≤ m → j ≡ a + i → entryAt (part b a m) i ≡ entryAt b j
-  unfolding entryAt
-  entry-part i j h e =
-      simp (
-        num-part i j 8 (omega arith) e,
-        num-part (i + 8) (j + 8) 8 (omega arith) (omega arith),
-        num-part (i + 16) (j + 16) 4 (omega arith) (omega arith),
-        num-part (i + 20) (j + 20) 2 (omega arith) (omega arith),
-        num-part (i + 22) (j + 22) 2 (omega arith) (omega arith),
-      )
-
-items-shift : {A : Type 0} (f g : ℕ → A) (k o p n : ℕ) → ((i : ℕ) → i < n → f (o + k * i) ≡ g (p + k * i)) → items f k o n ≡ items g k p n
-unfolding items
-items-shift f g k o p zero h = refl
-items-shift f g k o p (suc n) h = ap₂ (λ (xs : List _) x. xs ++ (x ∷ [])) (items-shift f g k o p n (λ i l. h i (omega arith))) (h n (omega arith))
 
 -- the form in which a part is lent
 pub part-lent : (b : List ℕ) (a m n : ℕ) → m ≡ n → take m (drop a b) ≡ part b a n
@@ -79,10 +47,7 @@ module _ (c : ℕ) (b : List ℕ) (a : ℕ) where
 
   module _ (l : a + tableLength c ≤ length b) where
     pub table-part : tableAt c (part b a (tableLength c)) 0 ≡ tableAt c b a
-    unfolding tableAt
-    table-part =
-        let e : num (part b a (tableLength c)) 0 4 ≡ num b a 4 = num-part b a (tableLength c) l 0 a 4 (omega arith) (omega arith) in
-        rw e (items-shift (entryAt (part b a (tableLength c))) (entryAt b) 24 4 (a + 4) (min (num b a 4) c) (λ i h. entry-part b a (tableLength c) l (4 + 24 * i) (a + 4 + 24 * i) (omega arith) (omega arith)))
+    table-part = table-in b a (tableLength c) l c 0 a (omega arith) (omega arith)
 
     -- lent as a slice of m bytes
     pub table-lent : (m : ℕ) (r : Bool) → m ≡ tableLength c → r ≡ same (tableBytes c (tableAt c (take m (drop a b)) 0)) (take m (drop a b)) → r ≡ same (tableBytes c (tableAt c b a)) (part b a (tableLength c))

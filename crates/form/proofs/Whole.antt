@@ -22,7 +22,8 @@ use Rattle.places.specs.Layout.{startOf, Marks}
 use Rattle.places.specs.declared.Places.{Places}
 use Rattle.form.specs.Sections.{sectionForm, tablesForm}
 use Rattle.form.proofs.Same.{and-assoc, and-comm, and-swap, and-true, pairs, same-concat, number-first, zeros-first, flag-long, row-long}
-use Rattle.form.proofs.Parts.{part-part, part-lent, point-place, table-at-long, table-part, vote-place, reply-place, note-long}
+use Rattle.places.proofs.Fields.{part-part}
+use Rattle.form.proofs.Parts.{part-lent, point-place, table-at-long, table-part, vote-place, reply-place, note-long}
 
 -- ---- the head: only its five zeros can be wrong
 

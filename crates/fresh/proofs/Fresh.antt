@@ -11,22 +11,21 @@ use Rattle.octets.specs.Sections.{concat}
 use Rattle.octets.proofs.Laws.{le-zero}
 use Rattle.octets.proofs.Sections.{splice-whole}
 use Rattle.rules.specs.Group.{shapeFits}
-use Rattle.rules.specs.State.{State, fresh}
+use Rattle.rules.specs.State.{State, inView, fresh}
 use Rattle.rules.specs.Image.{lengths, stateLength, zeroBytes, headSection, sections, image}
 use Rattle.rules.specs.Bytes.{left, startBytes}
 use Rattle.rules.specs.declared.Shape.{Shape}
 use Rattle.rules.specs.declared.Answer.the-variants.{Done, Refused}
 use Rattle.rules.proofs.Tests.{and-both, pick-true, pick-false}
-use Rattle.places.specs.Layout.{lengthFor, Laid}
-use Rattle.places.specs.With.{withStatus}
-use Rattle.places.proofs.Sections.{lay}
+use Rattle.places.specs.Layout.{lengthFor}
+use Rattle.places.proofs.Sections.{Laid, lay}
 use Rattle.places.proofs.Head.{put-group, put-replica, put-status}
 use Rattle.places.proofs.Zeros.{concat-zeros, long-zeros, flat-zeros, heard-zeros, table-zeros, notes-zeros, votes-zeros, replies-zeros}
 
 -- ---- the state whose bytes are all zero
 
 abbrev blank : Shape → State
-blank sh = withStatus (fresh sh 0 0) 0
+blank sh = inView (record { gView = 0; gVec = replicate (sh .s) 0; normal = 0; status = 0 }) (fresh sh 0 0)
 
 blank-head : (sh : Shape) → headSection (blank sh) ≡ zeroBytes 48
 unfolding headSection concat le

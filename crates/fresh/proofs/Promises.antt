@@ -2,12 +2,12 @@
 use Prim.Native.Nat.{ℕ}
 use mathlib.Core.Path.{_≡_, refl, sym, ap, _∙_}
 use mathlib.Core.List.{List, []}
-use Rattle.rules.specs.Bytes.{Left, left, startBytes}
+use Rattle.rules.specs.Bytes.{Left, left}
 use Rattle.rules.specs.declared.Answer.{Answer}
 use Rattle.rules.specs.declared.Answer.the-variants.{Done, Refused}
 use Rattle.rules.specs.declared.Shape.{Shape}
 use Rattle.rules.proofs.Answers.{left-answer}
-use Rattle.places.specs.Layout.{lengthFor}
+use Rattle.fresh.specs.Statements.{Starts, Measures}
 
 pub left-state : (x : Answer) (c o : List ℕ) → left x c o .state ≡ c
 left-state (Done sent) c o = refl
@@ -26,8 +26,8 @@ left-one x y c d o u e = (
 )
 
 -- a member is started in one way: one answer, and one memory
-pub start-one : (sh : Shape) (k r : ℕ) (b : List ℕ) (x y : Answer) (c d : List ℕ) → left x c [] ≡ startBytes sh k r b → left y d [] ≡ startBytes sh k r b → (x ≡ y) × (c ≡ d)
+pub start-one : (sh : Shape) (k r : ℕ) (b : List ℕ) (x y : Answer) (c d : List ℕ) → Starts sh k r b x c → Starts sh k r b y d → (x ≡ y) × (c ≡ d)
 start-one sh k r b x y c d e f = let z = left-one x y c d [] [] (e ∙ sym f) in (z .0, z .1)
 
-pub length-one : (sh : Shape) (x y : ℕ) → x ≡ lengthFor sh → y ≡ lengthFor sh → x ≡ y
+pub length-one : (sh : Shape) (x y : ℕ) → Measures sh x → Measures sh y → x ≡ y
 length-one sh x y p q = p ∙ sym q

@@ -3,14 +3,11 @@ use rules::Answer;
 use rules::Shape;
 use rules::refusal;
 use rules::status;
-ghost use mathlib.Core.Path.{_≡_};
-ghost use mathlib.Core.List.{[]};
-ghost use Rattle.rules.specs.Bytes.{left, startBytes};
-ghost use Rattle.places.specs.Layout.{lengthFor};
+ghost use Rattle.fresh.specs.Statements.{Starts, Measures};
 
 // How many bytes a state has, 0 for sizes that are not permitted.
 pub fn state_length(n: u64, s: u64, c: u64) -> u64
-    ensures { λ r. ⌜ r ≡ lengthFor (record { n = n; s = s; c = c }) ⌝ }
+    ensures { λ r. ⌜ Measures (record { n = n; s = s; c = c }) r ⌝ }
 {
     let shape = Shape { n, s, c };
     if !group::shape_fits(shape) {
@@ -21,7 +18,7 @@ pub fn state_length(n: u64, s: u64, c: u64) -> u64
 
 // Writes the fresh state of a replica; nothing of the old bytes is read.
 pub fn start(shape: Shape, group: u64, replica: u64, state: &mut [u8]) -> Answer
-    ensures { λ r. ⌜ left r (now (state .exit)) [] ≡ startBytes shape group replica (now (state .entry)) ⌝ }
+    ensures { λ r. ⌜ Starts shape group replica (now (state .entry)) r (now (state .exit)) ⌝ }
 {
     if !group::shape_fits(shape) {
         return Answer::Refused(refusal::WRONG_STATE);

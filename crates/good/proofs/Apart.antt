@@ -3,9 +3,9 @@ use Prim.Native.Nat.{ℕ, _+_, _*_, _≤_, _<_}
 use mathlib.Core.Path.{_≡_, refl, sym, ap, ap₂, _∙_}
 use mathlib.Core.Bool.{Bool, true, false, _&&_, _||_, not}
 use mathlib.Core.Option.{Option, none, some}
-use mathlib.Core.List.{List, [], _∷_, _++_, map}
+use mathlib.Core.List.{List, [], _∷_, _++_}
 use native.Mathlib.Omega.{arith}
-use lib.ListN.{length, getD, length-map, List·getD-map}
+use lib.ListN.{length, getD}
 use lib.Dec.{eqb, leb}
 use borrow.Author.Tests.{eq-eqb, ne-eqb, le-leb}
 use Rattle.octets.specs.Bytes.{num, part}
@@ -21,68 +21,16 @@ use Rattle.rules.specs.declared.Entry.{Entry}
 use Rattle.rules.specs.declared.Shape.{Shape}
 use Rattle.rules.proofs.Choice.{or-left, any-append}
 use Rattle.rules.proofs.Tests.{and-l, and-r, and-both, split, join, _also_, each-front, each-back, each-append}
-use Rattle.repeats.specs.Repeat.{repeatPlace, Distinct}
-use Rattle.repeats.specs.Rows.{countOf, keyOf}
-use Rattle.repeats.specs.declared.Spots.{Spots}
-use Rattle.repeats.proofs.Table.{filled-distinct}
 use Rattle.logs.specs.Place.{fits, Within}
 use Rattle.logs.proofs.Every.{when-not, unless-not}
-use Rattle.logs.proofs.Apart.{KeysOf, keys-distinct, distinct-is}
 use Rattle.notes.specs.Notes.{noNote, noteIn, notesAt, row, said, sized, Notes}
 use Rattle.notes.specs.declared.Point.{Point}
 use Rattle.notes.specs.declared.Point.the-variants.{Unheard, Heard}
 use Rattle.notes.proofs.Row.{ask-found, ask-none}
-use Rattle.lookups.specs.Rows.{noteSpots, NoteRows}
-use Rattle.lookups.proofs.Keys.{asEntry, note-keyed}
 use Rattle.places.specs.Layout.{startOf}
 use Rattle.good.specs.Known.{notedRight, entriesGood, earlyRight, notesRight, Lent}
-use Rattle.good.proofs.Fields.{fields}
+use Rattle.places.proofs.Fields.{fields}
 use Rattle.good.proofs.Tables.{and-false, truth}
-
--- ---- no two notes of one transaction
-
-not-or : (a b : Bool) → not (a || b) ≡ (not a && not b)
-not-or true b = refl
-not-or false b = refl
-
-none-among : (e : Entry) (xs : List Note) → not (among (map asEntry xs) e) ≡ every (λ y. not (eqb (e .coordinator) (y .coordinator) && eqb (e .request) (y .request))) xs
-unfolding any every
-none-among e [] = refl
-none-among e (x ∷ xs) = not-or (sameTxn e (asEntry x)) (among (map asEntry xs) e) ∙ ap (λ (t : Bool). not (sameTxn e (asEntry x)) && t) (none-among e xs)
-
-apart-is : (xs : List Note) → distinct (map asEntry xs) ≡ notesDistinct xs
-unfolding distinct notesDistinct
-apart-is [] = refl
-apart-is (x ∷ xs) = ap₂ _&&_ (none-among (asEntry x) xs) (apart-is xs)
-
-module _ (c s : ℕ) (t : List ℕ) (h : Notes c s t) where
-  abbrev kept : List Note
-  kept = notesAt c s t
-
-  abbrev noted-keys : ℕ → ℕ
-  noted-keys = keyOf t (noteSpots s (length kept))
-
-  keys : KeysOf noted-keys (map asEntry kept)
-  keys i l =
-      let p : length (map asEntry kept) ≡ length kept = length-map kept asEntry in
-      rw (List·getD-map asEntry kept i noNote) (note-keyed c s t h i (omega arith))
-
-  keys-many : countOf (noteSpots s (length kept)) ≡ length (map asEntry kept)
-  keys-many = let p : length (map asEntry kept) ≡ length kept = length-map kept asEntry in omega arith
-
-  -- no key of a note repeats an earlier one
-  pub notes-apart : (n r : ℕ) (sp : Spots) → n ≡ num t 0 4 → sp ≡ noteSpots s n → r ≡ repeatPlace (keyOf t sp) (countOf sp) → eqb r n ≡ notesDistinct kept
-  notes-apart n r sp e q f =
-      let m : n ≡ length kept = e ∙ h .count in
-      ap₂ eqb (f ∙ ap (λ (x : Spots). repeatPlace (keyOf t x) (countOf x)) (q ∙ ap (noteSpots s) m) ∙ ap (repeatPlace noted-keys) keys-many) (m ∙ sym (length-map kept asEntry))
-      ∙ distinct-is (map asEntry kept) noted-keys keys
-      ∙ apart-is kept
-
-  -- a table with the row of every note shows that
-  pub rows-apart : (table : List ℕ) → NoteRows c s t table → true ≡ notesDistinct kept
-  rows-apart table w =
-      let d : Distinct noted-keys (countOf (noteSpots s (length kept))) = filled-distinct noted-keys _ table (w .filled) in
-      sym (keys-distinct (map asEntry kept) noted-keys keys (rw keys-many at d)) ∙ apart-is kept
 
 -- ---- what the notes say of an entry
 
@@ -272,14 +220,10 @@ module _ (sh : Shape) (b : List ℕ) (z : length b ≡ stateLength sh) where
     told : notesDistinct (notesAt (sh .c) (sh .s) t) ≡ notesDistinct (stateOf sh b .waiting .notes)
     told = ap notesDistinct (notes-are t (w .is))
 
-    pub right-rows : (table : List ℕ) (r : Bool) → NoteRows (sh .c) (sh .s) t table → r ≡ earlyRight sh (stateOf sh b) → r ≡ notesRight sh (stateOf sh b)
-    unfolding notesRight
-    right-rows table r q h = let d : notesDistinct (stateOf sh b .waiting .notes) ≡ true = sym (rows-apart (sh .c) (sh .s) t (w .notes) table q ∙ told) in rw d h
-
     pub notes-twice : (a : Bool) → a ≡ notesDistinct (notesAt (sh .c) (sh .s) t) → not a ≡ true → false ≡ notesRight sh (stateOf sh b)
     unfolding notesRight
     notes-twice a e h = let d : notesDistinct (stateOf sh b .waiting .notes) ≡ false = sym (e ∙ told) ∙ when-not a h in rw d
 
-    pub right-search : (a r : Bool) → a ≡ notesDistinct (notesAt (sh .c) (sh .s) t) → not a ≡ false → r ≡ earlyRight sh (stateOf sh b) → r ≡ notesRight sh (stateOf sh b)
+    pub notes-once : (a r : Bool) → a ≡ notesDistinct (notesAt (sh .c) (sh .s) t) → not a ≡ false → r ≡ earlyRight sh (stateOf sh b) → r ≡ notesRight sh (stateOf sh b)
     unfolding notesRight
-    right-search a r e h q = let d : notesDistinct (stateOf sh b .waiting .notes) ≡ true = sym (e ∙ told) ∙ unless-not a h in rw d q
+    notes-once a r e h q = let d : notesDistinct (stateOf sh b .waiting .notes) ≡ true = sym (e ∙ told) ∙ unless-not a h in rw d q

@@ -22,7 +22,7 @@ use Rattle.rules.proofs.Tables.{PointFits, NoteFits}
 use Rattle.notes.specs.Notes.{notesAt}
 use Rattle.places.specs.Layout.{startOf}
 use Rattle.places.proofs.Rows.{within}
-use Rattle.good.proofs.Fields.{fields}
+use Rattle.places.proofs.Fields.{fields}
 
 -- what is unset passes
 passes-any : {A : Type 0} (q : A → Bool) (t : Bool) (x : A) → q x ≡ true → passes q (pick t none (some x)) ≡ true

@@ -27,7 +27,7 @@ use Rattle.form.proofs.Same.{and-assoc, and-comm, and-true, flag-long}
 use Rattle.form.proofs.Same as same-laws
 use Rattle.form.proofs.Parts.{point-place}
 use Rattle.good.specs.Known.{headFits, pointsGood}
-use Rattle.good.proofs.Fields.{fields, view-of}
+use Rattle.places.proofs.Fields.{fields, view-of}
 use Rattle.good.proofs.Tables.{row-next, count-is, table-is}
 
 -- ---- tests of a place that may be unset

@@ -1,5 +1,4 @@
 -- The laws of the check of a state.
-pub mod Fields
 mod Tables
 mod Heads
 mod Apart

@@ -27,7 +27,7 @@ use Rattle.form.specs.Sections.{sectionForm, tablesForm}
 use Rattle.form.proofs.Same.{and-assoc, and-true}
 use Rattle.form.proofs.Whole.{all-form}
 use Rattle.good.specs.Known.{headFits, pointsGood, entriesGood, earlyRight, notesRight, Lent, Formed, restGood}
-use Rattle.good.proofs.Fields.{num-in, fields}
+use Rattle.places.proofs.Fields.{num-in, fields}
 use Rattle.good.proofs.Tables.{and-false, truth}
 use Rattle.good.proofs.Apart.{notes-are}
 use Rattle.good.proofs.Counts.{table-within, notes-within, notes-fit, counts-good, places-good}

@@ -4,7 +4,7 @@ use rules::Entry;
 use rules::Shape;
 use rules::status;
 ghost use mathlib.Core.Path.{_≡_};
-ghost use mathlib.Core.Bool.{true, _&&_, _||_, not};
+ghost use mathlib.Core.Bool.{_&&_, _||_, not};
 ghost use Prim.Native.Nat.{_+_, _*_, _≤_, _<_, min};
 ghost use lib.Dec.{eqb, leb};
 ghost use lib.ListN.{length};
@@ -12,7 +12,7 @@ ghost use Rattle.octets.specs.Bytes.{num, items, flat, part};
 ghost use Rattle.rules.specs.Choice.{pick, every, passes, below, same};
 ghost use Rattle.rules.specs.Log.{lastStamp};
 ghost use Rattle.rules.specs.Log.{goodLog, distinct};
-ghost use Rattle.rules.specs.State.{viewGood, heardGood, voteGood, replyGood, keptGood, noteFits, notesDistinct};
+ghost use Rattle.rules.specs.State.{viewGood, heardGood, voteGood, replyGood, keptGood, noteFits};
 ghost use Rattle.rules.specs.State as rule;
 ghost use Rattle.rules.specs.Image.{tableLength, voteLength, replyLength, pointBytes, pointAt, tableAt, voteAt, replyAt, stateOf, goodBytes, atHeard, atReplies, atVotes};
 ghost use Rattle.logs.specs.Place.{fits};
@@ -37,12 +37,12 @@ fn count_at(b: &[u8], at: usize, c: usize) -> usize
 }
 
 // Whether the table at `at` holds a good log of group k.
-fn log_good(b: &[u8], at: usize, c: usize, s: u64, k: u64) -> bool
+fn log_good(b: &[u8], at: usize, c: usize, s: u64, k: u64, slots: &mut [u16]) -> bool
     requires { ⌜ at + tableLength c ≤ length (now b) ⌝ }
     ensures { λ r. ⌜ r ≡ goodLog s k (tableAt c (now (b .entry)) at) ⌝ }
 {
     let n = count_at(b, at, c);
-    logs::good_place(b, at + 4, n, s, k) == n
+    logs::good_place(b, at + 4, n, s, k, slots) == n
 }
 
 // Whether each entry of the table at `at` fits after the one before it: where no transaction stands twice, they are a good log of group k.
@@ -130,7 +130,9 @@ fn view_good(shape: Shape, state: &[u8]) -> bool
 // Whether every point heard has its form and, where `asked`, none is above `most`, and none is there where the own replica is no leader.
 fn heard_within(shape: Shape, state: &[u8], asked: bool, leading: bool, most: u64) -> bool
     requires { ⌜ Sized shape (now state) ⌝ }
-    ensures { λ r. ⌜ r ≡ (same (flat pointBytes (items (pointAt (now (state .entry))) 9 (startOf shape atHeard) (shape .n))) (part (now (state .entry)) (startOf shape atHeard) (9 * shape .n)) && every (passes (λ p. not asked || (leading && leb p most))) (items (pointAt (now (state .entry))) 9 (startOf shape atHeard) (shape .n))) ⌝ }
+    ensures { λ r. ⌜ (let points = items (pointAt (now (state .entry))) 9 (startOf shape atHeard) (shape .n) in
+        r ≡ (same (flat pointBytes points) (part (now (state .entry)) (startOf shape atHeard) (9 * shape .n))
+        && every (passes (λ p. not asked || (leading && leb p most))) points)) ⌝ }
 {
     let at = places::places_of(shape).heard;
     let mut formed = true;
@@ -162,9 +164,10 @@ fn heard_good(shape: Shape, state: &[u8]) -> bool
 // ---- votes and replies kept
 
 // Whether the vote of replica r, where one is kept, is one of this view.
-fn vote_good(shape: Shape, state: &[u8], r: u64) -> bool
+fn vote_good(shape: Shape, state: &[u8], r: u64, slots: &mut [u16]) -> bool
     requires { ⌜ Sized shape (now state) × (r < shape .n) ⌝ }
-    ensures { λ t. ⌜ t ≡ passes (voteGood shape (stateOf shape (now (state .entry)))) (voteAt (shape .c) (now (state .entry)) (startOf shape atVotes + voteLength (shape .c) * r)) ⌝ }
+    ensures { λ t. ⌜ t ≡ passes (voteGood shape (stateOf shape (now (state .entry))))
+        (voteAt (shape .c) (now (state .entry)) (startOf shape atVotes + voteLength (shape .c) * r)) ⌝ }
 {
     if !places::vote_flag(shape, state, r) {
         return true;
@@ -180,28 +183,31 @@ fn vote_good(shape: Shape, state: &[u8], r: u64) -> bool
         shape.c as usize,
         shape.s,
         places::get_group(state),
+        slots,
     );
     log & ((sync <= count as u64) & (normal < view))
 }
 
 // Whether every vote kept is one of this view.
-fn votes_good(shape: Shape, state: &[u8]) -> bool
+fn votes_good(shape: Shape, state: &[u8], slots: &mut [u16]) -> bool
     requires { ⌜ Sized shape (now state) ⌝ }
-    ensures { λ t. ⌜ t ≡ every (passes (voteGood shape (stateOf shape (now (state .entry))))) (items (voteAt (shape .c) (now (state .entry))) (voteLength (shape .c)) (startOf shape atVotes) (shape .n)) ⌝ }
+    ensures { λ t. ⌜ t ≡ every (passes (voteGood shape (stateOf shape (now (state .entry)))))
+        (items (voteAt (shape .c) (now (state .entry))) (voteLength (shape .c)) (startOf shape atVotes) (shape .n)) ⌝ }
 {
     let mut fine = true;
     let mut r: u64 = 0;
     while r < shape.n {
-        fine = fine & vote_good(shape, state, r);
+        fine = fine & vote_good(shape, state, r, slots);
         r += 1;
     }
     fine
 }
 
 // Whether the reply of group j, where one is kept, is one of another group to the own.
-fn reply_good(shape: Shape, state: &[u8], j: u64) -> bool
+fn reply_good(shape: Shape, state: &[u8], j: u64, slots: &mut [u16]) -> bool
     requires { ⌜ Sized shape (now state) × (j < shape .s) ⌝ }
-    ensures { λ t. ⌜ t ≡ passes (replyGood shape (stateOf shape (now (state .entry))) j) (replyAt (shape .c) (now (state .entry)) (startOf shape atReplies + replyLength (shape .c) * j)) ⌝ }
+    ensures { λ t. ⌜ t ≡ passes (replyGood shape (stateOf shape (now (state .entry))) j)
+        (replyAt (shape .c) (now (state .entry)) (startOf shape atReplies + replyLength (shape .c) * j)) ⌝ }
 {
     if !places::reply_flag(shape, state, j) {
         return true;
@@ -209,33 +215,34 @@ fn reply_good(shape: Shape, state: &[u8], j: u64) -> bool
     let at = places::reply_place(shape, j) + 1;
     let group = places::get_group(state);
     let count = count_at(state, at, shape.c as usize);
-    (j != group) & logs::good_for(state, at + 4, count, shape.s, group, j)
+    (j != group) & logs::good_for(state, at + 4, count, shape.s, group, j, slots)
 }
 
 // Whether every reply kept is one of another group to the own.
-fn replies_good(shape: Shape, state: &[u8]) -> bool
+fn replies_good(shape: Shape, state: &[u8], slots: &mut [u16]) -> bool
     requires { ⌜ Sized shape (now state) ⌝ }
-    ensures { λ t. ⌜ t ≡ every (λ j. passes (replyGood shape (stateOf shape (now (state .entry))) j) (replyAt (shape .c) (now (state .entry)) (startOf shape atReplies + replyLength (shape .c) * j))) (below (shape .s)) ⌝ }
+    ensures { λ t. ⌜ t ≡ every (λ j. passes (replyGood shape (stateOf shape (now (state .entry))) j)
+        (replyAt (shape .c) (now (state .entry)) (startOf shape atReplies + replyLength (shape .c) * j))) (below (shape .s)) ⌝ }
 {
     let mut fine = true;
     let mut j: u64 = 0;
     while j < shape.s {
-        fine = fine & reply_good(shape, state, j);
+        fine = fine & reply_good(shape, state, j, slots);
         j += 1;
     }
     fine
 }
 
 // Whether what is kept is good, and less than would have been acted upon.
-fn kept_good(shape: Shape, state: &[u8]) -> bool
+fn kept_good(shape: Shape, state: &[u8], slots: &mut [u16]) -> bool
     requires { ⌜ Sized shape (now state) ⌝ }
     ensures { λ r. ⌜ r ≡ keptGood shape (stateOf shape (now (state .entry))) ⌝ }
 {
     let status = places::get_status(state);
     let votes = places::held_votes(shape, state);
     let replies = places::held_replies(shape, state);
-    let votes_fine = votes_good(shape, state);
-    let replies_fine = replies_good(shape, state);
+    let votes_fine = votes_good(shape, state, slots);
+    let replies_fine = replies_good(shape, state, slots);
     let few_votes = (status != status::VIEW_CHANGE)
         | (votes < rules::GroupSize(shape.n).majority());
     let few_replies = (status != status::CROSS_SHARD) | (replies < shape.s - 1);
@@ -246,7 +253,7 @@ fn kept_good(shape: Shape, state: &[u8]) -> bool
 
 // Whether the log is good, early entries come after it, those of both buffers are in range and hold the own group, and no transaction
 // stands twice in the three: one pass over each, and one test for repeats.
-fn entries_good(shape: Shape, state: &[u8]) -> bool
+fn entries_good(shape: Shape, state: &[u8], slots: &mut [u16]) -> bool
     requires { ⌜ Formed shape (now state) ⌝ }
     ensures { λ r. ⌜ r ≡ entriesGood shape (stateOf shape (now (state .entry))) ⌝ }
 {
@@ -257,7 +264,7 @@ fn entries_good(shape: Shape, state: &[u8]) -> bool
     let log = rows_fit(state, layout.log, c, shape.s, group);
     let early = all_fit(state, layout.early, c, last, shape.s, group);
     let late = all_fit(state, layout.late, c, 0, shape.s, group);
-    let apart = logs::distinct3(state, layout.log, layout.early, layout.late, c);
+    let apart = logs::distinct3(state, layout.log, layout.early, layout.late, c, slots);
     log & (early & (late & apart))
 }
 
@@ -266,7 +273,8 @@ fn entries_good(shape: Shape, state: &[u8]) -> bool
 // Whether an entry that was noted at `own` stands at that timestamp or, once agreed, at the greatest of its note, which is note i.
 fn stamp_right(t: &[u8], c: usize, s: usize, e: Entry, i: usize, own: u64) -> bool
     requires { ⌜ Notes c s (now t) × (i < length (notesAt c s (now t))) × (i ≡ row (e .request) (e .coordinator) (notesAt c s (now t))) ⌝ }
-    ensures { λ r. ⌜ r ≡ eqb (e .stamp) (pick (rule.agreed (sized c s) (notesAt c s (now (t .entry))) e) (rule.greatest (sized c s) (notesAt c s (now (t .entry))) e) own) ⌝ }
+    ensures { λ r. ⌜ (let xs = notesAt c s (now (t .entry)) in
+        r ≡ eqb (e .stamp) (pick (rule.agreed (sized c s) xs e) (rule.greatest (sized c s) xs e) own)) ⌝ }
 {
     if notes::agreed_at(t, c, s, i, e.mask) {
         return e.stamp == notes::greatest_at(t, c, s, i, e.mask);
@@ -288,26 +296,17 @@ fn noted_right(t: &[u8], c: usize, s: usize, e: Entry, i: usize, k: usize) -> bo
     }
 }
 
-// Whether every entry in the table at `at` has the note of group k, and the timestamp that the notes say. `rows` has the rows of the
-// notes where it is filled.
-fn all_noted(
-    b: &[u8],
-    at: usize,
-    t: &[u8],
-    c: usize,
-    s: usize,
-    k: usize,
-    rows: &[u16],
-    filled: bool,
-) -> bool
-    requires { ⌜ (at + tableLength c ≤ length (now b)) × Notes c s (now t) × (k < s) × (filled ≡ true → NoteRows c s (now t) (now rows)) ⌝ }
+// Whether every entry in the table at `at` has the note of group k, and the timestamp that the notes say. The slots have the rows of the
+// notes.
+fn all_noted(b: &[u8], at: usize, t: &[u8], c: usize, s: usize, k: usize, slots: &[u16]) -> bool
+    requires { ⌜ (at + tableLength c ≤ length (now b)) × Notes c s (now t) × (k < s) × NoteRows c s (now t) (now slots) ⌝ }
     ensures { λ r. ⌜ r ≡ every (notedRight s (notesAt c s (now (t .entry))) k) (tableAt c (now (b .entry)) at) ⌝ }
 {
     let n = count_at(b, at, c);
     let mut i = 0;
     while i < n {
         let e = entries::entry_at(b, at + 4 + 24 * i);
-        let note = lookups::note_row(t, c, s, rows, filled, e.request, e.coordinator);
+        let note = lookups::note_row(t, c, s, slots, e.request, e.coordinator);
         if !noted_right(t, c, s, e, note, k) {
             return false;
         }
@@ -317,8 +316,8 @@ fn all_noted(
 }
 
 // Whether in status 1 a leader's early entries have their notes. The notes are lent as a slice of their own.
-fn early_good(shape: Shape, state: &[u8], t: &[u8], rows: &[u16], filled: bool) -> bool
-    requires { ⌜ Known shape (now state) × Lent shape (now state) (now t) × (filled ≡ true → NoteRows (shape .c) (shape .s) (now t) (now rows)) ⌝ }
+fn early_good(shape: Shape, state: &[u8], t: &[u8], slots: &[u16]) -> bool
+    requires { ⌜ Known shape (now state) × Lent shape (now state) (now t) × NoteRows (shape .c) (shape .s) (now t) (now slots) ⌝ }
     ensures { λ r. ⌜ r ≡ earlyRight shape (stateOf shape (now (state .entry))) ⌝ }
 {
     if places::get_status(state) != status::NORMAL {
@@ -331,62 +330,18 @@ fn early_good(shape: Shape, state: &[u8], t: &[u8], rows: &[u16], filled: bool) 
     let c = shape.c as usize;
     let s = shape.s as usize;
     let group = places::get_group(state) as usize;
-    all_noted(state, at, t, c, s, group, rows, filled)
+    all_noted(state, at, t, c, s, group, slots)
 }
 
-// Whether no two notes are of one transaction.
-fn notes_apart(t: &[u8], c: usize, s: usize) -> bool
-    requires { ⌜ Notes c s (now t) ⌝ }
-    ensures { λ r. ⌜ r ≡ notesDistinct (notesAt c s (now (t .entry))) ⌝ }
-{
-    let n = notes::count(t);
-    repeats::first_repeat(t, lookups::note_spots(s, n)) == n
-}
-
-// Whether no two notes are of one transaction, and a leader's early entries have their notes. A table that gets the row of every note
-// shows the one and finds the other.
-fn notes_right(shape: Shape, state: &[u8], t: &[u8], rows: &mut [u16]) -> bool
+// Whether no two notes are of one transaction, and a leader's early entries have their notes.
+fn notes_right(shape: Shape, state: &[u8], t: &[u8], slots: &mut [u16]) -> bool
     requires { ⌜ Known shape (now state) × Lent shape (now state) (now t) ⌝ }
     ensures { λ r. ⌜ r ≡ notesRight shape (stateOf shape (now (state .entry))) ⌝ }
 {
-    let c = shape.c as usize;
-    let s = shape.s as usize;
-    if lookups::fill_notes(t, c, s, rows) {
-        return early_good(shape, state, t, rows, true);
-    }
-    if !notes_apart(t, c, s) {
+    if !lookups::index_notes(t, shape.c as usize, shape.s as usize, slots) {
         return false;
     }
-    early_good(shape, state, t, rows, false)
-}
-
-// The same with a table for at most 256 notes.
-fn few_right(shape: Shape, state: &[u8], t: &[u8]) -> bool
-    requires { ⌜ Known shape (now state) × Lent shape (now state) (now t) ⌝ }
-    ensures { λ r. ⌜ r ≡ notesRight shape (stateOf shape (now (state .entry))) ⌝ }
-{
-    let mut rows = [65535u16; 576];
-    notes_right(shape, state, t, &mut rows)
-}
-
-// The same with a table for at most 4,096 notes, the largest capacity.
-fn many_right(shape: Shape, state: &[u8], t: &[u8]) -> bool
-    requires { ⌜ Known shape (now state) × Lent shape (now state) (now t) ⌝ }
-    ensures { λ r. ⌜ r ≡ notesRight shape (stateOf shape (now (state .entry))) ⌝ }
-{
-    let mut rows = [65535u16; 10304];
-    notes_right(shape, state, t, &mut rows)
-}
-
-// The same with a table by how many notes there are.
-fn noting_good(shape: Shape, state: &[u8], t: &[u8]) -> bool
-    requires { ⌜ Known shape (now state) × Lent shape (now state) (now t) ⌝ }
-    ensures { λ r. ⌜ r ≡ notesRight shape (stateOf shape (now (state .entry))) ⌝ }
-{
-    if notes::count(t) <= 256 {
-        return few_right(shape, state, t);
-    }
-    many_right(shape, state, t)
+    early_good(shape, state, t, slots)
 }
 
 // Whether the notes have their form and are in range.
@@ -403,7 +358,7 @@ fn notes_fit(shape: Shape, state: &[u8]) -> bool
 // ---- all of it
 
 // Whether the points heard have their form, and all holds that is left of a good state once its head and its notes are in range.
-fn rest_good(shape: Shape, state: &[u8]) -> bool
+fn rest_good(shape: Shape, state: &[u8], slots: &mut [u16]) -> bool
     requires { ⌜ Formed shape (now state) ⌝ }
     ensures { λ r. ⌜ r ≡ (sectionForm shape (now (state .entry)) 2 && restGood shape (stateOf shape (now (state .entry)))) ⌝ }
 {
@@ -412,17 +367,17 @@ fn rest_good(shape: Shape, state: &[u8]) -> bool
     let from = layout.notes;
     let upto = layout.votes;
     let heard = heard_good(shape, state);
-    let draft = log_good(state, layout.draft, shape.c as usize, shape.s, group);
+    let draft = log_good(state, layout.draft, shape.c as usize, shape.s, group, slots);
     let points = points_good(shape, state);
     let view = view_good(shape, state);
-    let kept = kept_good(shape, state);
-    let entries = entries_good(shape, state);
-    let noting = noting_good(shape, state, &state[from..upto]);
+    let kept = kept_good(shape, state, slots);
+    let entries = entries_good(shape, state, slots);
+    let noting = notes_right(shape, state, &state[from..upto], slots);
     heard & (draft & (points & (view & (kept & (entries & noting)))))
 }
 
 // Whether the bytes are those of a good state: this is asked of whatever comes, and nothing is taken for granted.
-pub fn good(shape: Shape, state: &[u8]) -> bool
+pub fn good(shape: Shape, state: &[u8], slots: &mut [u16]) -> bool
     ensures { λ r. ⌜ r ≡ goodBytes shape (now (state .entry)) ⌝ }
 {
     if !group::shape_fits(shape) {
@@ -440,5 +395,5 @@ pub fn good(shape: Shape, state: &[u8]) -> bool
     if !notes_fit(shape, state) {
         return false;
     }
-    rest_good(shape, state)
+    rest_good(shape, state, slots)
 }

@@ -1,7 +1,7 @@
 -- Powers of two within a width, and masks at or past their width.
-use mathlib.Core.Path.{_≡_, _∙_, ap, refl, sym}
-use mathlib.Core.Bool.{Bool, true, false, _&&_}
-use Prim.Native.Nat.{ℕ, suc, _+_, _*_, _/_, _%_, _^_, _<_, _≤_}
+use mathlib.Core.Path.{_≡_, _∙_, ap, sym}
+use mathlib.Core.Bool.{false, and-true}
+use Prim.Native.Nat.{ℕ, suc, _+_, _*_, _%_, _^_, _<_, _≤_}
 use native.Mathlib.Nat.{pow-le-pow-right, one-le-pow, two-pow-succ, div-eq-of-lt, mod-eq-of-lt, one-mul}
 use native.Mathlib.Omega.{arith}
 use lib.Dec.{eqb, ltb}
@@ -31,7 +31,3 @@ module _ (w mask k : ℕ) (fits : mask < 2 ^ w) (past : w ≤ k) where
 
   pub all-past : ltb 0 mask ≡ someOf mask k
   all-past = sym (rw (lt-ltb mask (2 ^ k) short) (and-true (ltb 0 mask)))
-    where
-      and-true : (b : Bool) → (b && true) ≡ b
-      and-true true = refl
-      and-true false = refl

@@ -25,7 +25,8 @@ use Rattle.rules.specs.declared.Message.the-variants.{Note, VerifyRequest}
 use Rattle.rules.proofs.Choice.{all-keep, all-map}
 use Rattle.rules.proofs.Entries.{EntryFits}
 use Rattle.rules.proofs.Tests.{below-at}
-use Rattle.places.specs.Layout.{startOf, Laid}
+use Rattle.places.specs.Layout.{startOf}
+use Rattle.places.proofs.Sections.{Laid}
 use Rattle.handler.specs.Sending.{messageBytes, headedIn, leaderIn, othersIn, askedOf, Asks, leaderBytes}
 use Rattle.handler.proofs.Rows.{all-below, flat-snoc, flat-ext, keep-ext, kept-more, kept-same, kept-within, sends-flat}
 use Rattle.handler.proofs.Sends.{Sender, own-group, view-in, message-sent}

@@ -26,8 +26,8 @@ use Rattle.rules.proofs.Choice.{pick-false}
 use Rattle.rules.proofs.Entries.{EntryFits, entry, long-entry}
 use Rattle.rules.proofs.Tables.{in-row, flat-long}
 use Rattle.rules.proofs.Image.{StateFits}
-use Rattle.places.specs.Layout.{startOf, Laid}
-use Rattle.places.proofs.Sections.{lent, drop-all}
+use Rattle.places.specs.Layout.{startOf}
+use Rattle.places.proofs.Sections.{Laid, lent, drop-all}
 use Rattle.places.proofs.Head.{get-head}
 use Rattle.places.proofs.Rows.{row-at}
 use Rattle.writer.proofs.Writer.{length-bytes}

@@ -63,8 +63,10 @@ pub fn tell(
     m: Message,
     entries: &[u8],
 ) -> usize
-    requires { ⌜ Sized shape (now state) × (24 * (length (now entries) / 24) ≡ length (now entries)) × (length (now entries) ≤ 98304) × (at + (24 + 4 * shape .s + 8 * length (numbersOf m) + length (now entries)) ≤ length (now out)) ⌝ }
-    ensures { λ r. ⌜ (r ≡ at + length (messageBytes shape (now (state .entry)) m (now (entries .entry)))) × (now (out .exit) ≡ splice (now (out .entry)) at (messageBytes shape (now (state .entry)) m (now (entries .entry)))) ⌝ }
+    requires { ⌜ Sized shape (now state) × (24 * (length (now entries) / 24) ≡ length (now entries)) × (length (now entries) ≤ 98304)
+        × (at + (24 + 4 * shape .s + 8 * length (numbersOf m) + length (now entries)) ≤ length (now out)) ⌝ }
+    ensures { λ r. ⌜ (let bytes = messageBytes shape (now (state .entry)) m (now (entries .entry)) in
+        (r ≡ at + length bytes) × (now (out .exit) ≡ splice (now (out .entry)) at bytes)) ⌝ }
 {
     let places = places::places_of(shape);
     let start = places.views;
@@ -97,13 +99,19 @@ pub fn count_others(shape: Shape, state: &[u8], mask: u16) -> u64
 }
 
 // What is asked of other groups' leaders: a note, or a verify request with its boundary.
-fn asked(kind: u8, number: u64, h: Header) -> Message
-    ensures { λ r. ⌜ r ≡ askedOf kind number h ⌝ }
+pub struct Asking {
+    pub kind: u8,
+    pub number: u64,
+}
+
+// The message that asks it.
+fn asked(asking: Asking, h: Header) -> Message
+    ensures { λ r. ⌜ r ≡ askedOf (asking .kind) (asking .number) h ⌝ }
 {
-    if kind == kind::TIMESTAMP_NOTE {
+    if asking.kind == kind::TIMESTAMP_NOTE {
         return Message::Note(h);
     }
-    Message::VerifyRequest(h, number)
+    Message::VerifyRequest(h, asking.number)
 }
 
 // Writes the message to the leader of group j at `at`, and says where it ends.
@@ -112,39 +120,43 @@ fn tell_leader(
     state: &[u8],
     out: &mut [u8],
     at: usize,
-    kind: u8,
-    number: u64,
+    asking: Asking,
     j: u64,
     entries: &[u8],
 ) -> usize
-    requires { ⌜ Sized shape (now state) × Asks kind (now entries) × (j < shape .s) × (at + lengthFor (shape .s) kind (length (now entries) / 24) ≤ length (now out)) ⌝ }
-    ensures { λ r. ⌜ (r ≡ at + length (leaderBytes shape (now (state .entry)) kind number (now (entries .entry)) j)) × (now (out .exit) ≡ splice (now (out .entry)) at (leaderBytes shape (now (state .entry)) kind number (now (entries .entry)) j)) × (length (leaderBytes shape (now (state .entry)) kind number (now (entries .entry)) j) ≡ lengthFor (shape .s) kind (length (now (entries .entry)) / 24)) ⌝ }
+    requires { ⌜ Sized shape (now state) × Asks (asking .kind) (now entries) × (j < shape .s)
+        × (at + lengthFor (shape .s) (asking .kind) (length (now entries) / 24) ≤ length (now out)) ⌝ }
+    ensures { λ r. ⌜ (let bytes = leaderBytes shape (now (state .entry)) (asking .kind) (asking .number) (now (entries .entry)) j in
+        (r ≡ at + length bytes) × (now (out .exit) ≡ splice (now (out .entry)) at bytes)
+        × (length bytes ≡ lengthFor (shape .s) (asking .kind) (length (now (entries .entry)) / 24))) ⌝ }
 {
     let leader = places::view_at(shape, state, j) as u64 % shape.n;
-    let h = headed(state, kind, j as u8, group::only(leader));
-    tell(shape, state, out, at, asked(kind, number, h), entries)
+    let h = headed(state, asking.kind, j as u8, group::only(leader));
+    tell(shape, state, out, at, asked(asking, h), entries)
 }
 
-// Writes, from the start of the outgoing buffer on, a message to the leader of each other group in a mask, groups rising: a note (3) or a
-// verify request (18) with its boundary. Says where the last ends.
+// Writes, from the start of the outgoing buffer on, a message to the leader of each other group in a mask, groups rising, and says where the
+// last ends.
 pub fn tell_leaders(
     shape: Shape,
     state: &[u8],
     out: &mut [u8],
-    kind: u8,
-    number: u64,
+    asking: Asking,
     mask: u16,
     entries: &[u8],
 ) -> usize
-    requires { ⌜ Sized shape (now state) × Asks kind (now entries) × (lengthFor (shape .s) kind (length (now entries) / 24) * length (othersIn shape (now state) mask) ≤ length (now out)) ⌝ }
-    ensures { λ r. ⌜ (r ≡ length (flat (leaderBytes shape (now (state .entry)) kind number (now (entries .entry))) (othersIn shape (now (state .entry)) mask))) × (now (out .exit) ≡ splice (now (out .entry)) 0 (flat (leaderBytes shape (now (state .entry)) kind number (now (entries .entry))) (othersIn shape (now (state .entry)) mask))) ⌝ }
+    requires { ⌜ Sized shape (now state) × Asks (asking .kind) (now entries)
+        × (lengthFor (shape .s) (asking .kind) (length (now entries) / 24) * length (othersIn shape (now state) mask) ≤ length (now out)) ⌝ }
+    ensures { λ r. ⌜ (let b = now (state .entry) in
+        let bytes = flat (leaderBytes shape b (asking .kind) (asking .number) (now (entries .entry))) (othersIn shape b mask) in
+        (r ≡ length bytes) × (now (out .exit) ≡ splice (now (out .entry)) 0 bytes)) ⌝ }
 {
     let own = places::get_group(state);
     let mut at = 0;
     let mut j: u64 = 0;
     while j < shape.s {
         if is_other(own, mask, j) {
-            at = tell_leader(shape, state, out, at, kind, number, j, entries);
+            at = tell_leader(shape, state, out, at, asking, j, entries);
         }
         j += 1;
     }

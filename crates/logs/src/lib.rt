@@ -94,23 +94,31 @@ fn run_of(at: usize, count: usize) -> Spots
 
 // The first of `count` entries from `at` on at which they stop being a good log of group k, or `count`. One pass finds where the
 // fit ones end, and a repeat among those comes first.
-pub fn good_place(b: &[u8], at: usize, count: usize, s: u64, k: u64) -> usize
+pub fn good_place(b: &[u8], at: usize, count: usize, s: u64, k: u64, slots: &mut [u16]) -> usize
     requires { ⌜ at + 24 * count ≤ length (now b) ⌝ }
     ensures { λ r. ⌜ r ≡ goodTo s k (rowAt (now (b .entry)) at) count ⌝ }
 {
     let fit = first_unfit(b, at, count, s, k, k);
-    repeats::first_repeat(b, run_of(at, fit))
+    repeats::index(b, run_of(at, fit), fit, slots)
 }
 
 // Whether `count` entries from `at` on are a good log of group k whose every mask holds group j too.
-pub fn good_for(b: &[u8], at: usize, count: usize, s: u64, k: u64, j: u64) -> bool
+pub fn good_for(
+    b: &[u8],
+    at: usize,
+    count: usize,
+    s: u64,
+    k: u64,
+    j: u64,
+    slots: &mut [u16],
+) -> bool
     requires { ⌜ at + 24 * count ≤ length (now b) ⌝ }
-    ensures { λ r. ⌜ r ≡ (goodLog s k (items (entryAt (now (b .entry))) 24 at count) && allHold j (items (entryAt (now (b .entry))) 24 at count)) ⌝ }
+    ensures { λ r. ⌜ (let es = items (entryAt (now (b .entry))) 24 at count in r ≡ (goodLog s k es && allHold j es)) ⌝ }
 {
     if !rows_fit(b, at, count, s, k, j) {
         return false;
     }
-    repeats::first_repeat(b, run_of(at, count)) == count
+    repeats::index(b, run_of(at, count), count, slots) == count
 }
 
 // The timestamp of a table's last entry, 0 where it has none.
@@ -126,7 +134,14 @@ pub fn last_stamp(t: &[u8], c: usize) -> u64
 }
 
 // Whether no transaction stands twice in three tables together, such as log, early and late buffer.
-pub fn distinct3(b: &[u8], one: usize, two: usize, three: usize, c: usize) -> bool
+pub fn distinct3(
+    b: &[u8],
+    one: usize,
+    two: usize,
+    three: usize,
+    c: usize,
+    slots: &mut [u16],
+) -> bool
     requires { ⌜ Within c (now b) one × Within c (now b) two × Within c (now b) three ⌝ }
     ensures { λ r. ⌜ r ≡ distinct (tableAt c (now (b .entry)) one ++ (tableAt c (now (b .entry)) two ++ tableAt c (now (b .entry)) three)) ⌝ }
 {
@@ -142,5 +157,6 @@ pub fn distinct3(b: &[u8], one: usize, two: usize, three: usize, c: usize) -> bo
         third_count: n,
         stride: 24,
     };
-    repeats::none_repeats(b, spots)
+    let all = l + m + n;
+    repeats::index(b, spots, all, slots) == all
 }

@@ -17,7 +17,7 @@ use Rattle.rules.proofs.Tests.{all-at}
 use Rattle.rules.proofs.Tables.{NoteFits}
 use Rattle.repeats.specs.Repeat.{rowOf}
 use Rattle.repeats.specs.Rows.{countOf, keyOf, spotOf, Inside}
-use Rattle.repeats.specs.Table.{Filled}
+use Rattle.repeats.specs.Table.{Indexed}
 use Rattle.repeats.specs.declared.Spots.{Spots}
 use Rattle.repeats.proofs.Laws.{First, first-is, first-agree}
 use Rattle.repeats.proofs.Places.{spot-first}
@@ -88,11 +88,11 @@ module _ (c s : ℕ) (t : List ℕ) (h : Notes c s t) where
   pub asked : (n : ℕ) (sp : Spots) → n ≡ num t 0 4 → sp ≡ noteSpots s n → Inside t sp
   asked n sp e q = rw (spots-are n sp e q) keys-inside
 
-  pub rows-filled : (n : ℕ) (sp : Spots) (table : List ℕ) (r : Bool) → n ≡ num t 0 4 → sp ≡ noteSpots s n → (r ≡ true → Filled (keyOf t sp) (countOf sp) table) → r ≡ true → NoteRows c s t table
-  rows-filled n sp table r e q f b = record { filled = rw (spots-are n sp e q) at (f b) }
+  pub rows-asked : (n : ℕ) (sp : Spots) (slots : List ℕ) → n ≡ num t 0 4 → sp ≡ noteSpots s n → NoteRows c s t slots → Inside t sp × Indexed (keyOf t sp) (countOf sp) slots
+  rows-asked n sp slots e q w = rw (spots-are n sp e q) (keys-inside, w .indexed)
 
-  pub rows-asked : (n : ℕ) (sp : Spots) (table : List ℕ) → n ≡ num t 0 4 → sp ≡ noteSpots s n → NoteRows c s t table → Inside t sp × Filled (keyOf t sp) (countOf sp) table
-  rows-asked n sp table e q w = rw (spots-are n sp e q) (keys-inside, w .filled)
+  pub rows-known : (n : ℕ) (sp : Spots) (slots : List ℕ) → n ≡ num t 0 4 → sp ≡ noteSpots s n → Indexed (keyOf t sp) (countOf sp) slots → NoteRows c s t slots
+  rows-known n sp slots e q w = record { indexed = rw (spots-are n sp e q) at w }
 
   -- the row of a key is that of its transaction
   pub row-by-key : (n : ℕ) (sp : Spots) (request coordinator r : ℕ) → n ≡ num t 0 4 → sp ≡ noteSpots s n → request < 4294967296 → r ≡ rowOf (keyOf t sp) (request + coordinator * 4294967296) (countOf sp) → r ≡ row request coordinator kept

@@ -1,2 +1,3 @@
 -- What follows of the keys of notes.
 pub mod Keys
+pub mod Apart

@@ -1,8 +1,8 @@
-// The row of a transaction among the notes, by a table of rows: the search over all notes runs only where the table has not got every row.
+// The row of a transaction among the notes, by the slots that have the rows of all notes, and whether no two notes are of one transaction.
 use repeats::Spots;
 ghost use mathlib.Core.Path.{_≡_};
-ghost use mathlib.Core.Bool.{true};
 ghost use Prim.Native.Nat.{_≤_};
+ghost use Rattle.rules.specs.State.{notesDistinct};
 ghost use Rattle.notes.specs.Notes.{notesAt, row, Notes};
 ghost use Rattle.lookups.specs.Rows.{noteSpots, NoteRows};
 
@@ -22,30 +22,27 @@ pub fn note_spots(s: usize, n: usize) -> Spots
     }
 }
 
-// Puts the row of every note into the table, of 65535s where it is empty: true only if all went in.
-pub fn fill_notes(t: &[u8], c: usize, s: usize, table: &mut [u16]) -> bool
+// Puts the row of every note into the slots, and tells whether no two notes are of one transaction.
+pub fn index_notes(t: &[u8], c: usize, s: usize, slots: &mut [u16]) -> bool
     requires { ⌜ Notes c s (now t) ⌝ }
-    ensures { λ r. ⌜ (r ≡ true → NoteRows c s (now (t .entry)) (now (table .exit))) ⌝ }
+    ensures { λ r. ⌜ (r ≡ notesDistinct (notesAt c s (now (t .entry)))) × NoteRows c s (now (t .entry)) (now (slots .exit)) ⌝ }
 {
-    repeats::fill(t, note_spots(s, notes::count(t)), table)
+    let n = notes::count(t);
+    repeats::index(t, note_spots(s, n), n, slots) == n
 }
 
-// The note of a transaction, or the number of notes: by the table where it is filled.
+// The note of a transaction, or the number of notes.
 pub fn note_row(
     t: &[u8],
     c: usize,
     s: usize,
-    table: &[u16],
-    filled: bool,
+    slots: &[u16],
     request: u32,
     coordinator: u16,
 ) -> usize
-    requires { ⌜ Notes c s (now t) × (filled ≡ true → NoteRows c s (now t) (now table)) ⌝ }
+    requires { ⌜ Notes c s (now t) × NoteRows c s (now t) (now slots) ⌝ }
     ensures { λ r. ⌜ r ≡ row request coordinator (notesAt c s (now (t .entry))) ⌝ }
 {
-    if filled {
-        let key = request as u64 + coordinator as u64 * 4294967296;
-        return repeats::find(t, note_spots(s, notes::count(t)), table, key);
-    }
-    notes::find(t, c, s, request, coordinator)
+    let key = request as u64 + coordinator as u64 * 4294967296;
+    repeats::find(t, note_spots(s, notes::count(t)), slots, key)
 }

@@ -21,22 +21,14 @@ use Rattle.rules.specs.declared.Entry.{Entry}
 use Rattle.rules.specs.declared.Shape.{Shape}
 use Rattle.rules.proofs.Order.{ordered-length}
 use Rattle.entries.specs.Table.{Holds}
-use Rattle.entries.proofs.Table.{decoded, and-then}
+use Rattle.entries.specs.Rows.{Found}
+use Rattle.entries.proofs.Table.{decoded, and-then, rows-read}
 use Rattle.places.specs.Layout.{startOf, PlaceAt, Stands}
-use Rattle.places.proofs.Sections.{stands-fits, stands-laid}
+use Rattle.places.proofs.Sections.{stands-fits, stands-laid, stands-midway}
 use Rattle.places.proofs.Kept.{reply-at}
 use Rattle.places.proofs.Lent.{draft-lent, reply-lent}
-use Rattle.merge.specs.Taken.{Taken}
-use Rattle.merge.specs.Rows.{Rows, Took}
-use Rattle.merge.specs.declared.Told.{Told}
+use Rattle.merge.specs.Taken.{Taken, Took}
 use Rattle.merge.proofs.Taking.{told-held, told-full, all-append, all-grows}
-
--- the entries of a table, by its count
-pub rows-of : (c n : ℕ) (es : List Entry) (t : List ℕ) → Holds c es t → n ≡ num t 0 4 → items (entryAt t) 24 4 n ≡ es
-unfolding tableAt
-rows-of c n es t h q =
-    let m : n ≡ min (num t 0 4) c = omega (arith, h .count, h .room) in
-    rw m (decoded c es t h)
 
 none-is : (o : Option (List Entry)) → isSome o ≡ false → o ≡ none
 none-is none h = refl
@@ -59,7 +51,7 @@ module _ {sh : Shape} {st : State} {b : List ℕ} (s : Stands sh st b) (j : ℕ)
       let w = some-is (replyAt (sh .c) b (startOf sh atReplies + replyLength (sh .c) * j)) (sym g ∙ q) in
       let e : a + 1 ≡ startOf sh atReplies + replyLength (sh .c) * j + 1 = ap (λ (n : ℕ). n + 1) (ha .at) in
       let m : a + 1 + len - (a + 1) ≡ tableLength (sh .c) = omega arith in
-      (w .0, w .1, reply-lent s j (w .0) (a + 1) (a + 1 + len - (a + 1)) h (sym (reply-at s j h) ∙ w .1) e m)
+      (w .0, w .1, reply-lent (stands-midway s) j (w .0) (a + 1) (a + 1 + len - (a + 1)) h (sym (reply-at (stands-midway s) j h) ∙ w .1) e m)
 
   pub kept-room : (n : ℕ) → n ≡ num (take (a + 1 + len - (a + 1)) (drop (a + 1) b)) 0 4 → 4 + 24 * n ≤ length (take (a + 1 + len - (a + 1)) (drop (a + 1) b))
   kept-room n hn = let k = kept-table .2 in omega (arith, k .count, k .size, k .room)
@@ -72,24 +64,24 @@ module _ {sh : Shape} {st : State} {b : List ℕ} (s : Stands sh st b) (from : �
       rw q (getD-set-same (st .change .replies) from (some es) none l)
 
   other : (j : ℕ) → j < sh .s → (j ≡ from → ⊥) → getD (withReply st from es) j none ≡ replyAt (sh .c) b (startOf sh atReplies + replyLength (sh .c) * j)
-  other j h n = getD-set-other (st .change .replies) from j (some es) none n ∙ sym (reply-at s j h)
+  other j h n = getD-set-other (st .change .replies) from j (some es) none n ∙ sym (reply-at (stands-midway s) j h)
 
   -- the ways of taking it in
   module _ (j c : ℕ) (h : j < sh .s) (ds : List Entry) where
-    pub way-own : (r : Told) (u rows : List ℕ) → j ≡ from → Took c (takeAll ds es) r u rows → Took c (takeAll ds (entriesIn (getD (withReply st from es) j none))) r u rows
+    pub way-own : (r : Bool) (u rows : List ℕ) → j ≡ from → Took c (takeAll ds es) r u rows → Took c (takeAll ds (entriesIn (getD (withReply st from es) j none))) r u rows
     way-own r u rows q k = rw (own j h q) k
 
-    pub way-none : (f filled : Bool) (u rows : List ℕ) → (j ≡ from → ⊥) → f ≡ isSome (replyAt (sh .c) b (startOf sh atReplies + replyLength (sh .c) * j)) → f ≡ false → Holds c ds u → (filled ≡ true → Rows ds rows)
-        → Took c (takeAll ds (entriesIn (getD (withReply st from es) j none))) (record { placed = true; filled = filled }) u rows
+    pub way-none : (f : Bool) (u rows : List ℕ) → (j ≡ from → ⊥) → f ≡ isSome (replyAt (sh .c) b (startOf sh atReplies + replyLength (sh .c) * j)) → f ≡ false → Holds c ds u → Found ds rows
+        → Took c (takeAll ds (entriesIn (getD (withReply st from es) j none))) true u rows
     unfolding takeAll
-    way-none f filled u rows n g q k m = rw (other j h n, none-is (replyAt (sh .c) b (startOf sh atReplies + replyLength (sh .c) * j)) (sym g ∙ q)) (record { taken = told-held c ds u k; found = m })
+    way-none f u rows n g q k m = rw (other j h n, none-is (replyAt (sh .c) b (startOf sh atReplies + replyLength (sh .c) * j)) (sym g ∙ q)) (record { taken = told-held c ds u k; found = λ _. m })
 
-    pub way-kept : (f : Bool) (r : Told) (a len n : ℕ) (u rows : List ℕ) → (j ≡ from → ⊥) → f ≡ isSome (replyAt (sh .c) b (startOf sh atReplies + replyLength (sh .c) * j)) → f ≡ true → PlaceAt sh 9 (replyLength (sh .c)) j a → len ≡ tableLength (sh .c)
+    pub way-kept : (f : Bool) (r : Bool) (a len n : ℕ) (u rows : List ℕ) → (j ≡ from → ⊥) → f ≡ isSome (replyAt (sh .c) b (startOf sh atReplies + replyLength (sh .c) * j)) → f ≡ true → PlaceAt sh 9 (replyLength (sh .c)) j a → len ≡ tableLength (sh .c)
         → n ≡ num (take (a + 1 + len - (a + 1)) (drop (a + 1) b)) 0 4
         → Took c (takeAll ds (items (entryAt (take (a + 1 + len - (a + 1)) (drop (a + 1) b))) 24 4 n)) r u rows → Took c (takeAll ds (entriesIn (getD (withReply st from es) j none))) r u rows
     way-kept f r a len n u rows d g q ha hl hn k =
         let w = kept-table s j h f a len g q ha hl in
-        let z = rows-of (sh .c) n (w .0) (take (a + 1 + len - (a + 1)) (drop (a + 1) b)) (w .2) hn in
+        let z = rows-read (sh .c) (w .0) (take (a + 1 + len - (a + 1)) (drop (a + 1) b)) (w .2) n hn in
         rw (other j h d, w .1, ← z) k
 
 -- ---- the draft, and the replies of the first j groups
@@ -108,9 +100,9 @@ module _ (draft : List Entry) (rs : List (Option (List Entry))) where
   abbrev pub mergedTo : ℕ → List Entry
   mergedTo j = takeAll draft (flat entriesIn (take j rs))
 
-  pub merge-start : (c : ℕ) (t rows : List ℕ) (filled : Bool) → Holds c draft t × (filled ≡ true → Rows draft rows) → Holds c (mergedTo 0) t × (filled ≡ true → Rows (mergedTo 0) rows)
+  pub merge-start : (c : ℕ) (t slots : List ℕ) → Holds c draft t × Found draft slots → Holds c (mergedTo 0) t × Found (mergedTo 0) slots
   unfolding takeAll flat
-  merge-start c t rows filled h = h
+  merge-start c t slots h = h
 
   to-next : (j : ℕ) → j < length rs → mergedTo (j + 1) ≡ takeAll (mergedTo j) (entriesIn (getD rs j none))
   unfolding flat
@@ -131,8 +123,8 @@ module _ (draft : List Entry) (rs : List (Option (List Entry))) where
       pub merge-again : r ≡ true → Holds c (mergedTo (j + 1)) u
       merge-again q = rw (to-next j (omega arith)) (and-then c (mergedTo j) t h (λ ds. takeAll ds (entriesIn (getD rs j none))) u (k .held q))
 
-      pub merge-rows : (rows : List ℕ) → Rows (takeAll (tableAt c t 0) (entriesIn (getD rs j none))) rows → Rows (mergedTo (j + 1)) rows
-      merge-rows rows f = rw (to-next j (omega arith)) (rw (decoded c (mergedTo j) t h) at f)
+      pub merge-rows : (slots : List ℕ) → Found (takeAll (tableAt c t 0) (entriesIn (getD rs j none))) slots → Found (mergedTo (j + 1)) slots
+      merge-rows slots f = rw (to-next j (omega arith)) (rw (decoded c (mergedTo j) t h) at f)
 
       pub merge-full : r ≡ false → Taken c (merged draft rs) false u
       unfolding merged

@@ -1,7 +1,7 @@
 -- A thing of a fixed number of bytes, read back from them, alone and in a row. Assumes nothing.
 use Prim.Native.Nat.{ℕ, zero, suc, _+_, _*_, _^_, _≤_, _<_}
 use mathlib.Core.Path.{_≡_, refl, sym, ap, ap₂, _∙_}
-use mathlib.Core.List.{List, [], _∷_, _++_, append-assoc}
+use mathlib.Core.List.{List, [], _∷_, _++_, append-assoc, append-nil}
 use native.Mathlib.Omega.{arith}
 use native.Mathlib.Nat.{not-suc-le-zero, le-of-suc-le-suc}
 use lib.ListN.{length, drop, getD, length-append, take-append-drop}
@@ -37,16 +37,29 @@ getD-items f k o (suc n) (suc i) d h =
     let e : o + k + k * i ≡ o + k * suc i = omega arith in
     rw items-cons (getD-items f k (o + k) n i d (le-of-suc-le-suc h) ∙ ap f e)
 
--- two functions that agree at the places give the same
-pub items-ext : {A : Type 0} (f g : ℕ → A) (k o n : ℕ) → ((i : ℕ) → i < n → f (o + k * i) ≡ g (o + k * i)) → items f k o n ≡ items g k o n
+-- two functions that agree place by place give the same, from wherever each begins
+pub items-shift : {A : Type 0} (f g : ℕ → A) (k o p n : ℕ) → ((i : ℕ) → i < n → f (o + k * i) ≡ g (p + k * i)) → items f k o n ≡ items g k p n
 unfolding items
-items-ext f g k o zero h = refl
-items-ext f g k o (suc n) h = ap₂ (λ (xs : List _) x. xs ++ (x ∷ [])) (items-ext f g k o n (λ i l. h i (omega arith))) (h n (omega arith))
+items-shift f g k o p zero h = refl
+items-shift f g k o p (suc n) h = ap₂ (λ (xs : List _) x. xs ++ (x ∷ [])) (items-shift f g k o p n (λ i l. h i (omega arith))) (h n (omega arith))
+
+pub items-ext : {A : Type 0} (f g : ℕ → A) (k o n : ℕ) → ((i : ℕ) → i < n → f (o + k * i) ≡ g (o + k * i)) → items f k o n ≡ items g k o n
+items-ext f g k o n h = items-shift f g k o o n h
 
 pub flat-append : {A B : Type 0} (f : A → List B) (xs ys : List A) → flat f (xs ++ ys) ≡ flat f xs ++ flat f ys
 unfolding flat
 flat-append f [] ys = refl
 flat-append f (x ∷ xs) ys = rw (flat-append f xs ys) (sym (append-assoc (f x) (flat f xs) (flat f ys)))
+
+-- places of one size in a row
+pub row-long : {A : Type 0} (put : A → List ℕ) (get : List ℕ → ℕ → A) (k : ℕ) → ((b : List ℕ) (a : ℕ) → length (put (get b a)) ≡ k) → (b : List ℕ) (o n : ℕ) → length (flat put (items (get b) k o n)) ≡ k * n
+unfolding items flat
+row-long put get k long b o zero = omega arith
+row-long {A} put get k long b o (suc n) =
+    let x : A = get b (o + k * n) in
+    ap length (flat-append put (items (get b) k o n) (x ∷ []))
+    ∙ length-append (flat put (items (get b) k o n)) (put x ++ [])
+    ∙ omega (arith, row-long put get k long b o n, ap length (append-nil (put x)), long b (o + k * n))
 
 module _ {A : Type 0} {k : ℕ} {put : A → List ℕ} {get : List ℕ → ℕ → A} {Fits : A → Type 0} (c : Codec A k put get Fits) where
   -- what stands after it

@@ -1,7 +1,7 @@
 -- Laws of `le`, `unle`, `part`, `num`, `splice` and `zeros`. Assumes nothing.
 use Prim.Native.Nat.{ℕ, zero, suc, _+_, _-_, _*_, _/_, _%_, _^_, _≤_, _<_}
 use mathlib.Core.Path.{_≡_, refl, sym, ap, ap₂, _∙_}
-use mathlib.Core.Bool.{Bool, true, false, _&&_, true≢false}
+use mathlib.Core.Bool.{Bool, true, false, _&&_, and-assoc, true≢false}
 use borrow.Author.Tests.{ne-eqb, eq-eqb, eqb-true, eqb-false}
 use native.Mathlib.Numerals.{add-one}
 use native.Mathlib.Decide.{decLe}
@@ -148,6 +148,21 @@ part-past p q m i n e h =
     let f : i ≡ length p + (i - m) = omega arith in
     ap (λ (j : ℕ). part (p ++ q) j n) f ∙ part-back p q (i - m) n
 
+-- a part of a part
+pub part-part : (b : List ℕ) (a m i k : ℕ) → a + m ≤ length b → i + k ≤ m → part (part b a m) i k ≡ part b (a + i) k
+part-part b a m i k l h =
+    let p : List ℕ = take a b in
+    let q : List ℕ = part b a m in
+    let r : List ℕ = drop (a + m) b in
+    let hp : length p ≡ a = length-take-le a b (omega arith) in
+    let hq : length q ≡ m = length-part b a m l in
+    let e : a + i - a ≡ i = omega arith in
+    sym (ap (λ (x : List ℕ). part x (a + i) k) (cut b a m) ∙ part-past p (q ++ r) a (a + i) k hp (omega arith) ∙ ap (λ (j : ℕ). part (q ++ r) j k) e ∙ part-front q r i k (omega arith))
+
+pub num-part : (b : List ℕ) (a m i j k : ℕ) → a + m ≤ length b → i + k ≤ m → j ≡ a + i → num (part b a m) i k ≡ num b j k
+unfolding num
+num-part b a m i j k l h e = rw (part-part b a m i k l h, e)
+
 pub splice-front : (p q : List ℕ) (at : ℕ) (x : List ℕ) → at + length x ≤ length p → splice (p ++ q) at x ≡ splice p at x ++ q
 unfolding splice
 splice-front p q at x h =
@@ -286,6 +301,10 @@ put-two b at j k v m e h hm he =
     splice-next b at j (le j v) (le k (v / 256 ^ j)) m e h (length-le j v) (hm ∙ ap (splice b at) (le-mod j v)) he
     ∙ ap (splice b at) (sym (le-add j k v))
 
+-- a number at the front written over
+pub number-over : (k n m : ℕ) (q : List ℕ) → splice (le k n ++ q) 0 (le k m) ≡ le k m ++ q
+number-over k n m q = splice-at [] (le k n) q (le k m) 0 refl (length-le k n ∙ sym (length-le k m))
+
 -- ---- a number at a place, after a splice
 
 pub num-splice-same : (b : List ℕ) (at k v : ℕ) → at + k ≤ length b → v < 256 ^ k → num (splice b at (le k v)) at k ≡ v
@@ -348,10 +367,6 @@ pub le-zero : (k : ℕ) → le k 0 ≡ replicate k 0
 unfolding le
 le-zero zero = refl
 le-zero (suc k) = ap (λ (r : List ℕ). 0 ∷ r) (le-zero k)
-
-and-assoc : (a b c : Bool) → ((a && b) && c) ≡ (a && (b && c))
-and-assoc true b c = refl
-and-assoc false b c = refl
 
 pub zeros-append : (x y : List ℕ) → zeros (x ++ y) ≡ (zeros x && zeros y)
 zeros-append [] y = refl

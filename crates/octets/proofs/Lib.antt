@@ -1,3 +1,4 @@
+pub mod Logic
 pub mod Laws
 pub mod Sections
 pub mod Codecs

@@ -5,6 +5,7 @@ use mathlib.Core.Bool.{Bool, true, false, _&&_}
 use mathlib.Core.List.{List}
 use native.Mathlib.Omega.{arith}
 use lib.ListN.{length, getD, replicate, length-replicate, replicate-append-replicate}
+use lib.Dec.{eqb}
 use borrow.Author.Tests.{eq-eqb, ne-eqb}
 use Rattle.octets.specs.Bytes.{le, part, num, splice, zeros}
 use Rattle.octets.proofs.Laws.{length-part, part-add, part-none, part-splice-before, part-splice-after, splice-none, splice-next, splice-comm, bytes-known, le-num, le-zero, zeros-part, zeros-num}
@@ -99,15 +100,31 @@ fill-done d at i n e he l h =
 pub zeros-both : (s : List ℕ) (at j k n : ℕ) (p q : Bool) → p ≡ zeros (part s at j) → q ≡ zeros (part s (at + j) k) → j + k ≡ n → (p && q) ≡ zeros (part s at n)
 zeros-both s at j k n p q hp hq e = ap₂ _&&_ hp hq ∙ sym (zeros-part s at j k) ∙ ap (λ (i : ℕ). zeros (part s at i)) e
 
+-- a word, by the number that it says
+pub zeros-word : (s : List ℕ) (at k v : ℕ) → v ≡ num s at k → eqb v 0 ≡ zeros (part s at k)
+zeros-word s at k v e = rw e (sym (zeros-num s at k))
+
+-- the same where the k bytes' place has a name of its own, and for two words
+pub zeros-joint : (s : List ℕ) (at o j k n : ℕ) (p q : Bool) → p ≡ zeros (part s at j) → q ≡ zeros (part s o k) → o ≡ at + j → j + k ≡ n → (p && q) ≡ zeros (part s at n)
+zeros-joint s at o j k n p q hp hq w e = zeros-both s at j k n p q hp (hq ∙ ap (λ (i : ℕ). zeros (part s i k)) w) e
+
+pub zeros-pair : (s : List ℕ) (at o u v : ℕ) → u ≡ num s at 8 → v ≡ num s o 8 → o ≡ at + 8 → (eqb u 0 && eqb v 0) ≡ zeros (part s at 16)
+zeros-pair s at o u v hu hv w = zeros-joint s at o 8 8 16 (eqb u 0) (eqb v 0) (zeros-word s at 8 u hu) (zeros-word s o 8 v hv) w (omega arith)
+
+-- the j bytes before are zero: so are all where the k next are, and not all where these are not
+pub zeros-on : (s : List ℕ) (at j k : ℕ) (x : Bool) → zeros (part s at j) ≡ true → x ≡ zeros (part s (at + j) k) → x ≡ true → zeros (part s at (j + k)) ≡ true
+zeros-on s at j k x h e z = sym (zeros-both s at j k (j + k) true true (sym h) (sym z ∙ e) refl)
+
+pub zeros-off : (s : List ℕ) (at j k n : ℕ) (x : Bool) → zeros (part s at j) ≡ true → x ≡ zeros (part s (at + j) k) → x ≡ false → j + k ≤ n → false ≡ zeros (part s at n)
+zeros-off s at j k n x h e z l =
+    let r : ℕ = n - (j + k) in
+    zeros-both s at j (k + r) n true false (sym h) (zeros-both s (at + j) k r (k + r) false (zeros (part s (at + j + k) r)) (sym z ∙ e) refl refl) (omega arith)
+
 pub zeros-pass : (s : List ℕ) (at j k v : ℕ) → zeros (part s at j) ≡ true → v ≡ num s (at + j) k → v ≡ 0 → zeros (part s at (j + k)) ≡ true
-zeros-pass s at j k v h e z =
-    sym (zeros-both s at j k (j + k) true true (sym h) (sym (zeros-num s (at + j) k ∙ eq-eqb (num s (at + j) k) 0 (sym e ∙ z))) refl)
+zeros-pass s at j k v h e z = zeros-on s at j k (eqb v 0) h (zeros-word s (at + j) k v e) (eq-eqb v 0 z)
 
 pub zeros-stop : (s : List ℕ) (at j k n v : ℕ) → zeros (part s at j) ≡ true → v ≡ num s (at + j) k → (v ≡ 0 → ⊥) → j + k ≤ n → false ≡ zeros (part s at n)
-zeros-stop s at j k n v h e z l =
-    let r : ℕ = n - (j + k) in
-    let stop : false ≡ zeros (part s (at + j) k) = sym (zeros-num s (at + j) k ∙ ne-eqb (num s (at + j) k) 0 (λ w. z (e ∙ w))) in
-    zeros-both s at j (k + r) n true false (sym h) (zeros-both s (at + j) k r (k + r) false (zeros (part s (at + j + k) r)) stop refl refl) (omega arith)
+zeros-stop s at j k n v h e z l = zeros-off s at j k n (eqb v 0) h (zeros-word s (at + j) k v e) (ne-eqb v 0 z) l
 
 pub zeros-none : (s : List ℕ) (at : ℕ) → zeros (part s at 0) ≡ true
 zeros-none s at = ap zeros (part-none s at)

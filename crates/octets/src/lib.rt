@@ -1,5 +1,6 @@
 // Bytes in a row: numbers in them, lowest byte first, and blocks. Blocks go eight bytes a turn, by the number that the eight bytes
-// say, and then the rest byte by byte: the compiler makes one load and one store of such a turn.
+// say, and then the rest byte by byte: the compiler makes one load and one store of such a turn. The test of zeros goes 64 bytes a
+// turn first, eight words under one branch, of which the compiler makes vector code.
 ghost use mathlib.Core.Path.{_≡_};
 ghost use Prim.Native.Nat.{ℕ, _+_, _%_, _≤_};
 ghost use lib.ListN.{length, replicate};
@@ -285,6 +286,33 @@ pub fn fill_zero(s: &mut [u8], at: usize, n: usize)
     fill_bytes(s, at + whole, rest);
 }
 
+// Whether the 64 bytes at `at` are all zero: every word is tested, with no branch between them.
+fn zero_block(s: &[u8], at: usize) -> bool
+    requires { ⌜ at + 64 ≤ length (now s) ⌝ }
+    ensures { λ r. ⌜ r ≡ zeros (part (now (s .entry)) at 64) ⌝ }
+{
+    let fourth = (get64(s, at + 48) == 0) & (get64(s, at + 56) == 0);
+    let third = (get64(s, at + 32) == 0) & (get64(s, at + 40) == 0);
+    let second = (get64(s, at + 16) == 0) & (get64(s, at + 24) == 0);
+    let first = (get64(s, at) == 0) & (get64(s, at + 8) == 0);
+    first & (second & (third & fourth))
+}
+
+// Whether the n bytes at `at` are all zero, where n is a number of whole blocks of 64.
+fn zero_blocks(s: &[u8], at: usize, n: usize) -> bool
+    requires { ⌜ (at + n ≤ length (now s)) × (n % 64 ≡ 0) ⌝ }
+    ensures { λ r. ⌜ r ≡ zeros (part (now (s .entry)) at n) ⌝ }
+{
+    let mut i = 0;
+    while i < n {
+        if !zero_block(s, at + i) {
+            return false;
+        }
+        i += 64;
+    }
+    true
+}
+
 // Whether the n bytes at `at` are all zero, where n is a number of whole words.
 fn zero_words(s: &[u8], at: usize, n: usize) -> bool
     requires { ⌜ (at + n ≤ length (now s)) × (n % 8 ≡ 0) ⌝ }
@@ -320,10 +348,15 @@ pub fn all_zero(s: &[u8], at: usize, n: usize) -> bool
     requires { ⌜ at + n ≤ length (now s) ⌝ }
     ensures { λ r. ⌜ r ≡ zeros (part (now (s .entry)) at n) ⌝ }
 {
-    let rest = n % 8;
-    let whole = n - rest;
-    if !zero_words(s, at, whole) {
+    let short = n % 64;
+    let blocks = n - short;
+    if !zero_blocks(s, at, blocks) {
         return false;
     }
-    zero_bytes(s, at + whole, rest)
+    let rest = short % 8;
+    let words = short - rest;
+    if !zero_words(s, at + blocks, words) {
+        return false;
+    }
+    zero_bytes(s, at + blocks + words, rest)
 }

@@ -9,13 +9,12 @@ use Rattle.octets.specs.Bytes.{le, unle, num, splice}
 use Rattle.octets.specs.Sections.{concat, offset}
 use Rattle.octets.proofs.Laws.{length-le}
 use Rattle.octets.proofs.Sections.{set-section}
-use Rattle.rules.specs.State.{State}
+use Rattle.rules.specs.State.{Site, State, atTime, inView, withChange, withLogged}
 use Rattle.rules.specs.Image.{zeroBytes, headSection, sections}
 use Rattle.rules.specs.declared.Shape.{Shape}
 use Rattle.rules.proofs.Image.{head-at}
-use Rattle.places.specs.Layout.{Laid, Stands}
-use Rattle.places.specs.With.{withGroup, withReplica, withStatus, withView, withNormal, withClock, withSync, withCommit, withBoundary}
-use Rattle.places.proofs.Sections.{stands-fits, stands-laid, get-in, put-in}
+use Rattle.places.specs.Layout.{Midway}
+use Rattle.places.proofs.Sections.{Laid, midway-laid, get-in, put-in}
 
 -- the head's fields in their order
 abbrev headFields : State → List (List ℕ)
@@ -32,6 +31,10 @@ headFields st =
     ∷ le 8 (st .change .boundary)
     ∷ []
 
+-- the state of another site
+abbrev pub onSite : Site → State → State
+onSite x st = record { site = x; view = st .view; clock = st .clock; logged = st .logged; heard = st .heard; waiting = st .waiting; change = st .change }
+
 -- ---- field i, k bytes at `at`
 
 module _ {sh : Shape} {st : State} {b : List ℕ} (l : Laid sh st b) where
@@ -46,59 +49,59 @@ module _ {sh : Shape} {st : State} {b : List ℕ} (l : Laid sh st b) where
       put-in l next 0 at at (le k v) (lit< tt) (sym (zero-add at)) (rw length-le r) (ap (set (sections sh st) 0) m ∙ s) w
 
   -- ---- each field written
-  pub put-group : {b′ : List ℕ} (v : ℕ) → b′ ≡ splice b 0 (le 1 v) → Laid sh (withGroup st v) b′
-  put-group v = put-head (withGroup st v) 0 0 1 v (lit< tt) refl (lit≤ tt) (length-le 1 (st .site .group)) refl refl
+  pub put-group : {b′ : List ℕ} (v : ℕ) → b′ ≡ splice b 0 (le 1 v) → Laid sh (onSite (record { group = v; replica = st .site .replica }) st) b′
+  put-group v = put-head _ 0 0 1 v (lit< tt) refl (lit≤ tt) (length-le 1 (st .site .group)) refl refl
 
-  pub put-replica : {b′ : List ℕ} (v : ℕ) → b′ ≡ splice b 1 (le 1 v) → Laid sh (withReplica st v) b′
-  put-replica v = put-head (withReplica st v) 1 1 1 v (lit< tt) (simp length-le) (lit≤ tt) (length-le 1 (st .site .replica)) refl refl
+  pub put-replica : {b′ : List ℕ} (v : ℕ) → b′ ≡ splice b 1 (le 1 v) → Laid sh (onSite (record { group = st .site .group; replica = v }) st) b′
+  put-replica v = put-head _ 1 1 1 v (lit< tt) (simp length-le) (lit≤ tt) (length-le 1 (st .site .replica)) refl refl
 
-  pub put-status : {b′ : List ℕ} (v : ℕ) → b′ ≡ splice b 2 (le 1 v) → Laid sh (withStatus st v) b′
-  put-status v = put-head (withStatus st v) 2 2 1 v (lit< tt) (simp length-le) (lit≤ tt) (length-le 1 (st .view .status)) refl refl
+  pub put-status : {b′ : List ℕ} (v : ℕ) → b′ ≡ splice b 2 (le 1 v) → Laid sh (inView (record { gView = st .view .gView; gVec = st .view .gVec; normal = st .view .normal; status = v }) st) b′
+  put-status v = put-head _ 2 2 1 v (lit< tt) (simp length-le) (lit≤ tt) (length-le 1 (st .view .status)) refl refl
 
-  pub put-view : {b′ : List ℕ} (v : ℕ) → b′ ≡ splice b 8 (le 4 v) → Laid sh (withView st v) b′
-  put-view v = put-head (withView st v) 4 8 4 v (lit< tt) (simp length-le) (lit≤ tt) (length-le 4 (st .view .gView)) refl refl
+  pub put-view : {b′ : List ℕ} (v : ℕ) → b′ ≡ splice b 8 (le 4 v) → Laid sh (inView (record { gView = v; gVec = st .view .gVec; normal = st .view .normal; status = st .view .status }) st) b′
+  put-view v = put-head _ 4 8 4 v (lit< tt) (simp length-le) (lit≤ tt) (length-le 4 (st .view .gView)) refl refl
 
-  pub put-normal : {b′ : List ℕ} (v : ℕ) → b′ ≡ splice b 12 (le 4 v) → Laid sh (withNormal st v) b′
-  put-normal v = put-head (withNormal st v) 5 12 4 v (lit< tt) (simp length-le) (lit≤ tt) (length-le 4 (st .view .normal)) refl refl
+  pub put-normal : {b′ : List ℕ} (v : ℕ) → b′ ≡ splice b 12 (le 4 v) → Laid sh (inView (record { gView = st .view .gView; gVec = st .view .gVec; normal = v; status = st .view .status }) st) b′
+  put-normal v = put-head _ 5 12 4 v (lit< tt) (simp length-le) (lit≤ tt) (length-le 4 (st .view .normal)) refl refl
 
-  pub put-clock : {b′ : List ℕ} (v : ℕ) → b′ ≡ splice b 16 (le 8 v) → Laid sh (withClock st v) b′
-  put-clock v = put-head (withClock st v) 6 16 8 v (lit< tt) (simp length-le) (lit≤ tt) (length-le 8 (st .clock)) refl refl
+  pub put-clock : {b′ : List ℕ} (v : ℕ) → b′ ≡ splice b 16 (le 8 v) → Laid sh (atTime v st) b′
+  put-clock v = put-head _ 6 16 8 v (lit< tt) (simp length-le) (lit≤ tt) (length-le 8 (st .clock)) refl refl
 
-  pub put-sync : {b′ : List ℕ} (v : ℕ) → b′ ≡ splice b 24 (le 8 v) → Laid sh (withSync st v) b′
-  put-sync v = put-head (withSync st v) 7 24 8 v (lit< tt) (simp length-le) (lit≤ tt) (length-le 8 (st .logged .sync)) refl refl
+  pub put-sync : {b′ : List ℕ} (v : ℕ) → b′ ≡ splice b 24 (le 8 v) → Laid sh (withLogged (record { log = st .logged .log; sync = v; commit = st .logged .commit }) st) b′
+  put-sync v = put-head _ 7 24 8 v (lit< tt) (simp length-le) (lit≤ tt) (length-le 8 (st .logged .sync)) refl refl
 
-  pub put-commit : {b′ : List ℕ} (v : ℕ) → b′ ≡ splice b 32 (le 8 v) → Laid sh (withCommit st v) b′
-  put-commit v = put-head (withCommit st v) 8 32 8 v (lit< tt) (simp length-le) (lit≤ tt) (length-le 8 (st .logged .commit)) refl refl
+  pub put-commit : {b′ : List ℕ} (v : ℕ) → b′ ≡ splice b 32 (le 8 v) → Laid sh (withLogged (record { log = st .logged .log; sync = st .logged .sync; commit = v }) st) b′
+  put-commit v = put-head _ 8 32 8 v (lit< tt) (simp length-le) (lit≤ tt) (length-le 8 (st .logged .commit)) refl refl
 
-  pub put-boundary : {b′ : List ℕ} (v : ℕ) → b′ ≡ splice b 40 (le 8 v) → Laid sh (withBoundary st v) b′
-  put-boundary v = put-head (withBoundary st v) 9 40 8 v (lit< tt) (simp length-le) (lit≤ tt) (length-le 8 (st .change .boundary)) refl refl
+  pub put-boundary : {b′ : List ℕ} (v : ℕ) → b′ ≡ splice b 40 (le 8 v) → Laid sh (withChange (record { votes = st .change .votes; draft = st .change .draft; boundary = v; replies = st .change .replies }) st) b′
+  put-boundary v = put-head _ 9 40 8 v (lit< tt) (simp length-le) (lit≤ tt) (length-le 8 (st .change .boundary)) refl refl
 
--- ---- each field of a good state read
+-- ---- each field read
 
-module _ {sh : Shape} {st : State} {b : List ℕ} (s : Stands sh st b) where
+module _ {sh : Shape} {st : State} {b : List ℕ} (m : Midway sh st b) where
   pub group-of : num b 0 1 ≡ st .site .group
-  group-of = get-head (stands-laid s) 0 0 1 (st .site .group) (lit< tt) refl (lit≤ tt) refl (stands-fits s .group)
+  group-of = get-head (midway-laid m) 0 0 1 (st .site .group) (lit< tt) refl (lit≤ tt) refl (m .holds .group)
 
   pub replica-of : num b 1 1 ≡ st .site .replica
-  replica-of = get-head (stands-laid s) 1 1 1 (st .site .replica) (lit< tt) (simp length-le) (lit≤ tt) refl (stands-fits s .replica)
+  replica-of = get-head (midway-laid m) 1 1 1 (st .site .replica) (lit< tt) (simp length-le) (lit≤ tt) refl (m .holds .replica)
 
   pub status-of : num b 2 1 ≡ st .view .status
-  status-of = get-head (stands-laid s) 2 2 1 (st .view .status) (lit< tt) (simp length-le) (lit≤ tt) refl (stands-fits s .status)
+  status-of = get-head (midway-laid m) 2 2 1 (st .view .status) (lit< tt) (simp length-le) (lit≤ tt) refl (m .holds .status)
 
   pub view-of : num b 8 4 ≡ st .view .gView
-  view-of = get-head (stands-laid s) 4 8 4 (st .view .gView) (lit< tt) (simp length-le) (lit≤ tt) refl (stands-fits s .view)
+  view-of = get-head (midway-laid m) 4 8 4 (st .view .gView) (lit< tt) (simp length-le) (lit≤ tt) refl (m .holds .view)
 
   pub normal-of : num b 12 4 ≡ st .view .normal
-  normal-of = get-head (stands-laid s) 5 12 4 (st .view .normal) (lit< tt) (simp length-le) (lit≤ tt) refl (stands-fits s .normal)
+  normal-of = get-head (midway-laid m) 5 12 4 (st .view .normal) (lit< tt) (simp length-le) (lit≤ tt) refl (m .holds .normal)
 
   pub clock-of : num b 16 8 ≡ st .clock
-  clock-of = get-head (stands-laid s) 6 16 8 (st .clock) (lit< tt) (simp length-le) (lit≤ tt) refl (stands-fits s .clock)
+  clock-of = get-head (midway-laid m) 6 16 8 (st .clock) (lit< tt) (simp length-le) (lit≤ tt) refl (m .holds .clock)
 
   pub sync-of : num b 24 8 ≡ st .logged .sync
-  sync-of = get-head (stands-laid s) 7 24 8 (st .logged .sync) (lit< tt) (simp length-le) (lit≤ tt) refl (stands-fits s .sync)
+  sync-of = get-head (midway-laid m) 7 24 8 (st .logged .sync) (lit< tt) (simp length-le) (lit≤ tt) refl (m .holds .sync)
 
   pub commit-of : num b 32 8 ≡ st .logged .commit
-  commit-of = get-head (stands-laid s) 8 32 8 (st .logged .commit) (lit< tt) (simp length-le) (lit≤ tt) refl (stands-fits s .commit)
+  commit-of = get-head (midway-laid m) 8 32 8 (st .logged .commit) (lit< tt) (simp length-le) (lit≤ tt) refl (m .holds .commit)
 
   pub boundary-of : num b 40 8 ≡ st .change .boundary
-  boundary-of = get-head (stands-laid s) 9 40 8 (st .change .boundary) (lit< tt) (simp length-le) (lit≤ tt) refl (stands-fits s .boundary)
+  boundary-of = get-head (midway-laid m) 9 40 8 (st .change .boundary) (lit< tt) (simp length-le) (lit≤ tt) refl (m .holds .boundary)

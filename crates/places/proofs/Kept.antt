@@ -14,15 +14,14 @@ use Rattle.octets.proofs.Laws.{Bytes, length-le, part-past}
 use Rattle.octets.proofs.Sections.{part-whole}
 use Rattle.octets.proofs.Codecs.{All, number, length-items, peel-all, exact-number}
 use Rattle.rules.specs.Choice.{pick, count, isSome}
-use Rattle.rules.specs.State.{Vote, State, held}
+use Rattle.rules.specs.State.{Vote, State, held, inView, withChange, withHeard}
 use Rattle.rules.specs.Image.{tableLength, voteLength, replyLength, lengths, zeroBytes, headSection, pointBytes, tableBytes, voteBytes, replyBytes, sections, pointAt, tableAt, voteAt, replyAt, atGVec, atHeard, atReplies, atVotes}
 use Rattle.rules.specs.declared.Entry.{Entry}
 use Rattle.rules.specs.declared.Shape.{Shape}
 use Rattle.rules.proofs.Tests.{all-1, all-at}
 use Rattle.rules.proofs.Tables.{point, TableFits, table-long, VoteIs, VoteFits, vote, ReplyFits, reply}
-use Rattle.places.specs.Layout.{startOf, ownBytes, Laid, Stands}
-use Rattle.places.specs.With.{withGVec, withHeard, withVotes, withReplies}
-use Rattle.places.proofs.Sections.{stands-fits, stands-laid, long-at, get-in, drop-all, put-in, put-all}
+use Rattle.places.specs.Layout.{startOf, ownBytes, Midway}
+use Rattle.places.proofs.Sections.{Laid, midway-laid, long-at, get-in, drop-all, put-in, put-all}
 use Rattle.places.proofs.Rows.{within, Even, long-row, places-row, get-row, set-row, row-at}
 use Rattle.places.proofs.Head.{get-head}
 use Rattle.places.proofs.Tables.{log-part}
@@ -66,40 +65,40 @@ module _ {sh : Shape} {st : State} {b : List ℕ} (l : Laid sh st b) where
       put-in l next i (k * r) (startOf sh i + k * r) (put y) h refl v
       (ap (λ (x : List ℕ). set (sections sh st) i (splice x (k * r) (put y))) s ∙ ap (set (sections sh st) i) (set-row put k xs r y f e u) ∙ q) w
 
-  pub put-views : {b′ : List ℕ} (xs : List ℕ) → length xs ≡ sh .s → b′ ≡ splice b (startOf sh atGVec) (flat (le 4) xs) → Laid sh (withGVec st xs) b′
+  pub put-views : {b′ : List ℕ} (xs : List ℕ) → length xs ≡ sh .s → b′ ≡ splice b (startOf sh atGVec) (flat (le 4) xs) → Laid sh (inView (record { gView = st .view .gView; gVec = xs; normal = st .view .normal; status = st .view .status }) st) b′
   unfolding headSection
-  put-views xs e = put-all l (withGVec st xs) 1 (startOf sh atGVec) (flat (le 4) xs) (lit< tt) refl (long-row (le 4) 4 xs (even-views xs) ∙ ap (λ (n : ℕ). 4 * n) e) refl
+  put-views xs e = put-all l (inView (record { gView = st .view .gView; gVec = xs; normal = st .view .normal; status = st .view .status }) st) 1 (startOf sh atGVec) (flat (le 4) xs) (lit< tt) refl (long-row (le 4) 4 xs (even-views xs) ∙ ap (λ (n : ℕ). 4 * n) e) refl
 
-  pub put-heard : {b′ : List ℕ} (r : ℕ) (p : Option ℕ) → r < sh .n → b′ ≡ splice b (startOf sh atHeard + 9 * r) (pointBytes p) → Laid sh (withHeard st (set (st .heard) r p)) b′
+  pub put-heard : {b′ : List ℕ} (r : ℕ) (p : Option ℕ) → r < sh .n → b′ ≡ splice b (startOf sh atHeard + 9 * r) (pointBytes p) → Laid sh (withHeard (set (st .heard) r p) st) b′
   unfolding headSection
-  put-heard r p h = put-place pointBytes 9 (sh .n) 2 r (st .heard) p (withHeard st (set (st .heard) r p)) (lit< tt) refl refl (lit< tt) (even-points (st .heard)) (point-long p) h refl
+  put-heard r p h = put-place pointBytes 9 (sh .n) 2 r (st .heard) p (withHeard (set (st .heard) r p) st) (lit< tt) refl refl (lit< tt) (even-points (st .heard)) (point-long p) h refl
 
-  pub put-vote : {b′ : List ℕ} (r : ℕ) (v : Vote) → Even (voteBytes (sh .c)) (voteLength (sh .c)) (st .change .votes) → length (v .log) ≤ sh .c → r < sh .n → b′ ≡ splice b (startOf sh atVotes + voteLength (sh .c) * r) (voteBytes (sh .c) (some v)) → Laid sh (withVotes st (set (st .change .votes) r (some v))) b′
+  pub put-vote : {b′ : List ℕ} (r : ℕ) (v : Vote) → Even (voteBytes (sh .c)) (voteLength (sh .c)) (st .change .votes) → length (v .log) ≤ sh .c → r < sh .n → b′ ≡ splice b (startOf sh atVotes + voteLength (sh .c) * r) (voteBytes (sh .c) (some v)) → Laid sh (withChange (record { votes = set (st .change .votes) r (some v); draft = st .change .draft; boundary = st .change .boundary; replies = st .change .replies }) st) b′
   unfolding headSection
-  put-vote r v f e h = put-place (voteBytes (sh .c)) (voteLength (sh .c)) (sh .n) 7 r (st .change .votes) (some v) (withVotes st (set (st .change .votes) r (some v))) (lit< tt) refl refl (omega arith) f (vote-long (sh .c) v e) h refl
+  put-vote r v f e h = put-place (voteBytes (sh .c)) (voteLength (sh .c)) (sh .n) 7 r (st .change .votes) (some v) (withChange (record { votes = set (st .change .votes) r (some v); draft = st .change .draft; boundary = st .change .boundary; replies = st .change .replies }) st) (lit< tt) refl refl (omega arith) f (vote-long (sh .c) v e) h refl
 
-  pub put-reply : {b′ : List ℕ} (j : ℕ) (es : List Entry) → Even (replyBytes (sh .c)) (replyLength (sh .c)) (st .change .replies) → length es ≤ sh .c → j < sh .s → b′ ≡ splice b (startOf sh atReplies + replyLength (sh .c) * j) (replyBytes (sh .c) (some es)) → Laid sh (withReplies st (set (st .change .replies) j (some es))) b′
+  pub put-reply : {b′ : List ℕ} (j : ℕ) (es : List Entry) → Even (replyBytes (sh .c)) (replyLength (sh .c)) (st .change .replies) → length es ≤ sh .c → j < sh .s → b′ ≡ splice b (startOf sh atReplies + replyLength (sh .c) * j) (replyBytes (sh .c) (some es)) → Laid sh (withChange (record { votes = st .change .votes; draft = st .change .draft; boundary = st .change .boundary; replies = set (st .change .replies) j (some es) }) st) b′
   unfolding headSection
-  put-reply j es f e h = put-place (replyBytes (sh .c)) (replyLength (sh .c)) (sh .s) 9 j (st .change .replies) (some es) (withReplies st (set (st .change .replies) j (some es))) (lit< tt) refl refl (omega arith) f (reply-long (sh .c) es e) h refl
+  put-reply j es f e h = put-place (replyBytes (sh .c)) (replyLength (sh .c)) (sh .s) 9 j (st .change .replies) (some es) (withChange (record { votes = st .change .votes; draft = st .change .draft; boundary = st .change .boundary; replies = set (st .change .replies) j (some es) }) st) (lit< tt) refl refl (omega arith) f (reply-long (sh .c) es e) h refl
 
   -- zeros over a section of which zeros are the form
   put-zeros : {b′ : List ℕ} (next : State) (i n : ℕ) (x : List ℕ) → i < 10 → x ≡ zeroBytes n → n ≡ getD (lengths sh) i 0 → set (sections sh st) i x ≡ sections sh next → b′ ≡ splice b (startOf sh i) (zeroBytes n) → Laid sh next b′
   put-zeros next i n x h e r q w = put-all l next i (startOf sh i) x h refl (ap length e ∙ length-replicate {A = ℕ} n 0 ∙ r) q (w ∙ ap (splice b (startOf sh i)) (sym e))
 
-  pub clear-heard : {b′ : List ℕ} → b′ ≡ splice b (startOf sh atHeard) (replicate (9 * sh .n) 0) → Laid sh (withHeard st (replicate (sh .n) none)) b′
+  pub clear-heard : {b′ : List ℕ} → b′ ≡ splice b (startOf sh atHeard) (replicate (9 * sh .n) 0) → Laid sh (withHeard (replicate (sh .n) none) st) b′
   unfolding headSection
-  clear-heard = put-zeros (withHeard st (replicate (sh .n) none)) 2 (9 * sh .n) (flat pointBytes (replicate (sh .n) none)) (lit< tt) (heard-zeros (sh .n)) refl refl
+  clear-heard = put-zeros (withHeard (replicate (sh .n) none) st) 2 (9 * sh .n) (flat pointBytes (replicate (sh .n) none)) (lit< tt) (heard-zeros (sh .n)) refl refl
 
-  pub clear-votes : {b′ : List ℕ} → b′ ≡ splice b (startOf sh atVotes) (replicate (voteLength (sh .c) * sh .n) 0) → Laid sh (withVotes st (replicate (sh .n) none)) b′
+  pub clear-votes : {b′ : List ℕ} → b′ ≡ splice b (startOf sh atVotes) (replicate (voteLength (sh .c) * sh .n) 0) → Laid sh (withChange (record { votes = replicate (sh .n) none; draft = st .change .draft; boundary = st .change .boundary; replies = st .change .replies }) st) b′
   unfolding headSection
-  clear-votes = put-zeros (withVotes st (replicate (sh .n) none)) 7 (voteLength (sh .c) * sh .n) (flat (voteBytes (sh .c)) (replicate (sh .n) none)) (lit< tt) (votes-zeros (sh .c) (sh .n)) refl refl
+  clear-votes = put-zeros (withChange (record { votes = replicate (sh .n) none; draft = st .change .draft; boundary = st .change .boundary; replies = st .change .replies }) st) 7 (voteLength (sh .c) * sh .n) (flat (voteBytes (sh .c)) (replicate (sh .n) none)) (lit< tt) (votes-zeros (sh .c) (sh .n)) refl refl
 
-  pub clear-replies : {b′ : List ℕ} → b′ ≡ splice b (startOf sh atReplies) (replicate (replyLength (sh .c) * sh .s) 0) → Laid sh (withReplies st (replicate (sh .s) none)) b′
+  pub clear-replies : {b′ : List ℕ} → b′ ≡ splice b (startOf sh atReplies) (replicate (replyLength (sh .c) * sh .s) 0) → Laid sh (withChange (record { votes = st .change .votes; draft = st .change .draft; boundary = st .change .boundary; replies = replicate (sh .s) none }) st) b′
   unfolding headSection
-  clear-replies = put-zeros (withReplies st (replicate (sh .s) none)) 9 (replyLength (sh .c) * sh .s) (flat (replyBytes (sh .c)) (replicate (sh .s) none)) (lit< tt) (replies-zeros (sh .c) (sh .s)) refl refl
+  clear-replies = put-zeros (withChange (record { votes = st .change .votes; draft = st .change .draft; boundary = st .change .boundary; replies = replicate (sh .s) none }) st) 9 (replyLength (sh .c) * sh .s) (flat (replyBytes (sh .c)) (replicate (sh .s) none)) (lit< tt) (replies-zeros (sh .c) (sh .s)) refl refl
 
   -- ---- the own vote, of a state on the way whose three numbers fit their bytes
-  pub put-own-vote : {b′ : List ℕ} → Even (voteBytes (sh .c)) (voteLength (sh .c)) (st .change .votes) → length (st .logged .log) ≤ sh .c → st .site .replica < sh .n → st .site .replica < 256 → st .view .normal < 256 ^ 4 → st .logged .sync < 256 ^ 8 → b′ ≡ splice b (startOf sh atVotes + voteLength (sh .c) * num b 1 1) (ownBytes sh b) → Laid sh (withVotes st (set (st .change .votes) (st .site .replica) (some (record { normal = st .view .normal; sync = st .logged .sync; log = st .logged .log })))) b′
+  pub put-own-vote : {b′ : List ℕ} → Even (voteBytes (sh .c)) (voteLength (sh .c)) (st .change .votes) → length (st .logged .log) ≤ sh .c → st .site .replica < sh .n → st .site .replica < 256 → st .view .normal < 256 ^ 4 → st .logged .sync < 256 ^ 8 → b′ ≡ splice b (startOf sh atVotes + voteLength (sh .c) * num b 1 1) (ownBytes sh b) → Laid sh (withChange (record { votes = set (st .change .votes) (st .site .replica) (some (record { normal = st .view .normal; sync = st .logged .sync; log = st .logged .log })); draft = st .change .draft; boundary = st .change .boundary; replies = st .change .replies }) st) b′
   unfolding ownBytes voteBytes
   put-own-vote f e h fr fn fs w =
       let er : num b 1 1 ≡ st .site .replica = get-head l 1 1 1 (st .site .replica) (lit< tt) (simp length-le) (lit≤ tt) refl fr in
@@ -153,45 +152,45 @@ reply-body c es h = part-past (le 1 1) (tableBytes c es) 1 1 (tableLength c) (le
 
 -- ---- read
 
-module _ {sh : Shape} {st : State} {b : List ℕ} (s : Stands sh st b) where
+module _ {sh : Shape} {st : State} {b : List ℕ} (m : Midway sh st b) where
   pub even-votes : Even (voteBytes (sh .c)) (voteLength (sh .c)) (st .change .votes)
-  even-votes = all-1 (vote (sh .c) .long) (st .change .votes) (stands-fits s .votes)
+  even-votes = all-1 (vote (sh .c) .long) (st .change .votes) (m .holds .votes)
 
   pub even-replies : Even (replyBytes (sh .c)) (replyLength (sh .c)) (st .change .replies)
-  even-replies = all-1 (reply (sh .c) .long) (st .change .replies) (stands-fits s .replies)
+  even-replies = all-1 (reply (sh .c) .long) (st .change .replies) (m .holds .replies)
 
   pub view-at : (j : ℕ) → j < sh .s → num b (startOf sh atGVec + 4 * j) 4 ≡ getD (st .view .gVec) j 0
   view-at j h =
-      let m : length (st .view .gVec) ≡ sh .s = stands-fits s .gVecPlaces in
-      row-at (number 4) b (startOf sh atGVec) (st .view .gVec) _ 0 j (stands-fits s .gVec) (drop-all (stands-laid s) 1 (startOf sh atGVec) (lit< tt) refl) (omega arith)
+      let n : length (st .view .gVec) ≡ sh .s = m .holds .gVecPlaces in
+      row-at (number 4) b (startOf sh atGVec) (st .view .gVec) _ 0 j (m .holds .gVec) (drop-all (midway-laid m) 1 (startOf sh atGVec) (lit< tt) refl) (omega arith)
 
   pub heard-at : (r : ℕ) → r < sh .n → pointAt b (startOf sh atHeard + 9 * r) ≡ getD (st .heard) r none
   heard-at r h =
-      let m : length (st .heard) ≡ sh .n = stands-fits s .heardPlaces in
-      row-at point b (startOf sh atHeard) (st .heard) _ none r (stands-fits s .heard) (drop-all (stands-laid s) 2 (startOf sh atHeard) (lit< tt) refl) (omega arith)
+      let n : length (st .heard) ≡ sh .n = m .holds .heardPlaces in
+      row-at point b (startOf sh atHeard) (st .heard) _ none r (m .holds .heard) (drop-all (midway-laid m) 2 (startOf sh atHeard) (lit< tt) refl) (omega arith)
 
   pub vote-at : (r : ℕ) → r < sh .n → voteAt (sh .c) b (startOf sh atVotes + voteLength (sh .c) * r) ≡ getD (st .change .votes) r none
   vote-at r h =
-      let m : length (st .change .votes) ≡ sh .n = stands-fits s .votePlaces in
-      row-at (vote (sh .c)) b (startOf sh atVotes) (st .change .votes) _ none r (stands-fits s .votes) (drop-all (stands-laid s) 7 (startOf sh atVotes) (lit< tt) refl) (omega arith)
+      let n : length (st .change .votes) ≡ sh .n = m .holds .votePlaces in
+      row-at (vote (sh .c)) b (startOf sh atVotes) (st .change .votes) _ none r (m .holds .votes) (drop-all (midway-laid m) 7 (startOf sh atVotes) (lit< tt) refl) (omega arith)
 
   pub reply-at : (j : ℕ) → j < sh .s → replyAt (sh .c) b (startOf sh atReplies + replyLength (sh .c) * j) ≡ getD (st .change .replies) j none
   reply-at j h =
-      let m : length (st .change .replies) ≡ sh .s = stands-fits s .replyPlaces in
-      row-at (reply (sh .c)) b (startOf sh atReplies) (st .change .replies) _ none j (stands-fits s .replies) (drop-all (stands-laid s) 9 (startOf sh atReplies) (lit< tt) refl) (omega arith)
+      let n : length (st .change .replies) ≡ sh .s = m .holds .replyPlaces in
+      row-at (reply (sh .c)) b (startOf sh atReplies) (st .change .replies) _ none j (m .holds .replies) (drop-all (midway-laid m) 9 (startOf sh atReplies) (lit< tt) refl) (omega arith)
 
   -- ---- of what is kept
   pub heard-point : (r p : ℕ) → r < sh .n → getD (st .heard) r none ≡ some p → num b (startOf sh atHeard + 9 * r + 1) 8 ≡ p
   heard-point r p h e = point-is b (startOf sh atHeard + 9 * r) p (heard-at r h ∙ e)
 
   -- inside place r of a section that is a row of n things, each of k bytes
-  get-place : {A : Type 0} (put : A → List ℕ) (k n i r j m : ℕ) (xs : List A) (d : A) → i < 10 → getD (sections sh st) i [] ≡ flat put xs → getD (lengths sh) i 0 ≡ k * n → Even put k xs → length xs ≡ n → r < n → j + m ≤ k → part b (startOf sh i + k * r + j) m ≡ part (put (getD xs r d)) j m
-  get-place put k n i r j m xs d h q z f e u v =
-      let w : k * r + j + m ≤ getD (lengths sh) i 0 = omega (arith, within k r n u) in
+  get-place : {A : Type 0} (put : A → List ℕ) (k n i r j g : ℕ) (xs : List A) (d : A) → i < 10 → getD (sections sh st) i [] ≡ flat put xs → getD (lengths sh) i 0 ≡ k * n → Even put k xs → length xs ≡ n → r < n → j + g ≤ k → part b (startOf sh i + k * r + j) g ≡ part (put (getD xs r d)) j g
+  get-place put k n i r j g xs d h q z f e u v =
+      let w : k * r + j + g ≤ getD (lengths sh) i 0 = omega (arith, within k r n u) in
       let y : r < length xs = omega arith in
-      get-in (stands-laid s) i (k * r + j) (startOf sh i + k * r + j) m h (add-assoc (startOf sh i) (k * r) j) w
-      ∙ ap (λ (x : List ℕ). part x (k * r + j) m) q
-      ∙ get-row put k d xs r j m f y v
+      get-in (midway-laid m) i (k * r + j) (startOf sh i + k * r + j) g h (add-assoc (startOf sh i) (k * r) j) w
+      ∙ ap (λ (x : List ℕ). part x (k * r + j) g) q
+      ∙ get-row put k d xs r j g f y v
 
   module _ (r : ℕ) (v : Vote) (h : r < sh .n) (e : getD (st .change .votes) r none ≡ some v) where
     pub vote-normal : num b (startOf sh atVotes + voteLength (sh .c) * r + 1) 4 ≡ v .normal
@@ -202,31 +201,31 @@ module _ {sh : Shape} {st : State} {b : List ℕ} (s : Stands sh st b) where
 
     pub vote-fits : VoteIs (sh .c) v
     vote-fits =
-        let m : length (st .change .votes) ≡ sh .n = stands-fits s .votePlaces in
-        let f : VoteFits (sh .c) (getD (st .change .votes) r none) = all-at (VoteFits (sh .c)) none (st .change .votes) (stands-fits s .votes) r (omega arith) in
+        let n : length (st .change .votes) ≡ sh .n = m .holds .votePlaces in
+        let f : VoteFits (sh .c) (getD (st .change .votes) r none) = all-at (VoteFits (sh .c)) none (st .change .votes) (m .holds .votes) r (omega arith) in
         rw e at f
 
     pub vote-table : part b (startOf sh atVotes + voteLength (sh .c) * r + 13) (tableLength (sh .c)) ≡ tableBytes (sh .c) (v .log)
     vote-table =
-        get-place (voteBytes (sh .c)) (voteLength (sh .c)) (sh .n) 7 r 13 (tableLength (sh .c)) (st .change .votes) none (lit< tt) refl refl even-votes (stands-fits s .votePlaces) h (omega arith)
+        get-place (voteBytes (sh .c)) (voteLength (sh .c)) (sh .n) 7 r 13 (tableLength (sh .c)) (st .change .votes) none (lit< tt) refl refl even-votes (m .holds .votePlaces) h (omega arith)
         ∙ ap (λ (x : Option Vote). part (voteBytes (sh .c) x) 13 (tableLength (sh .c))) e
         ∙ vote-body (sh .c) v (vote-fits .log .room)
 
   module _ (j : ℕ) (es : List Entry) (h : j < sh .s) (e : getD (st .change .replies) j none ≡ some es) where
     pub reply-fits : TableFits (sh .c) es
     reply-fits =
-        let m : length (st .change .replies) ≡ sh .s = stands-fits s .replyPlaces in
-        let f : ReplyFits (sh .c) (getD (st .change .replies) j none) = all-at (ReplyFits (sh .c)) none (st .change .replies) (stands-fits s .replies) j (omega arith) in
+        let n : length (st .change .replies) ≡ sh .s = m .holds .replyPlaces in
+        let f : ReplyFits (sh .c) (getD (st .change .replies) j none) = all-at (ReplyFits (sh .c)) none (st .change .replies) (m .holds .replies) j (omega arith) in
         rw e at f
 
     pub reply-table : part b (startOf sh atReplies + replyLength (sh .c) * j + 1) (tableLength (sh .c)) ≡ tableBytes (sh .c) es
     reply-table =
-        get-place (replyBytes (sh .c)) (replyLength (sh .c)) (sh .s) 9 j 1 (tableLength (sh .c)) (st .change .replies) none (lit< tt) refl refl even-replies (stands-fits s .replyPlaces) h (omega arith)
+        get-place (replyBytes (sh .c)) (replyLength (sh .c)) (sh .s) 9 j 1 (tableLength (sh .c)) (st .change .replies) none (lit< tt) refl refl even-replies (m .holds .replyPlaces) h (omega arith)
         ∙ ap (λ (x : Option (List Entry)). part (replyBytes (sh .c) x) 1 (tableLength (sh .c))) e
         ∙ reply-body (sh .c) es (reply-fits .room)
 
   pub votes-held : count (λ r. isSome (voteAt (sh .c) b (startOf sh atVotes + voteLength (sh .c) * r))) (sh .n) ≡ held (st .change .votes)
-  votes-held = count-like _ _ (sh .n) (λ r h. ap isSome (vote-at r h)) ∙ ap (count (λ i. isSome (getD (st .change .votes) i none))) (sym (stands-fits s .votePlaces))
+  votes-held = count-like _ _ (sh .n) (λ r h. ap isSome (vote-at r h)) ∙ ap (count (λ i. isSome (getD (st .change .votes) i none))) (sym (m .holds .votePlaces))
 
   pub replies-held : count (λ j. isSome (replyAt (sh .c) b (startOf sh atReplies + replyLength (sh .c) * j))) (sh .s) ≡ held (st .change .replies)
-  replies-held = count-like _ _ (sh .s) (λ j h. ap isSome (reply-at j h)) ∙ ap (count (λ i. isSome (getD (st .change .replies) i none))) (sym (stands-fits s .replyPlaces))
+  replies-held = count-like _ _ (sh .s) (λ j h. ap isSome (reply-at j h)) ∙ ap (count (λ i. isSome (getD (st .change .replies) i none))) (sym (m .holds .replyPlaces))

@@ -8,3 +8,6 @@ pub mod Kept
 pub mod Spots
 pub mod Writes
 pub mod Lent
+pub mod Midway
+pub mod Fields
+pub mod Logged

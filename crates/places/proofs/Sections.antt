@@ -1,6 +1,6 @@
 -- Bytes that hold a state, section by section: what stands in a section, and what a write into it leaves. Assumes nothing.
 use Prim.Native.Nat.{ℕ, zero, suc, _+_, _*_, _%_, _≤_, _<_}
-use mathlib.Core.Path.{_≡_, refl, sym, ap, _∙_}
+use mathlib.Core.Path.{_≡_, refl, sym, ap, subst, _∙_}
 use mathlib.Core.Bool.{Bool, true, false, _&&_, _||_, true≢false}
 use mathlib.Core.List.{List, [], _∷_, _++_, map}
 use native.Mathlib.Omega.{arith}
@@ -8,7 +8,7 @@ use native.Mathlib.Nat.{mul-le-mul}
 use lib.ListN.{length, take, drop, getD, set, List·getD-map}
 use lib.Seq.{map-set-same}
 use lib.Dec.{eqb, leb}
-use borrow.Author.Tests.{eqb-true}
+use borrow.Author.Tests.{eqb-true, ltb-true}
 use Rattle.octets.specs.Bytes.{part, splice}
 use Rattle.octets.specs.Sections.{concat, offset, total}
 use Rattle.octets.proofs.Laws.{length-splice, splice-home}
@@ -19,9 +19,10 @@ use Rattle.rules.specs.Image.{tableLength, noteLength, voteLength, replyLength,
 use Rattle.rules.specs.declared.Shape.{Shape}
 use Rattle.rules.proofs.Tests.{and-l}
 use Rattle.rules.proofs.Entries.{drop-section}
-use Rattle.rules.proofs.Image.{StateFits, long-sections, length-total}
+use Rattle.rules.proofs.Conjuncts.{good-is}
+use Rattle.rules.proofs.Image.{StateFits, long-sections, length-total, state-back}
 use Rattle.rules.proofs.Good.{room, shape-sizes, good-state, good-bytes}
-use Rattle.places.specs.Layout.{startOf, placesOf, Marks, Fits, Laid, Stands, atEnd}
+use Rattle.places.specs.Layout.{startOf, placesOf, Marks, Fits, Sized, Midway, Stands, Own, atEnd}
 use Rattle.places.specs.declared.Places.{Places}
 
 -- ---- a shape in range
@@ -86,17 +87,53 @@ stands sh b e =
     let g = good-bytes sh b e in
     record { fits = fits sh (g .fits); shape = g .fits; good = g .good; bytes = sym (g .bytes); size = g .long }
 
+module _ {sh : Shape} {st : State} {b : List ℕ} (s : Stands sh st b) where
+  pub stands-fits : StateFits sh st
+  stands-fits = good-state sh (s .shape) st (s .good)
+
+  -- a good state is on the way
+  pub stands-midway : Midway sh st b
+  stands-midway = record { fits = s .fits; holds = stands-fits; bytes = s .bytes; size = s .size }
+
+  pub stands-own : Own sh st
+  stands-own = let g = good-is sh st (s .good) .ranges in record { group = ltb-true _ _ (g .group); replica = ltb-true _ _ (g .replica) }
+
+module _ {sh : Shape} {st : State} {b : List ℕ} (m : Midway sh st b) where
+  -- the state on the way is the one that is read from the bytes
+  pub midway-is : stateOf sh b ≡ st
+  midway-is = ap (stateOf sh) (m .bytes) ∙ state-back sh st (m .holds)
+
+  pub midway-here : Midway sh (stateOf sh b) b
+  midway-here = subst (λ (x : State). Midway sh x b) (sym midway-is) m
+
+  pub midway-sized : Sized sh b
+  midway-sized = record { fits = m .fits; size = m .size }
+
+-- ---- bytes that are being written: those of a state section by section, whether or not its numbers fit theirs
+
+pub record Laid (sh : Shape) (st : State) (b : List ℕ) : Type 0 where
+  pub bytes : b ≡ image sh st
+  pub long : map length (sections sh st) ≡ lengths sh
+  pub size : length b ≡ stateLength sh
+
 module _ {sh : Shape} {st : State} where
   pub lay : {b : List ℕ} → b ≡ image sh st → map length (sections sh st) ≡ lengths sh → Laid sh st b
   unfolding image
   lay e h = record { bytes = e; long = h; size = ap length e ∙ (length-total (sections sh st) ∙ ap total h) }
 
-  module _ {b : List ℕ} (s : Stands sh st b) where
-    pub stands-fits : StateFits sh st
-    stands-fits = good-state sh (s .shape) st (s .good)
+  -- bytes that are a state's image are laid as any other that are
+  pub laid-as : {b b′ : List ℕ} → Laid sh st b → b′ ≡ image sh st → Laid sh st b′
+  laid-as l e = lay e (l .long)
 
-    pub stands-laid : Laid sh st b
-    stands-laid = record { bytes = s .bytes; long = long-sections sh st stands-fits; size = s .size }
+  pub midway-laid : {b : List ℕ} → Midway sh st b → Laid sh st b
+  midway-laid m = lay (m .bytes) (long-sections sh st (m .holds))
+
+  pub stands-laid : {b : List ℕ} → Stands sh st b → Laid sh st b
+  stands-laid s = midway-laid (stands-midway s)
+
+  -- what was written is on the way where it fits
+  pub laid-midway : {b : List ℕ} → Fits sh → StateFits sh st → Laid sh st b → Midway sh st b
+  laid-midway z f l = record { fits = z; holds = f; bytes = l .bytes; size = l .size }
 
 -- ---- section i
 

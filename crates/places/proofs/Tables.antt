@@ -5,14 +5,13 @@ use mathlib.Core.List.{List}
 use lib.ListN.{length, getD, set}
 use lib.Dec.{lit<}
 use Rattle.octets.specs.Bytes.{part, splice}
-use Rattle.rules.specs.State.{Note, State}
+use Rattle.rules.specs.State.{Note, State, withChange, withLogged, withWaiting}
 use Rattle.rules.specs.Image.{tableLength, noteLength, lengths, headSection, tableBytes, notesSection, sections, atDraft, atEarly, atLate, atLog, atNotes}
 use Rattle.rules.specs.declared.Entry.{Entry}
 use Rattle.rules.specs.declared.Shape.{Shape}
 use Rattle.rules.proofs.Tables.{table-long}
-use Rattle.places.specs.Layout.{startOf, Laid}
-use Rattle.places.specs.With.{withLog, withEarly, withLate, withNotes, withDraft}
-use Rattle.places.proofs.Sections.{get-all, put-all}
+use Rattle.places.specs.Layout.{startOf}
+use Rattle.places.proofs.Sections.{Laid, get-all, put-all}
 
 module _ {sh : Shape} {st : State} {b : List ℕ} (l : Laid sh st b) where
   -- ---- read
@@ -35,22 +34,22 @@ module _ {sh : Shape} {st : State} {b : List ℕ} (l : Laid sh st b) where
   put-table : {b′ : List ℕ} (next : State) (i : ℕ) (es : List Entry) → i < 10 → tableLength (sh .c) ≡ getD (lengths sh) i 0 → set (sections sh st) i (tableBytes (sh .c) es) ≡ sections sh next → length es ≤ sh .c → b′ ≡ splice b (startOf sh i) (tableBytes (sh .c) es) → Laid sh next b′
   put-table next i es h e q r w = put-all l next i (startOf sh i) (tableBytes (sh .c) es) h refl (rw (table-long (sh .c) es r) e) q w
 
-  pub put-log : {b′ : List ℕ} (es : List Entry) → length es ≤ sh .c → b′ ≡ splice b (startOf sh atLog) (tableBytes (sh .c) es) → Laid sh (withLog st es) b′
+  pub put-log : {b′ : List ℕ} (es : List Entry) → length es ≤ sh .c → b′ ≡ splice b (startOf sh atLog) (tableBytes (sh .c) es) → Laid sh (withLogged (record { log = es; sync = st .logged .sync; commit = st .logged .commit }) st) b′
   unfolding headSection
-  put-log es = put-table (withLog st es) 3 es (lit< tt) refl refl
+  put-log es = put-table (withLogged (record { log = es; sync = st .logged .sync; commit = st .logged .commit }) st) 3 es (lit< tt) refl refl
 
-  pub put-early : {b′ : List ℕ} (es : List Entry) → length es ≤ sh .c → b′ ≡ splice b (startOf sh atEarly) (tableBytes (sh .c) es) → Laid sh (withEarly st es) b′
+  pub put-early : {b′ : List ℕ} (es : List Entry) → length es ≤ sh .c → b′ ≡ splice b (startOf sh atEarly) (tableBytes (sh .c) es) → Laid sh (withWaiting (record { early = es; late = st .waiting .late; notes = st .waiting .notes }) st) b′
   unfolding headSection
-  put-early es = put-table (withEarly st es) 4 es (lit< tt) refl refl
+  put-early es = put-table (withWaiting (record { early = es; late = st .waiting .late; notes = st .waiting .notes }) st) 4 es (lit< tt) refl refl
 
-  pub put-late : {b′ : List ℕ} (es : List Entry) → length es ≤ sh .c → b′ ≡ splice b (startOf sh atLate) (tableBytes (sh .c) es) → Laid sh (withLate st es) b′
+  pub put-late : {b′ : List ℕ} (es : List Entry) → length es ≤ sh .c → b′ ≡ splice b (startOf sh atLate) (tableBytes (sh .c) es) → Laid sh (withWaiting (record { early = st .waiting .early; late = es; notes = st .waiting .notes }) st) b′
   unfolding headSection
-  put-late es = put-table (withLate st es) 5 es (lit< tt) refl refl
+  put-late es = put-table (withWaiting (record { early = st .waiting .early; late = es; notes = st .waiting .notes }) st) 5 es (lit< tt) refl refl
 
-  pub put-draft : {b′ : List ℕ} (es : List Entry) → length es ≤ sh .c → b′ ≡ splice b (startOf sh atDraft) (tableBytes (sh .c) es) → Laid sh (withDraft st es) b′
+  pub put-draft : {b′ : List ℕ} (es : List Entry) → length es ≤ sh .c → b′ ≡ splice b (startOf sh atDraft) (tableBytes (sh .c) es) → Laid sh (withChange (record { votes = st .change .votes; draft = es; boundary = st .change .boundary; replies = st .change .replies }) st) b′
   unfolding headSection
-  put-draft es = put-table (withDraft st es) 8 es (lit< tt) refl refl
+  put-draft es = put-table (withChange (record { votes = st .change .votes; draft = es; boundary = st .change .boundary; replies = st .change .replies }) st) 8 es (lit< tt) refl refl
 
-  pub put-notes : {b′ : List ℕ} (xs : List Note) → length (notesSection sh xs) ≡ 4 + noteLength (sh .s) * sh .c → b′ ≡ splice b (startOf sh atNotes) (notesSection sh xs) → Laid sh (withNotes st xs) b′
+  pub put-notes : {b′ : List ℕ} (xs : List Note) → length (notesSection sh xs) ≡ 4 + noteLength (sh .s) * sh .c → b′ ≡ splice b (startOf sh atNotes) (notesSection sh xs) → Laid sh (withWaiting (record { early = st .waiting .early; late = st .waiting .late; notes = xs }) st) b′
   unfolding headSection
-  put-notes xs r = put-all l (withNotes st xs) 6 (startOf sh atNotes) (notesSection sh xs) (lit< tt) refl r refl
+  put-notes xs r = put-all l (withWaiting (record { early = st .waiting .early; late = st .waiting .late; notes = xs }) st) 6 (startOf sh atNotes) (notesSection sh xs) (lit< tt) refl r refl

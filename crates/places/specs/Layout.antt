@@ -1,16 +1,17 @@
 -- Where each section of a state begins, and what is known of bytes that hold a state.
-use Prim.Native.Nat.{ℕ, _+_, _*_, _≤_, _%_}
+use Prim.Native.Nat.{ℕ, _+_, _*_, _≤_, _<_, _%_}
 use mathlib.Core.Path.{_≡_}
 use mathlib.Core.Bool.{true}
-use mathlib.Core.List.{List, _++_, map}
+use mathlib.Core.List.{List, _++_}
 use lib.ListN.{length, take}
 use Rattle.octets.specs.Bytes.{le, num, part}
 use Rattle.octets.specs.Sections.{total}
 use Rattle.rules.specs.Choice.{pick}
 use Rattle.rules.specs.Group.{shapeFits}
 use Rattle.rules.specs.State.{State, good}
-use Rattle.rules.specs.Image.{tableLength, noteLength, voteLength, replyLength, lengths, stateLength, sections, image, atDraft, atEarly, atGVec, atHeard, atLate, atLog, atNotes, atReplies, atVotes}
+use Rattle.rules.specs.Image.{tableLength, noteLength, voteLength, replyLength, lengths, stateLength, image, atDraft, atEarly, atGVec, atHeard, atLate, atLog, atNotes, atReplies, atVotes}
 use Rattle.rules.specs.declared.Shape.{Shape}
+use Rattle.rules.proofs.Image.{StateFits}
 use Rattle.places.specs.declared.Places.{Places}
 
 -- behind the last section
@@ -88,10 +89,11 @@ pub record Sized (sh : Shape) (b : List ℕ) : Type 0 where
 unfoldable pub ownBytes : Shape → List ℕ → List ℕ
 ownBytes sh b = le 1 1 ++ (le 4 (num b 12 4) ++ (le 8 (num b 24 8) ++ part b (startOf sh atLog) (tableLength (sh .c))))
 
--- the bytes are those of the state, section by section, whether or not it is good: so of any state on the way from one good state to another
-pub record Laid (sh : Shape) (st : State) (b : List ℕ) : Type 0 where
+-- the bytes are those of the state, good or not, and each of its numbers and tables fits its bytes: so of any state on the way from one good state to another
+pub record Midway (sh : Shape) (st : State) (b : List ℕ) : Type 0 where
+  pub fits : Fits sh
+  pub holds : StateFits sh st
   pub bytes : b ≡ image sh st
-  pub long : map length (sections sh st) ≡ lengths sh
   pub size : length b ≡ stateLength sh
 
 -- the bytes are those of a good state: what a step is given
@@ -101,3 +103,8 @@ pub record Stands (sh : Shape) (st : State) (b : List ℕ) : Type 0 where
   pub good : good sh st ≡ true
   pub bytes : b ≡ image sh st
   pub size : length b ≡ stateLength sh
+
+-- the own group is one of the shape's, and the own replica one of a group's
+pub record Own (sh : Shape) (st : State) : Type 0 where
+  pub group : st .site .group < sh .s
+  pub replica : st .site .replica < sh .n

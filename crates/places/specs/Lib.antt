@@ -1,3 +1,2 @@
--- Where the parts of a state stand in its bytes, and states with one field changed.
+-- Where the parts of a state stand in its bytes, and what is known of bytes that hold one.
 pub mod Layout
-pub mod With

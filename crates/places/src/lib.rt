@@ -1,4 +1,5 @@
 // Where the parts of a state stand in its bytes: the layout, and reads and writes of each part in place.
+use rules::Entry;
 use rules::Shape;
 ghost use mathlib.Core.Path.{_≡_};
 ghost use mathlib.Core.Bool.{not};
@@ -8,9 +9,14 @@ ghost use lib.Dec.{eqb};
 ghost use lib.ListN.{length};
 ghost use Rattle.octets.specs.Bytes.{le, num, part, splice, items};
 ghost use Rattle.rules.specs.Choice.{count, isSome};
+ghost use Rattle.rules.specs.Entry.{entryOf};
+ghost use Rattle.rules.specs.Log.{lastStamp};
 ghost use Rattle.rules.specs.Read.{entryAt};
-ghost use Rattle.rules.specs.Image.{tableLength, voteLength, replyLength, pointBytes, tableBytes, pointAt, voteAt, replyAt, atGVec, atHeard, atReplies, atVotes};
-ghost use Rattle.places.specs.Layout.{startOf, Marks, Fits, PlaceAt, Sized};
+ghost use Rattle.rules.specs.Image.{stateLength, tableLength, voteLength, replyLength, pointBytes, tableBytes, pointAt, tableAt, voteAt, replyAt, stateOf};
+ghost use Rattle.rules.specs.Image.{atGVec, atHeard, atLog, atReplies, atVotes};
+ghost use Rattle.entries.specs.Table.{Table};
+ghost use Rattle.notes.specs.Notes.{notesAt, Notes};
+ghost use Rattle.places.specs.Layout.{startOf, Marks, Fits, PlaceAt, Sized, Midway};
 
 // Where each section begins after the head, where the last ends, and how long a table, a note, a vote and a reply are.
 pub struct Places {
@@ -262,10 +268,117 @@ fn flags(state: &[u8], at: usize, size: usize, n: u64) -> u64
 // Makes the table at `to` one of the `number` entries that stand in `src` from `at` on.
 pub fn put_table(shape: Shape, state: &mut [u8], to: usize, src: &[u8], at: usize, number: usize)
     requires { ⌜ Fits shape × (to + tableLength (shape .c) ≤ length (now state)) × (number ≤ shape .c) × (at + 24 * number ≤ length (now src)) ⌝ }
-    ensures { λ _. ⌜ now (state .exit) ≡ splice (now (state .entry)) to (tableBytes (shape .c) (items (entryAt (now (src .entry))) 24 at number)) ⌝ }
+    ensures { λ _. ⌜ now (state .exit)
+        ≡ splice (now (state .entry)) to (tableBytes (shape .c) (items (entryAt (now (src .entry))) 24 at number)) ⌝ }
 {
     let end = to + places_of(shape).table;
     entries::take_over(&mut state[to..end], shape.c as usize, src, at, number);
+}
+
+// ---- the tables, lent as they stand
+
+// The log, lent.
+pub fn log(shape: Shape, state: &[u8]) -> &[u8]
+    requires { ⌜ Midway shape (stateOf shape (now state)) (now state) ⌝ }
+    ensures { λ r. ⌜ Table (shape .c) (now r)
+        × (tableAt (shape .c) (now r) 0 ≡ stateOf shape (now (state .entry)) .logged .log) ⌝ }
+{
+    let layout = places_of(shape);
+    let start = layout.log;
+    let end = layout.early;
+    &state[start..end]
+}
+
+// The early buffer, lent.
+pub fn early(shape: Shape, state: &[u8]) -> &[u8]
+    requires { ⌜ Midway shape (stateOf shape (now state)) (now state) ⌝ }
+    ensures { λ r. ⌜ Table (shape .c) (now r)
+        × (tableAt (shape .c) (now r) 0 ≡ stateOf shape (now (state .entry)) .waiting .early) ⌝ }
+{
+    let layout = places_of(shape);
+    let start = layout.early;
+    let end = layout.late;
+    &state[start..end]
+}
+
+// The late buffer, lent.
+pub fn late(shape: Shape, state: &[u8]) -> &[u8]
+    requires { ⌜ Midway shape (stateOf shape (now state)) (now state) ⌝ }
+    ensures { λ r. ⌜ Table (shape .c) (now r)
+        × (tableAt (shape .c) (now r) 0 ≡ stateOf shape (now (state .entry)) .waiting .late) ⌝ }
+{
+    let layout = places_of(shape);
+    let start = layout.late;
+    let end = layout.notes;
+    &state[start..end]
+}
+
+// The notes, lent.
+pub fn notes(shape: Shape, state: &[u8]) -> &[u8]
+    requires { ⌜ Midway shape (stateOf shape (now state)) (now state) ⌝ }
+    ensures { λ r. ⌜ Notes (shape .c) (shape .s) (now r)
+        × (notesAt (shape .c) (shape .s) (now r) ≡ stateOf shape (now (state .entry)) .waiting .notes) ⌝ }
+{
+    let layout = places_of(shape);
+    let start = layout.notes;
+    let end = layout.votes;
+    &state[start..end]
+}
+
+// The draft, lent.
+pub fn draft(shape: Shape, state: &[u8]) -> &[u8]
+    requires { ⌜ Midway shape (stateOf shape (now state)) (now state) ⌝ }
+    ensures { λ r. ⌜ Table (shape .c) (now r)
+        × (tableAt (shape .c) (now r) 0 ≡ stateOf shape (now (state .entry)) .change .draft) ⌝ }
+{
+    let layout = places_of(shape);
+    let start = layout.draft;
+    let end = layout.replies;
+    &state[start..end]
+}
+
+// ---- the log
+
+// How many entries the log has. A count above the room is read as the room, as the definition reads it.
+pub fn log_length(shape: Shape, state: &[u8]) -> usize
+    requires { ⌜ Sized shape (now state) ⌝ }
+    ensures { λ r. ⌜ (r ≡ length (stateOf shape (now (state .entry)) .logged .log)) × (r ≤ shape .c) × (r ≤ 4096) ⌝ }
+{
+    let place = places_of(shape).log;
+    let count = octets::get32(state, place) as usize;
+    let room = shape.c as usize;
+    if room < count {
+        return room;
+    }
+    count
+}
+
+// Where entry i of the log stands.
+pub fn log_place(shape: Shape, i: usize) -> usize
+    requires { ⌜ Fits shape × (i < shape .c) ⌝ }
+    ensures { λ r. ⌜ (r ≡ startOf shape atLog + (4 + 24 * i)) × (r + 24 ≤ stateLength shape) × (r ≤ 2187586) ⌝ }
+{
+    places_of(shape).log + (4 + 24 * i)
+}
+
+// Entry i of the log.
+pub fn log_entry(shape: Shape, state: &[u8], i: usize) -> Entry
+    requires { ⌜ Sized shape (now state) × (i < length (stateOf shape (now state) .logged .log)) ⌝ }
+    ensures { λ r. ⌜ r ≡ entryOf (stateOf shape (now (state .entry)) .logged .log) i ⌝ }
+{
+    entries::entry_at(state, log_place(shape, i))
+}
+
+// The timestamp of the log's last entry, 0 where it is empty.
+pub fn last_stamp(shape: Shape, state: &[u8]) -> u64
+    requires { ⌜ Sized shape (now state) ⌝ }
+    ensures { λ r. ⌜ r ≡ lastStamp (stateOf shape (now (state .entry)) .logged .log) ⌝ }
+{
+    let n = log_length(shape, state);
+    if n == 0 {
+        return 0;
+    }
+    log_entry(shape, state, n - 1).stamp
 }
 
 // ---- gVec

@@ -1,5 +1,5 @@
 -- What a state says: a law for each way through the functions that give it. Assumes nothing.
-use Prim.Native.Nat.{ℕ, _+_, _-_, _*_, _%_, _≤_, _<_, min}
+use Prim.Native.Nat.{ℕ, _+_, _-_, _*_, _%_, _≤_, _<_}
 use mathlib.Core.Path.{_≡_, refl, sym, ap, _∙_}
 use mathlib.Core.Bool.{Bool, true, false, _&&_, not}
 use mathlib.Core.List.{List}
@@ -9,55 +9,27 @@ use lib.ListN.{length, getD, List·getD-eq-default}
 use lib.Dec.{eqb, ltb, leb}
 use borrow.Author.Tests.{not-true, not-false, lt-ltb, le-ltb, le-leb, lt-leb, eqb-true}
 use Rattle.octets.specs.Bytes.{num}
-use Rattle.octets.proofs.Codecs.{length-items, getD-items}
+use Rattle.octets.proofs.Codecs.{length-items}
 use Rattle.rules.specs.Choice.{pick}
 use Rattle.rules.specs.Group.{shapeFits, leader}
-use Rattle.rules.specs.Entry.{noEntry, entryOf}
-use Rattle.rules.specs.Read.{entryAt}
+use Rattle.rules.specs.Entry.{entryOf}
 use Rattle.rules.specs.State.{State}
-use Rattle.rules.specs.Image.{atGVec, atLog, stateLength, tableAt, stateOf}
+use Rattle.rules.specs.Image.{atGVec, stateLength, stateOf}
 use Rattle.rules.specs.declared.Entry.{Entry}
 use Rattle.rules.specs.declared.Shape.{Shape}
 use Rattle.rules.proofs.Tests.{and-l, and-r, and-both, pick-true, pick-false}
-use Rattle.places.specs.Layout.{startOf, Fits, Sized}
-use Rattle.places.proofs.Sections.{fits, state-small}
-use Rattle.good.proofs.Fields.{fields, view-of}
+use Rattle.places.specs.Layout.{startOf, Sized}
+use Rattle.places.proofs.Sections.{fits}
+use Rattle.places.proofs.Fields.{fields, view-of}
 use Rattle.readers.specs.Said.{nothing, fieldOf, entryFieldOf, isSized, fieldIn, groupViewIn, entryIn}
 
 -- a field that was asked for by its number
 pub asked : (f : ℕ → ℕ) (field k r : ℕ) → field ≡ k → r ≡ f k → r ≡ f field
 asked f field k r e h = h ∙ ap f (sym e)
 
--- ---- the log and the leader, in bytes of the right length
+-- ---- the leader, in bytes of the right length
 
 module _ (sh : Shape) (b : List ℕ) (size : length b ≡ stateLength sh) where
-  log-long : length (stateOf sh b .logged .log) ≡ min (num b (startOf sh atLog) 4) (sh .c)
-  unfolding tableAt
-  log-long = ap length (fields sh b size .log) ∙ length-items (entryAt b) 24 (startOf sh atLog + 4) (min (num b (startOf sh atLog) 4) (sh .c))
-
-  log-at : (i : ℕ) → i < length (stateOf sh b .logged .log) → entryOf (stateOf sh b .logged .log) i ≡ entryAt b (startOf sh atLog + 4 + 24 * i)
-  unfolding tableAt
-  log-at i l =
-      let n : ℕ = min (num b (startOf sh atLog) 4) (sh .c) in
-      ap (λ (es : List Entry). entryOf es i) (fields sh b size .log)
-      ∙ getD-items (entryAt b) 24 (startOf sh atLog + 4) n i noEntry (omega (arith, log-long))
-
-  -- the entry at a position lies within the bytes
-  pub inside : (log len position : ℕ) → Fits sh → log ≡ startOf sh atLog → len ≡ length (stateOf sh b .logged .log) → 1 ≤ position → position ≤ len → (log + 4 + 24 * (position - 1) + 24 ≤ length b) × (length b ≤ 2187586)
-  inside log len position f a e first last =
-      let room : position ≤ sh .c = omega (arith, log-long) in
-      (omega arith, omega (arith, state-small sh f))
-
-  module _ (at count : ℕ) (a : at ≡ startOf sh atLog) (e : count ≡ num b at 4) where
-    counted : count ≡ num b (startOf sh atLog) 4
-    counted = e ∙ ap (λ (x : ℕ). num b x 4) a
-
-    pub full-log : sh .c < count → sh .c ≡ length (stateOf sh b .logged .log)
-    full-log h = omega (arith, counted, log-long)
-
-    pub the-log : count ≤ sh .c → count ≡ length (stateOf sh b .logged .log)
-    the-log h = omega (arith, counted, log-long)
-
   module _ (group : ℕ) (e : group ≡ num b 0 1) where
     own-group : group ≡ stateOf sh b .site .group
     own-group = e ∙ sym (fields sh b size .group)
@@ -141,13 +113,11 @@ module _ (sh : Shape) (b : List ℕ) where
             let u : leb position (length (stateOf sh b .logged .log)) ≡ false = lt-leb position (length (stateOf sh b .logged .log)) (omega arith) in
             simp (g, t, u)
 
-        pub the-entry : (log at r : ℕ) (entry : Entry) → position ≤ len → log ≡ startOf sh atLog → at ≡ log + 4 + 24 * (position - 1) → entry ≡ entryAt b at → r ≡ entryFieldOf entry field → r ≡ entryIn sh b position field
+        pub the-entry : (r : ℕ) (entry : Entry) → position ≤ len → entry ≡ entryOf (stateOf sh b .logged .log) (position - 1) → r ≡ entryFieldOf entry field → r ≡ entryIn sh b position field
         unfolding entryIn
-        the-entry log at r entry l m a q w =
+        the-entry r entry l q w =
             let st : State = stateOf sh b in
             let t : (leb 1 position && leb position (length (st .logged .log))) ≡ true = and-both (leb 1 position) _ (le-leb 1 position f) (le-leb position (length (st .logged .log)) (omega arith)) in
-            let o : at ≡ startOf sh atLog + 4 + 24 * (position - 1) = omega arith in
-            let i : entry ≡ entryOf (st .logged .log) (position - 1) = q ∙ ap (entryAt b) o ∙ sym (log-at sh b (sized .size) (position - 1) (omega arith)) in
             w
-            ∙ ap (λ (x : Entry). entryFieldOf x field) i
+            ∙ ap (λ (x : Entry). entryFieldOf x field) q
             ∙ sym (pick-true (isSized sh b && (leb 1 position && leb position (length (st .logged .log)))) (entryFieldOf (entryOf (st .logged .log) (position - 1)) field) nothing (and-both (isSized sh b) _ right-size t))

@@ -2,7 +2,6 @@
 use rules::Entry;
 use rules::Shape;
 ghost use mathlib.Core.Path.{_≡_};
-ghost use lib.ListN.{length};
 ghost use Rattle.rules.specs.Group as rule;
 ghost use Rattle.rules.specs.Image.{stateOf};
 ghost use Rattle.places.specs.Layout.{Sized};
@@ -42,18 +41,6 @@ fn is_sized(shape: Shape, state: &[u8]) -> bool
     state.len() == places::places_of(shape).end
 }
 
-// How many entries the log has. A count above the room is read as the room, as the definition reads it.
-fn log_length(shape: Shape, state: &[u8]) -> u64
-    requires { ⌜ Sized shape (now state) ⌝ }
-    ensures { λ r. ⌜ r ≡ length (stateOf shape (now (state .entry)) .logged .log) ⌝ }
-{
-    let count = octets::get32(state, places::places_of(shape).log) as u64;
-    if shape.c < count {
-        return shape.c;
-    }
-    count
-}
-
 // The leader of the own group; replica 0 where the bytes name a group that there is not.
 fn own_leader(shape: Shape, state: &[u8]) -> u64
     requires { ⌜ Sized shape (now state) ⌝ }
@@ -80,7 +67,7 @@ fn field_of(shape: Shape, field: u64, state: &[u8]) -> u64
         6 => places::get_clock(state),
         7 => places::get_sync(state),
         8 => places::get_commit(state),
-        9 => log_length(shape, state),
+        9 => places::log_length(shape, state) as u64,
         10 => own_leader(shape, state),
         _ => NOTHING,
     }
@@ -133,9 +120,11 @@ pub fn entry(shape: Shape, position: u64, field: u64, state: &[u8]) -> u64
     if position < 1 {
         return NOTHING;
     }
-    if log_length(shape, state) < position {
+    if (places::log_length(shape, state) as u64) < position {
         return NOTHING;
     }
-    let at = places::places_of(shape).log + 4 + 24 * (position - 1) as usize;
-    entry_field(entries::entry_at(state, at), field)
+    entry_field(
+        places::log_entry(shape, state, (position - 1) as usize),
+        field,
+    )
 }

@@ -43,6 +43,10 @@ module _ (c : ℕ) (e : Entry) (new ok : Bool) (f : ok ≡ new) where
   unfolding placeAll Adds
   entry-added t u h k = rw (pick-true new (e ∷ []) [] (sym f ∙ not-false ok h)) k
 
+-- what is told of the test is what it says
+pub as-new : (c : ℕ) (es : List Entry) (e : Entry) (u : List ℕ) (ok new : Bool) {said : Bool} → said ≡ new → Adds c es (pick said (e ∷ []) []) u ok → Adds c es (pick new (e ∷ []) []) u ok
+as-new c es e u ok new f a = subst (λ (t : Bool). Adds c es (pick t (e ∷ []) []) u ok) f a
+
 -- ---- the entries of a log
 
 module _ (c : ℕ) (es : List Entry) (p : Entry → Bool) (log : List Entry) where

@@ -62,14 +62,14 @@ unfolding voteOf
 none-taken vs n r m l h = ap (λ (x : Option Vote). take m (voteOf x .log)) (none-past vs n r l h) ∙ take-nil m
 
 module _ (n : ℕ) (vs : List (Option Vote)) (b : Basis) (k : Based n vs b) where
-  pub prefix-is : prefix (withNormal (b .top) vs) ≡ take (b .length) (voteOf (getD vs (b .replica) none) .log)
-  prefix-is = prefix-by (withNormal (b .top) vs) (voteOf (getD vs (b .replica) none)) (b .length) (k .best) (k .length)
+  pub prefix-is : prefix (withNormal (b .count .top) vs) ≡ take (b .length) (voteOf (getD vs (b .replica) none) .log)
+  prefix-is = prefix-by (withNormal (b .count .top) vs) (voteOf (getD vs (b .replica) none)) (b .length) (k .best) (k .length)
 
-  pub prefix-none : length vs ≡ n → n ≤ b .replica → prefix (withNormal (b .top) vs) ≡ []
+  pub prefix-none : length vs ≡ n → n ≤ b .replica → prefix (withNormal (b .count .top) vs) ≡ []
   prefix-none l h = prefix-is ∙ none-taken vs n (b .replica) (b .length) l h
 
 module _ (sh : Shape) (s msg : List ℕ) (a : Cast) (g : Given sh s msg a) (b : Basis) (k : Based (sh .n) (votesIn sh s msg a) b) where
-  pub prefix-missing : (e : Entry) → sh .n ≤ b .replica → false ≡ among (prefix (withNormal (b .top) (votesIn sh s msg a))) e
+  pub prefix-missing : (e : Entry) → sh .n ≤ b .replica → false ≡ among (prefix (withNormal (b .count .top) (votesIn sh s msg a))) e
   unfolding any
   prefix-missing e h = sym (ap (λ (es : List Entry). among es e) (prefix-none (sh .n) (votesIn sh s msg a) b k (votes-long sh s msg a (g .sent)) h))
 
@@ -78,7 +78,7 @@ module _ (sh : Shape) (s msg : List ℕ) (a : Cast) (g : Given sh s msg a) (b : 
     prefix-within = rw (k .length) (vote-synced sh s msg a g (b .replica) h (k .held h))
 
     -- the first in all of the log is one of the prefix where there is one
-    pub prefix-found : (e : Entry) (t : List ℕ) (n i : ℕ) → Lists (sh .c) (voteOf (getD (votesIn sh s msg a) (b .replica) none) .log) t → n ≡ num t 0 4 → i ≡ findRow (λ j. entryAt t (4 + 24 * j)) (e .request) (e .coordinator) n → ltb i (b .length) ≡ among (prefix (withNormal (b .top) (votesIn sh s msg a))) e
+    pub prefix-found : (e : Entry) (t : List ℕ) (n i : ℕ) → Lists (sh .c) (voteOf (getD (votesIn sh s msg a) (b .replica) none) .log) t → n ≡ num t 0 4 → i ≡ findRow (λ j. entryAt t (4 + 24 * j)) (e .request) (e .coordinator) n → ltb i (b .length) ≡ among (prefix (withNormal (b .count .top) (votesIn sh s msg a))) e
     prefix-found e t n i l q f =
         let w = prefix-within in
         let p : ℕ → Bool = λ j. sameTxn e (entryAt t (4 + 24 * j)) in
@@ -91,17 +91,17 @@ module _ (sh : Shape) (s msg : List ℕ) (a : Cast) (g : Given sh s msg a) (b : 
 
 module _ (n : ℕ) (vs : List (Option Vote)) (b : Basis) (k : Based n vs b) (r : ℕ) (e : Entry) where
   abbrev ws : List Vote
-  ws = withNormal (b .top) vs
+  ws = withNormal (b .count .top) vs
 
   first-fails : (x y z : Bool) → x ≡ false → false ≡ ((x && y) && z)
   first-fails x y z h = rw h
 
-  pub new-late : e .stamp ≤ b .boundary → false ≡ isNew n (b .top) vs r e
+  pub new-late : e .stamp ≤ b .boundary → false ≡ isNew n (b .count .top) vs r e
   unfolding isNew laterThan
   new-late h = first-fails (laterThan (lastOf (prefix ws)) e) _ _ (rw (← k .boundary) (le-ltb (b .boundary) (e .stamp) h))
 
   -- what is to be added is later than the boundary
-  pub new-later : (t : Bool) → t ≡ isNew n (b .top) vs r e → not t ≡ false → b .boundary < e .stamp
+  pub new-later : (t : Bool) → t ≡ isNew n (b .count .top) vs r e → not t ≡ false → b .boundary < e .stamp
   unfolding isNew laterThan
   new-later t q h =
       rw (k .boundary) (ltb-true (boundaryIn ws) (e .stamp) (and-left (ltb (boundaryIn ws) (e .stamp)) _ (and-left (isAdded n ws e) _ (sym q ∙ not-false t h))))
@@ -110,18 +110,18 @@ module _ (n : ℕ) (vs : List (Option Vote)) (b : Basis) (k : Based n vs b) (r :
   last-fails true z h = sym h
   last-fails false z h = refl
 
-  pub new-lower : (t : Bool) → t ≡ not (eqb (holders (lower (b .top) vs r) e) 0) → t ≡ true → false ≡ isNew n (b .top) vs r e
+  pub new-lower : (t : Bool) → t ≡ not (eqb (holders (lower (b .count .top) vs r) e) 0) → t ≡ true → false ≡ isNew n (b .count .top) vs r e
   unfolding isNew
-  new-lower t q h = last-fails (isAdded n ws e) _ (not-true (eqb (holders (lower (b .top) vs r) e) 0) (sym q ∙ h))
+  new-lower t q h = last-fails (isAdded n ws e) _ (not-true (eqb (holders (lower (b .count .top) vs r) e) 0) (sym q ∙ h))
 
-  none-lower : (t : Bool) → t ≡ not (eqb (holders (lower (b .top) vs r) e) 0) → t ≡ false → holders (lower (b .top) vs r) e ≡ 0
-  none-lower t q h = eqb-true (holders (lower (b .top) vs r) e) 0 (not-false (eqb (holders (lower (b .top) vs r) e) 0) (sym q ∙ h))
+  none-lower : (t : Bool) → t ≡ not (eqb (holders (lower (b .count .top) vs r) e) 0) → t ≡ false → holders (lower (b .count .top) vs r) e ≡ 0
+  none-lower t q h = eqb-true (holders (lower (b .count .top) vs r) e) 0 (not-false (eqb (holders (lower (b .count .top) vs r) e) 0) (sym q ∙ h))
 
-  module _ (t : Bool) (all rec : ℕ) (l : length vs ≡ n) (q : t ≡ not (eqb (holders (lower (b .top) vs r) e) 0)) (z : t ≡ false) (w : holders (lower (b .top) vs r) e + all ≡ holders (lower (b .top) vs n) e) (y : rec ≡ recovery n) where
+  module _ (t : Bool) (all rec : ℕ) (l : length vs ≡ n) (q : t ≡ not (eqb (holders (lower (b .count .top) vs r) e) 0)) (z : t ≡ false) (w : holders (lower (b .count .top) vs r) e + all ≡ holders (lower (b .count .top) vs n) e) (y : rec ≡ recovery n) where
     -- those of replicas from r on are all that hold it
     all-holders : all ≡ holders ws e
     all-holders =
-        let a : holders (lower (b .top) vs n) e ≡ holders ws e = ap (λ (xs : List Vote). holders xs e) (lower-all (b .top) vs n (omega arith)) in
+        let a : holders (lower (b .count .top) vs n) e ≡ holders ws e = ap (λ (xs : List Vote). holders xs e) (lower-all (b .count .top) vs n (omega arith)) in
         omega (arith, none-lower t q z)
 
     copies-fail : (x m c v : Bool) → c ≡ false → false ≡ ((x && (m && c)) && v)
@@ -129,7 +129,7 @@ module _ (n : ℕ) (vs : List (Option Vote)) (b : Basis) (k : Based n vs b) (r :
     copies-fail true false c v h = refl
     copies-fail false m c v h = refl
 
-    pub new-few : all < rec → false ≡ isNew n (b .top) vs r e
+    pub new-few : all < rec → false ≡ isNew n (b .count .top) vs r e
     unfolding isNew
     new-few h = copies-fail (laterThan (lastOf (prefix ws)) e) (not (among (prefix ws) e)) (leb (recovery n) (holders ws e)) _ (lt-leb (recovery n) (holders ws e) (omega (arith, all-holders)))
 
@@ -137,9 +137,9 @@ module _ (n : ℕ) (vs : List (Option Vote)) (b : Basis) (k : Based n vs b) (r :
     all-hold x true c v f g i = rw (f, g, i)
     all-hold x false c v f g i = rw f
 
-    pub new-held : (p : Bool) → b .boundary < e .stamp → rec ≤ all → p ≡ among (prefix ws) e → not p ≡ isNew n (b .top) vs r e
+    pub new-held : (p : Bool) → b .boundary < e .stamp → rec ≤ all → p ≡ among (prefix ws) e → not p ≡ isNew n (b .count .top) vs r e
     unfolding isNew laterThan
     new-held p h i f =
         rw f
-        (all-hold (laterThan (lastOf (prefix ws)) e) (not (among (prefix ws) e)) (leb (recovery n) (holders ws e)) (eqb (holders (lower (b .top) vs r) e) 0)
-        (rw (← k .boundary) (lt-ltb (b .boundary) (e .stamp) h)) (le-leb (recovery n) (holders ws e) (omega (arith, all-holders))) (eq-eqb (holders (lower (b .top) vs r) e) 0 (none-lower t q z)))
+        (all-hold (laterThan (lastOf (prefix ws)) e) (not (among (prefix ws) e)) (leb (recovery n) (holders ws e)) (eqb (holders (lower (b .count .top) vs r) e) 0)
+        (rw (← k .boundary) (lt-ltb (b .boundary) (e .stamp) h)) (le-leb (recovery n) (holders ws e) (omega (arith, all-holders))) (eq-eqb (holders (lower (b .count .top) vs r) e) 0 (none-lower t q z)))

@@ -32,6 +32,7 @@ use Rattle.ballots.specs.Ballots.{votesIn, voteOf, countsAt, Given, Lists, Best
 use Rattle.rebuild.specs.Rebuild.{Based, Climbs, lower, isNew, newFrom, Adds, Gives}
 use Rattle.ballots.specs.declared.Best.{Best}
 use Rattle.rebuild.specs.declared.Basis.{Basis}
+use Rattle.rebuild.specs.declared.Count.{Count}
 use Rattle.ballots.specs.declared.Cast.{Cast}
 use Rattle.rebuild.specs.declared.Rebuilt.the-variants.{TooLong, Log}
 use Rattle.ballots.proofs.Counting.{lower-next, lower-all}
@@ -43,7 +44,10 @@ use Rattle.rebuild.proofs.Climbing.{before-not, low-climbs}
 
 -- ---- what it starts from
 
-module _ (n : ℕ) (vs : List (Option Vote)) (top : ℕ) (b : Best) (l : length vs ≡ n) (t : top ≡ topFrom 0 vs) (k : BestTo n vs top n b) where
+module _ (n : ℕ) (vs : List (Option Vote)) (a : Count) (b : Best) (l : length vs ≡ n) (t : a .top ≡ topFrom 0 vs) (k : BestTo n vs (a .top) n b) where
+  abbrev top : ℕ
+  top = a .top
+
   is-best : best (withNormal top vs) ≡ voteOf (getD vs (b .replica) none)
   is-best = ap best (sym (lower-all top vs n (omega arith))) ∙ k .is
 
@@ -59,7 +63,7 @@ module _ (n : ℕ) (vs : List (Option Vote)) (top : ℕ) (b : Best) (l : length 
   pub takes-some : (c : ℕ) (log u : List ℕ) → Lists c (voteOf (getD vs (b .replica) none) .log) log → b .sync ≤ length (voteOf (getD vs (b .replica) none) .log) → Holds c (items (entryAt log) 24 4 (b .sync)) u → Holds c (prefix (withNormal top vs)) u
   takes-some c log u f w h = subst (λ (x : List Entry). Holds c x u) (listed-take c _ log f (b .sync) w ∙ sym prefix-of) h
 
-  pub based-none : n ≤ b .replica → Based n vs (record { top = top; replica = b .replica; length = 0; boundary = 0 })
+  pub based-none : n ≤ b .replica → Based n vs (record { count = a; replica = b .replica; length = 0; boundary = 0 })
   unfolding voteOf lastBefore
   based-none h =
       record {
@@ -77,7 +81,7 @@ module _ (n : ℕ) (vs : List (Option Vote)) (top : ℕ) (b : Best) (l : length 
       let e : length (take m es) ≡ suc (m - 1) = length-take-le m es h ∙ omega arith in
       sym (ap (λ (i : ℕ). lastBefore (entryOf (take m es)) i .stamp) e ∙ ap (λ (x : Entry). x .stamp) (getD-take m es (m - 1) noEntry (omega arith)))
 
-  pub based-some : (x : Entry) (m : ℕ) → b .replica < n → m ≡ b .sync → b .sync ≤ length (voteOf (getD vs (b .replica) none) .log) → x ≡ entryOf (voteOf (getD vs (b .replica) none) .log) (m - 1) → Based n vs (record { top = top; replica = b .replica; length = m; boundary = x .stamp })
+  pub based-some : (x : Entry) (m : ℕ) → b .replica < n → m ≡ b .sync → b .sync ≤ length (voteOf (getD vs (b .replica) none) .log) → x ≡ entryOf (voteOf (getD vs (b .replica) none) .log) (m - 1) → Based n vs (record { count = a; replica = b .replica; length = m; boundary = x .stamp })
   based-some x m h e w q =
       let es = voteOf (getD vs (b .replica) none) .log in
       record {
@@ -171,12 +175,12 @@ pub whole-start : (c n top : ℕ) (vs : List (Option Vote)) (ps : List Entry) (t
 unfolding placeAll keep copies withNormal
 whole-start c n top vs ps t h = h
 
-module _ (s g c n : ℕ) (vs : List (Option Vote)) (b : Basis) (l : length vs ≡ n) (k : Based n vs b) (good : All (λ v. goodLog s g (v .log) ≡ true) (withNormal (b .top) vs)) where
+module _ (s g c n : ℕ) (vs : List (Option Vote)) (b : Basis) (l : length vs ≡ n) (k : Based n vs b) (good : All (λ v. goodLog s g (v .log) ≡ true) (withNormal (b .count .top) vs)) where
   abbrev all : List Entry
-  all = keep (isAdded n (withNormal (b .top) vs)) (copies [] (withNormal (b .top) vs))
+  all = keep (isAdded n (withNormal (b .count .top) vs)) (copies [] (withNormal (b .count .top) vs))
 
   abbrev front : List Entry
-  front = prefix (withNormal (b .top) vs)
+  front = prefix (withNormal (b .count .top) vs)
 
   rebuilt-is : rebuilt n vs ≡ front ++ ordered all
   unfolding rebuilt added
@@ -184,7 +188,7 @@ module _ (s g c n : ℕ) (vs : List (Option Vote)) (b : Basis) (l : length vs �
 
   -- its timestamps are not later than the boundary
   front-low : All (λ d. d .stamp ≤ lastStamp front) front
-  front-low = last-greatest front (good-parts s g front (prefix-good s g (withNormal (b .top) vs) good) .rises)
+  front-low = last-greatest front (good-parts s g front (prefix-good s g (withNormal (b .count .top) vs) good) .rises)
 
   pub front-climbs : Climbs (b .boundary) front
   front-climbs = rw (k .boundary) (low-climbs (lastStamp front) front front-low)
@@ -192,29 +196,29 @@ module _ (s g c n : ℕ) (vs : List (Option Vote)) (b : Basis) (l : length vs �
   all-behind : placeAll front all ≡ front ++ ordered all
   unfolding laterThan
   all-behind =
-      let d = all-map (λ e h. ltb-true (lastStamp front) (e .stamp) (and-left (laterThan (lastOf front) e) _ h)) all (kept-passes (isAdded n (withNormal (b .top) vs)) (copies [] (withNormal (b .top) vs))) in
+      let d = all-map (λ e h. ltb-true (lastStamp front) (e .stamp) (and-left (laterThan (lastOf front) e) _ h)) all (kept-passes (isAdded n (withNormal (b .count .top) vs)) (copies [] (withNormal (b .count .top) vs))) in
       ap (λ (x : List Entry). placeAll x all) (sym (append-nil front)) ∙ placed-behind (lastStamp front) front [] all front-low d
 
-  pub whole-end : (r : ℕ) (t : List ℕ) → n ≤ r → Holds c (placeAll front (addedBelow n (b .top) vs r)) t → Gives c n vs t (Log (b .boundary))
+  pub whole-end : (r : ℕ) (t : List ℕ) → n ≤ r → Holds c (placeAll front (addedBelow n (b .count .top) vs r)) t → Gives c n vs t (Log (b .boundary))
   unfolding Gives boundaryOf
   whole-end r t h f =
-      let e : addedBelow n (b .top) vs r ≡ all = ap (λ (x : List Vote). keep (isAdded n (withNormal (b .top) vs)) (copies [] x)) (lower-all (b .top) vs r (omega arith)) in
+      let e : addedBelow n (b .count .top) vs r ≡ all = ap (λ (x : List Vote). keep (isAdded n (withNormal (b .count .top) vs)) (copies [] x)) (lower-all (b .count .top) vs r (omega arith)) in
       (subst (λ (x : List Entry). Holds c x t) (ap (placeAll front) e ∙ all-behind ∙ sym rebuilt-is) f, k .boundary ∙ ap (λ (m : ℕ). boundaryIn (withNormal m vs)) (k .top))
 
-  module _ (r : ℕ) (t u : List ℕ) (h : r < n) (f : Holds c (placeAll front (addedBelow n (b .top) vs r)) t) (ok : Bool) (a : Adds c (tableAt c t 0) (newFrom n (b .top) vs r) u ok) where
-    pub whole-turn : not ok ≡ false → Holds c (placeAll front (addedBelow n (b .top) vs (r + 1))) u
+  module _ (r : ℕ) (t u : List ℕ) (h : r < n) (f : Holds c (placeAll front (addedBelow n (b .count .top) vs r)) t) (ok : Bool) (a : Adds c (tableAt c t 0) (newFrom n (b .count .top) vs r) u ok) where
+    pub whole-turn : not ok ≡ false → Holds c (placeAll front (addedBelow n (b .count .top) vs (r + 1))) u
     unfolding Adds
     whole-turn q =
-        let d : Adds c (tableAt c t 0) (newFrom n (b .top) vs r) u true = subst (Adds c (tableAt c t 0) (newFrom n (b .top) vs r) u) (not-false ok q) a in
-        let e : Holds c (placeAll (placeAll front (addedBelow n (b .top) vs r)) (newFrom n (b .top) vs r)) u = subst (λ (x : List Entry). Holds c (placeAll x (newFrom n (b .top) vs r)) u) (decoded c _ t f) d in
-        subst (λ (x : List Entry). Holds c x u) (sym (ap (placeAll front) (below-next n (b .top) vs r (omega arith)) ∙ placed-append front (addedBelow n (b .top) vs r) _)) e
+        let d : Adds c (tableAt c t 0) (newFrom n (b .count .top) vs r) u true = subst (Adds c (tableAt c t 0) (newFrom n (b .count .top) vs r) u) (not-false ok q) a in
+        let e : Holds c (placeAll (placeAll front (addedBelow n (b .count .top) vs r)) (newFrom n (b .count .top) vs r)) u = subst (λ (x : List Entry). Holds c (placeAll x (newFrom n (b .count .top) vs r)) u) (decoded c _ t f) d in
+        subst (λ (x : List Entry). Holds c x u) (sym (ap (placeAll front) (below-next n (b .count .top) vs r (omega arith)) ∙ placed-append front (addedBelow n (b .count .top) vs r) _)) e
 
     pub whole-stop : not ok ≡ true → Gives c n vs u TooLong
     unfolding Adds Gives
     whole-stop q =
-        let d : Adds c (tableAt c t 0) (newFrom n (b .top) vs r) u false = subst (Adds c (tableAt c t 0) (newFrom n (b .top) vs r) u) (not-true ok q) a in
-        let e : length (tableAt c t 0) ≡ length front + length (addedBelow n (b .top) vs r) = ap length (decoded c _ t f) ∙ length-placed front (addedBelow n (b .top) vs r) in
-        let m : length (addedBelow n (b .top) vs (r + 1)) ≡ length (addedBelow n (b .top) vs r) + length (newFrom n (b .top) vs r) = ap length (below-next n (b .top) vs r (omega arith)) ∙ length-append (addedBelow n (b .top) vs r) _ in
+        let d : Adds c (tableAt c t 0) (newFrom n (b .count .top) vs r) u false = subst (Adds c (tableAt c t 0) (newFrom n (b .count .top) vs r) u) (not-true ok q) a in
+        let e : length (tableAt c t 0) ≡ length front + length (addedBelow n (b .count .top) vs r) = ap length (decoded c _ t f) ∙ length-placed front (addedBelow n (b .count .top) vs r) in
+        let m : length (addedBelow n (b .count .top) vs (r + 1)) ≡ length (addedBelow n (b .count .top) vs r) + length (newFrom n (b .count .top) vs r) = ap length (below-next n (b .count .top) vs r (omega arith)) ∙ length-append (addedBelow n (b .count .top) vs r) _ in
         let w : length (rebuilt n vs) ≡ length front + length all = ap length rebuilt-is ∙ length-append front (ordered all) ∙ ap (λ (i : ℕ). length front + i) (ordered-length all) in
-        let y = below-within n (b .top) vs (r + 1) in
+        let y = below-within n (b .count .top) vs (r + 1) in
         omega arith

@@ -13,19 +13,26 @@ use Rattle.rules.specs.Rebuild.{topFrom, withNormal, best, boundaryIn, holders,
 use Rattle.rules.specs.declared.Entry.{Entry}
 use Rattle.rules.proofs.Choice.{Pairs}
 use Rattle.entries.specs.Table.{Holds}
-use Rattle.ballots.specs.Ballots.{voteOf, countsAt}
+use Rattle.rules.specs.declared.Shape.{Shape}
+use Rattle.ballots.specs.Ballots.{votesIn, voteOf, countsAt}
+use Rattle.rebuild.specs.Tables.{Counted}
 use Rattle.rebuild.specs.declared.Basis.{Basis}
 use Rattle.rebuild.specs.declared.Rebuilt.{Rebuilt}
 use Rattle.rebuild.specs.declared.Rebuilt.the-variants.{TooLong, Log}
 
 -- what the rebuild starts from is right
 pub record Based (n : ℕ) (vs : List (Option Vote)) (b : Basis) : Type 0 where
-  pub top : b .top ≡ topFrom 0 vs
-  pub best : best (withNormal (b .top) vs) ≡ voteOf (getD vs (b .replica) none)
+  pub top : b .count .top ≡ topFrom 0 vs
+  pub best : best (withNormal (b .count .top) vs) ≡ voteOf (getD vs (b .replica) none)
   pub length : b .length ≡ voteOf (getD vs (b .replica) none) .sync
   pub within : b .replica ≤ n
   pub held : b .replica < n → isSome (getD vs (b .replica) none) ≡ true
-  pub boundary : b .boundary ≡ boundaryIn (withNormal (b .top) vs)
+  pub boundary : b .boundary ≡ boundaryIn (withNormal (b .count .top) vs)
+
+-- and so are the votes that are given and their slots
+pub record Starts (sh : Shape) (b msg : List ℕ) (k : Basis) (slots : List ℕ) : Type 0 where
+  pub counted : Counted sh b msg (k .count) slots
+  pub based : Based (sh .n) (votesIn sh b msg (k .count .cast)) k
 
 -- the votes of replicas below r that count
 abbrev pub lower : ℕ → List (Option Vote) → ℕ → List Vote

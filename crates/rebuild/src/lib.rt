@@ -1,6 +1,5 @@
 // The rebuild of a log from the votes of a view change, into a table that the caller lends: no byte of the state changes.
 use ballots::Cast;
-use repeats::Spots;
 use rules::Entry;
 use rules::GroupSize;
 use rules::Shape;
@@ -12,28 +11,37 @@ ghost use Prim.Native.Nat.{_+_, _*_, _≤_, _<_};
 ghost use lib.Dec.{eqb};
 ghost use lib.ListN.{length, getD};
 ghost use Rattle.rules.specs.Choice.{pick, any, isSome};
-ghost use Rattle.rules.specs.Entry.{sameKey, among};
+ghost use Rattle.rules.specs.Entry.{sameKey, among, entryOf};
 ghost use Rattle.rules.specs.Read.{entryAt};
 ghost use Rattle.rules.specs.Image.{tableAt};
-ghost use Rattle.rules.specs.Rebuild.{withNormal, prefix, holders};
-ghost use Rattle.entries.specs.First.{findRow};
+ghost use Rattle.rules.specs.Rebuild.{topFrom, withNormal, prefix, holders};
+ghost use Rattle.entries.specs.First.{findRow, Rises};
 ghost use Rattle.entries.specs.Table.{Holds, Table};
 ghost use Rattle.ballots.specs.Ballots.{votesIn, voteOf, Given};
-ghost use Rattle.rebuild.specs.Tables.{spotsOf, Looks, Indexed};
-ghost use Rattle.rebuild.specs.Rebuild.{Based, Climbs, Adds, Gives, lower, holdsAt, isNew, newFrom};
+ghost use Rattle.rebuild.specs.Tables.{Indexed, Looks, Counted};
+ghost use Rattle.rebuild.specs.Rebuild.{Based, Starts, Climbs, Adds, Gives, lower, holdsAt, isNew, newFrom};
 
-// What the rebuild starts from: the greatest last normal gView, the replica whose vote gives the prefix, the prefix's length, the boundary.
-struct Basis {
+// Slots for the rows of the votes' logs: how many each log gets, how many logs have theirs, and for each replica which of them its vote's
+// log has, counted from 1; 0 where it has none.
+struct Index {
+    size: usize,
+    used: usize,
+    place: [u8; 7],
+}
+
+// What is counted: the vote that came, the greatest last normal gView, and the slots of the votes that count.
+struct Count {
+    cast: Cast,
     top: u64,
+    index: Index,
+}
+
+// What the rebuild starts from: what is counted, the replica whose vote gives the prefix, the prefix's length, the boundary.
+struct Basis {
+    count: Count,
     replica: u64,
     length: usize,
     boundary: u64,
-}
-
-// A table of rows for each replica: how many slots it has, and whether it has every row of the log of the replica's vote.
-struct Index {
-    size: usize,
-    filled: [bool; 7],
 }
 
 // The rebuilt log's boundary, where the table has room for the log.
@@ -44,94 +52,79 @@ pub enum Rebuilt {
 
 // ---- the rows of the logs by transaction
 
-// Where the transactions of a log of `count` entries stand.
-fn spots_of(count: usize) -> Spots
-    ensures { λ r. ⌜ r ≡ spotsOf count ⌝ }
-{
-    Spots {
-        first: 20,
-        first_count: count,
-        second: 0,
-        second_count: 0,
-        third: 0,
-        third_count: 0,
-        stride: 24,
-    }
-}
-
-// Where the table of replica r begins.
-fn start_of(size: usize, r: u64) -> usize
-    requires { ⌜ (size ≤ 10304) × (r < 7) ⌝ }
-    ensures { λ at. ⌜ (at ≡ size * r) × (at + size ≤ 7 * size) ⌝ }
-{
-    size * r as usize
-}
-
-// Puts the rows of the log of replica r's vote into its table, where the vote counts.
+// Puts the rows of the log of replica r's vote into slots of their own, where the vote counts and there are slots left.
 fn index_vote<'a>(
     shape: Shape,
     state: &'a [u8],
     message: &'a [u8],
-    cast: Cast,
-    top: u64,
-    index: Index,
-    rows: &mut [u16],
+    count: Count,
+    slots: &mut [u16],
     r: u64,
 ) -> Index
-    requires { ⌜ Given shape (now state) (now message) cast × (r < shape .n) × Indexed (votesIn shape (now state) (now message) cast) index (now rows) ⌝ }
-    ensures { λ x. ⌜ Indexed (votesIn shape (now (state .entry)) (now (message .entry)) cast) x (now (rows .exit)) ⌝ }
+    requires { ⌜
+        Given shape (now state) (now message) (count .cast) × (r < shape .n)
+        × Indexed (votesIn shape (now state) (now message) (count .cast)) r (count .index) (now slots) ⌝ }
+    ensures { λ x. ⌜ Indexed (votesIn shape (now (state .entry)) (now (message .entry)) (count .cast)) (r + 1) x (now (slots .exit)) ⌝ }
 {
-    if !ballots::counted(shape, state, cast, top, r) {
+    let cast = count.cast;
+    let index = count.index;
+    if !ballots::counted(shape, state, cast, count.top, r) {
+        return index;
+    }
+    let at = index.size * index.used;
+    let end = at + index.size;
+    if slots.len() < end {
         return index;
     }
     let log = ballots::log_of(shape, state, message, cast, r);
-    let spots = spots_of(entries::count(log));
-    let at = start_of(index.size, r);
-    let end = at + index.size;
+    let n = entries::count(log);
+    entries::index_rows(log, 4, n, n, &mut slots[at..end]);
     let i = r as usize;
     let mut next = index;
-    next.filled[i] = repeats::fill(log, spots, &mut rows[at..end]);
+    next.used = index.used + 1;
+    next.place[i] = next.used as u8;
     next
 }
 
-// Puts the rows of the logs of all votes that count into tables of `size` slots each.
+// Puts the rows of the logs of all votes that count into slots, each log's into its own.
 fn index_votes<'a>(
     shape: Shape,
     state: &'a [u8],
     message: &'a [u8],
     cast: Cast,
     top: u64,
-    size: usize,
-    rows: &mut [u16],
-) -> Index
-    requires { ⌜ Given shape (now state) (now message) cast × (size ≤ 10304) × (7 * size ≤ length (now rows)) ⌝ }
-    ensures { λ x. ⌜ Indexed (votesIn shape (now (state .entry)) (now (message .entry)) cast) x (now (rows .exit)) ⌝ }
+    slots: &mut [u16],
+) -> Count
+    requires { ⌜ Given shape (now state) (now message) cast ⌝ }
+    ensures { λ x. ⌜ (x .cast ≡ cast) × (x .top ≡ top) × Counted shape (now (state .entry)) (now (message .entry)) x (now (slots .exit)) ⌝ }
 {
     let mut index = Index {
-        size,
-        filled: [false; 7],
+        size: 66 + 2 * shape.c as usize,
+        used: 0,
+        place: [0; 7],
     };
     let mut r = 0;
     while r < shape.n {
-        index = index_vote(shape, state, message, cast, top, index, rows, r);
+        let count = Count { cast, top, index };
+        index = index_vote(shape, state, message, count, slots, r);
         r += 1;
     }
-    index
+    Count { cast, top, index }
 }
 
-// The first of the `count` entries of replica r's log that has the transaction of e, or `count`. The search over all of them runs only where the table has not got every row.
-fn find_row(log: &[u8], count: usize, index: Index, rows: &[u16], r: u64, e: Entry) -> usize
-    requires { ⌜ Looks (now log) count index (now rows) r ⌝ }
-    ensures { λ i. ⌜ i ≡ findRow (λ j. entryAt (now (log .entry)) (4 + 24 * j)) (e .request) (e .coordinator) count ⌝ }
+// The first of the `number` entries of replica r's log that has the transaction of e, or `number`: by the log's own slots, or by none.
+fn find_row(log: &[u8], number: usize, index: Index, slots: &[u16], r: u64, e: Entry) -> usize
+    requires { ⌜ Looks (now log) number index (now slots) r ⌝ }
+    ensures { λ i. ⌜ i ≡ findRow (λ j. entryAt (now (log .entry)) (4 + 24 * j)) (e .request) (e .coordinator) number ⌝ }
 {
     let i = r as usize;
-    if index.filled[i] {
-        let at = start_of(index.size, r);
-        let end = at + index.size;
-        let key = e.request as u64 + e.coordinator as u64 * 4294967296;
-        return repeats::find(log, spots_of(count), &rows[at..end], key);
+    let place = index.place[i] as usize;
+    if place == 0 {
+        return entries::find_row(log, 4, number, &slots[0..0], e.request, e.coordinator);
     }
-    entries::find(log, 4, count, e.request, e.coordinator)
+    let at = index.size * (place - 1);
+    let end = at + index.size;
+    entries::find_row(log, 4, number, &slots[at..end], e.request, e.coordinator)
 }
 
 // ---- which votes hold an entry
@@ -141,19 +134,20 @@ fn log_holds<'a>(
     shape: Shape,
     state: &'a [u8],
     message: &'a [u8],
-    cast: Cast,
-    index: Index,
-    rows: &[u16],
+    count: Count,
+    slots: &[u16],
     r: u64,
     e: Entry,
 ) -> bool
-    requires { ⌜ Given shape (now state) (now message) cast × (r < shape .n) × (isSome (getD (votesIn shape (now state) (now message) cast) r none) ≡ true) × Indexed (votesIn shape (now state) (now message) cast) index (now rows) ⌝ }
-    ensures { λ t. ⌜ t ≡ any (sameKey e) (voteOf (getD (votesIn shape (now (state .entry)) (now (message .entry)) cast) r none) .log) ⌝ }
+    requires { ⌜
+        Counted shape (now state) (now message) count (now slots) × (r < shape .n)
+        × (isSome (getD (votesIn shape (now state) (now message) (count .cast)) r none) ≡ true) ⌝ }
+    ensures { λ t. ⌜ t ≡ any (sameKey e) (voteOf (getD (votesIn shape (now (state .entry)) (now (message .entry)) (count .cast)) r none) .log) ⌝ }
 {
-    let log = ballots::log_of(shape, state, message, cast, r);
-    let count = entries::count(log);
-    let i = find_row(log, count, index, rows, r, e);
-    if count <= i {
+    let log = ballots::log_of(shape, state, message, count.cast, r);
+    let number = entries::count(log);
+    let i = find_row(log, number, count.index, slots, r, e);
+    if number <= i {
         return false;
     }
     let found = entries::entry_at(log, 4 + 24 * i);
@@ -165,20 +159,18 @@ fn holds_at<'a>(
     shape: Shape,
     state: &'a [u8],
     message: &'a [u8],
-    cast: Cast,
-    top: u64,
-    index: Index,
-    rows: &[u16],
+    count: Count,
+    slots: &[u16],
     r: u64,
     e: Entry,
 ) -> bool
-    requires { ⌜ Given shape (now state) (now message) cast × (r < shape .n) × Indexed (votesIn shape (now state) (now message) cast) index (now rows) ⌝ }
-    ensures { λ t. ⌜ t ≡ holdsAt top e (getD (votesIn shape (now (state .entry)) (now (message .entry)) cast) r none) ⌝ }
+    requires { ⌜ Counted shape (now state) (now message) count (now slots) × (r < shape .n) ⌝ }
+    ensures { λ t. ⌜ t ≡ holdsAt (count .top) e (getD (votesIn shape (now (state .entry)) (now (message .entry)) (count .cast)) r none) ⌝ }
 {
-    if !ballots::counted(shape, state, cast, top, r) {
+    if !ballots::counted(shape, state, count.cast, count.top, r) {
         return false;
     }
-    log_holds(shape, state, message, cast, index, rows, r, e)
+    log_holds(shape, state, message, count, slots, r, e)
 }
 
 // Whether one of the votes of replicas below `end` counts and holds e.
@@ -186,19 +178,17 @@ fn held_below<'a>(
     shape: Shape,
     state: &'a [u8],
     message: &'a [u8],
-    cast: Cast,
-    top: u64,
-    index: Index,
-    rows: &[u16],
+    count: Count,
+    slots: &[u16],
     end: u64,
     e: Entry,
 ) -> bool
-    requires { ⌜ Given shape (now state) (now message) cast × (end ≤ shape .n) × Indexed (votesIn shape (now state) (now message) cast) index (now rows) ⌝ }
-    ensures { λ t. ⌜ t ≡ not (eqb (holders (lower top (votesIn shape (now (state .entry)) (now (message .entry)) cast) end) e) 0) ⌝ }
+    requires { ⌜ Counted shape (now state) (now message) count (now slots) × (end ≤ shape .n) ⌝ }
+    ensures { λ t. ⌜ t ≡ not (eqb (holders (lower (count .top) (votesIn shape (now (state .entry)) (now (message .entry)) (count .cast)) end) e) 0) ⌝ }
 {
     let mut r = 0;
     while r < end {
-        if holds_at(shape, state, message, cast, top, index, rows, r, e) {
+        if holds_at(shape, state, message, count, slots, r, e) {
             return true;
         }
         r += 1;
@@ -211,20 +201,19 @@ fn holders_from<'a>(
     shape: Shape,
     state: &'a [u8],
     message: &'a [u8],
-    cast: Cast,
-    top: u64,
-    index: Index,
-    rows: &[u16],
+    count: Count,
+    slots: &[u16],
     start: u64,
     e: Entry,
 ) -> u64
-    requires { ⌜ Given shape (now state) (now message) cast × (start ≤ shape .n) × Indexed (votesIn shape (now state) (now message) cast) index (now rows) ⌝ }
-    ensures { λ k. ⌜ holders (lower top (votesIn shape (now (state .entry)) (now (message .entry)) cast) start) e + k ≡ holders (lower top (votesIn shape (now (state .entry)) (now (message .entry)) cast) (shape .n)) e ⌝ }
+    requires { ⌜ Counted shape (now state) (now message) count (now slots) × (start ≤ shape .n) ⌝ }
+    ensures { λ k. ⌜ (let votes = votesIn shape (now (state .entry)) (now (message .entry)) (count .cast) in
+        holders (lower (count .top) votes start) e + k ≡ holders (lower (count .top) votes (shape .n)) e) ⌝ }
 {
     let mut sum = 0;
     let mut r = start;
     while r < shape.n {
-        if holds_at(shape, state, message, cast, top, index, rows, r, e) {
+        if holds_at(shape, state, message, count, slots, r, e) {
             sum += 1;
         }
         r += 1;
@@ -239,21 +228,20 @@ fn in_prefix<'a>(
     shape: Shape,
     state: &'a [u8],
     message: &'a [u8],
-    cast: Cast,
     basis: Basis,
-    index: Index,
-    rows: &[u16],
+    slots: &[u16],
     e: Entry,
 ) -> bool
-    requires { ⌜ Given shape (now state) (now message) cast × Based (shape .n) (votesIn shape (now state) (now message) cast) basis × Indexed (votesIn shape (now state) (now message) cast) index (now rows) ⌝ }
-    ensures { λ t. ⌜ t ≡ among (prefix (withNormal (basis .top) (votesIn shape (now (state .entry)) (now (message .entry)) cast))) e ⌝ }
+    requires { ⌜ Starts shape (now state) (now message) basis (now slots) ⌝ }
+    ensures { λ t. ⌜ t ≡ among (prefix (withNormal (basis .count .top) (votesIn shape (now (state .entry)) (now (message .entry)) (basis .count .cast)))) e ⌝ }
 {
     if shape.n <= basis.replica {
         return false;
     }
-    let log = ballots::log_of(shape, state, message, cast, basis.replica);
-    let count = entries::count(log);
-    find_row(log, count, index, rows, basis.replica, e) < basis.length
+    let counting = basis.count;
+    let log = ballots::log_of(shape, state, message, counting.cast, basis.replica);
+    let number = entries::count(log);
+    find_row(log, number, counting.index, slots, basis.replica, e) < basis.length
 }
 
 // Whether e, of replica r's vote, is to be added: it is later than the boundary, no lower vote holds it, R votes hold it, and it is not in the prefix.
@@ -261,49 +249,36 @@ fn is_new<'a>(
     shape: Shape,
     state: &'a [u8],
     message: &'a [u8],
-    cast: Cast,
     basis: Basis,
-    index: Index,
-    rows: &[u16],
+    slots: &[u16],
     r: u64,
     e: Entry,
 ) -> bool
-    requires { ⌜ Given shape (now state) (now message) cast × Based (shape .n) (votesIn shape (now state) (now message) cast) basis × Indexed (votesIn shape (now state) (now message) cast) index (now rows) × (r < shape .n) ⌝ }
-    ensures { λ t. ⌜ t ≡ isNew (shape .n) (basis .top) (votesIn shape (now (state .entry)) (now (message .entry)) cast) r e ⌝ }
+    requires { ⌜ Starts shape (now state) (now message) basis (now slots) × (r < shape .n) ⌝ }
+    ensures { λ t. ⌜ t ≡ isNew (shape .n) (basis .count .top) (votesIn shape (now (state .entry)) (now (message .entry)) (basis .count .cast)) r e ⌝ }
 {
     if e.stamp <= basis.boundary {
         return false;
     }
-    if held_below(shape, state, message, cast, basis.top, index, rows, r, e) {
+    let counting = basis.count;
+    if held_below(shape, state, message, counting, slots, r, e) {
         return false;
     }
-    let all = holders_from(shape, state, message, cast, basis.top, index, rows, r, e);
+    let all = holders_from(shape, state, message, counting, slots, r, e);
     if all < GroupSize(shape.n).recovery() {
         return false;
     }
-    !in_prefix(shape, state, message, cast, basis, index, rows, e)
+    !in_prefix(shape, state, message, basis, slots, e)
 }
 
-// Puts e, of replica r's vote, in order into the table if it is to be added; false where the table is full.
-fn add_entry<'a>(
-    shape: Shape,
-    state: &'a [u8],
-    message: &'a [u8],
-    cast: Cast,
-    basis: Basis,
-    index: Index,
-    rows: &[u16],
-    r: u64,
-    e: Entry,
-    table: &mut [u8],
-) -> bool
-    requires { ⌜ Given shape (now state) (now message) cast × Based (shape .n) (votesIn shape (now state) (now message) cast) basis × Indexed (votesIn shape (now state) (now message) cast) index (now rows) × (r < shape .n) × Table (shape .c) (now table) × Climbs (basis .boundary) (tableAt (shape .c) (now table) 0) ⌝ }
-    ensures { λ t. ⌜ Adds (shape .c) (tableAt (shape .c) (now (table .entry)) 0) (pick (isNew (shape .n) (basis .top) (votesIn shape (now (state .entry)) (now (message .entry)) cast) r e) (e ∷ []) []) (now (table .exit)) t ⌝ }
+// Puts e in order into the table if it is to be added; false where the table is full.
+fn add_entry(table: &mut [u8], c: usize, new: bool, e: Entry) -> bool
+    requires { ⌜ Table c (now table) × (new ≡ true → Rises (entryOf (tableAt c (now table) 0)) e (length (tableAt c (now table) 0))) ⌝ }
+    ensures { λ t. ⌜ Adds c (tableAt c (now (table .entry)) 0) (pick new (e ∷ []) []) (now (table .exit)) t ⌝ }
 {
-    if !is_new(shape, state, message, cast, basis, index, rows, r, e) {
+    if !new {
         return true;
     }
-    let c = shape.c as usize;
     if c <= entries::count(table) {
         return false;
     }
@@ -316,25 +291,28 @@ fn add_from<'a>(
     shape: Shape,
     state: &'a [u8],
     message: &'a [u8],
-    cast: Cast,
     basis: Basis,
-    index: Index,
-    rows: &[u16],
+    slots: &[u16],
     r: u64,
     table: &mut [u8],
 ) -> bool
-    requires { ⌜ Given shape (now state) (now message) cast × Based (shape .n) (votesIn shape (now state) (now message) cast) basis × Indexed (votesIn shape (now state) (now message) cast) index (now rows) × (r < shape .n) × Table (shape .c) (now table) × Climbs (basis .boundary) (tableAt (shape .c) (now table) 0) ⌝ }
-    ensures { λ t. ⌜ Adds (shape .c) (tableAt (shape .c) (now (table .entry)) 0) (newFrom (shape .n) (basis .top) (votesIn shape (now (state .entry)) (now (message .entry)) cast) r) (now (table .exit)) t ⌝ }
+    requires { ⌜
+        Starts shape (now state) (now message) basis (now slots) × (r < shape .n) × Table (shape .c) (now table)
+        × Climbs (basis .boundary) (tableAt (shape .c) (now table) 0) ⌝ }
+    ensures { λ t. ⌜ (let votes = votesIn shape (now (state .entry)) (now (message .entry)) (basis .count .cast) in
+        Adds (shape .c) (tableAt (shape .c) (now (table .entry)) 0) (newFrom (shape .n) (basis .count .top) votes r) (now (table .exit)) t) ⌝ }
 {
-    if !ballots::counted(shape, state, cast, basis.top, r) {
+    let counting = basis.count;
+    if !ballots::counted(shape, state, counting.cast, counting.top, r) {
         return true;
     }
-    let log = ballots::log_of(shape, state, message, cast, r);
-    let count = entries::count(log);
+    let log = ballots::log_of(shape, state, message, counting.cast, r);
+    let number = entries::count(log);
     let mut i = 0;
-    while i < count {
+    while i < number {
         let e = entries::entry_at(log, 4 + 24 * i);
-        if !add_entry(shape, state, message, cast, basis, index, rows, r, e, table) {
+        let new = is_new(shape, state, message, basis, slots, r, e);
+        if !add_entry(table, shape.c as usize, new, e) {
             return false;
         }
         i += 1;
@@ -349,89 +327,59 @@ fn take_prefix<'a>(
     shape: Shape,
     state: &'a [u8],
     message: &'a [u8],
-    cast: Cast,
+    count: Count,
     table: &mut [u8],
 ) -> Basis
-    requires { ⌜ Given shape (now state) (now message) cast × (length (now table) ≡ 4 + 24 * shape .c) ⌝ }
-    ensures { λ b. ⌜ Based (shape .n) (votesIn shape (now (state .entry)) (now (message .entry)) cast) b × Holds (shape .c) (prefix (withNormal (b .top) (votesIn shape (now (state .entry)) (now (message .entry)) cast))) (now (table .exit)) ⌝ }
+    requires { ⌜
+        Given shape (now state) (now message) (count .cast) × (length (now table) ≡ 4 + 24 * shape .c)
+        × (count .top ≡ topFrom 0 (votesIn shape (now state) (now message) (count .cast))) ⌝ }
+    ensures { λ b. ⌜ (let votes = votesIn shape (now (state .entry)) (now (message .entry)) (count .cast) in
+        (b .count ≡ count) × Based (shape .n) votes b × Holds (shape .c) (prefix (withNormal (count .top) votes)) (now (table .exit))) ⌝ }
 {
-    let top = ballots::top_normal(shape, state, cast);
-    let best = ballots::best_vote(shape, state, cast, top);
+    let best = ballots::best_vote(shape, state, count.cast, count.top);
     let c = shape.c as usize;
     if shape.n <= best.replica {
         entries::clear(table, c);
         return Basis {
-            top,
+            count,
             replica: best.replica,
             length: 0,
             boundary: 0,
         };
     }
-    let log = ballots::log_of(shape, state, message, cast, best.replica);
+    let log = ballots::log_of(shape, state, message, count.cast, best.replica);
     let length = best.sync as usize;
     entries::take_over(table, c, log, 4, length);
     let last = entries::entry_at(log, 4 + 24 * (length - 1));
     Basis {
-        top,
+        count,
         replica: best.replica,
         length,
         boundary: last.stamp,
     }
 }
 
-// The log that the votes of the state and of the message give, put into the table, whose old bytes are not read. The slots are still empty.
-fn rebuild_by<'a>(
+// Adds to the prefix in the table what every vote has to add, replicas rising.
+fn add_all<'a>(
     shape: Shape,
     state: &'a [u8],
     message: &'a [u8],
-    cast: Cast,
-    size: usize,
-    rows: &mut [u16],
+    basis: Basis,
+    slots: &[u16],
     table: &mut [u8],
 ) -> Rebuilt
-    requires { ⌜ Given shape (now state) (now message) cast × (size ≤ 10304) × (7 * size ≤ length (now rows)) × (length (now table) ≡ 4 + 24 * shape .c) ⌝ }
-    ensures { λ r. ⌜ Gives (shape .c) (shape .n) (votesIn shape (now (state .entry)) (now (message .entry)) cast) (now (table .exit)) r ⌝ }
+    requires { ⌜ (let votes = votesIn shape (now state) (now message) (basis .count .cast) in
+        Starts shape (now state) (now message) basis (now slots) × Holds (shape .c) (prefix (withNormal (basis .count .top) votes)) (now table)) ⌝ }
+    ensures { λ r. ⌜ Gives (shape .c) (shape .n) (votesIn shape (now (state .entry)) (now (message .entry)) (basis .count .cast)) (now (table .exit)) r ⌝ }
 {
-    let basis = take_prefix(shape, state, message, cast, table);
-    let index = index_votes(shape, state, message, cast, basis.top, size, rows);
     let mut r = 0;
     while r < shape.n {
-        if !add_from(shape, state, message, cast, basis, index, rows, r, table) {
+        if !add_from(shape, state, message, basis, slots, r, table) {
             return Rebuilt::TooLong;
         }
         r += 1;
     }
     Rebuilt::Log(basis.boundary)
-}
-
-// With tables for at most 256 rows.
-fn rebuild_few<'a>(
-    shape: Shape,
-    state: &'a [u8],
-    message: &'a [u8],
-    cast: Cast,
-    table: &mut [u8],
-) -> Rebuilt
-    requires { ⌜ Given shape (now state) (now message) cast × (length (now table) ≡ 4 + 24 * shape .c) ⌝ }
-    ensures { λ r. ⌜ Gives (shape .c) (shape .n) (votesIn shape (now (state .entry)) (now (message .entry)) cast) (now (table .exit)) r ⌝ }
-{
-    let mut rows = [65535u16; 4032];
-    rebuild_by(shape, state, message, cast, 576, &mut rows, table)
-}
-
-// With tables for the largest capacity.
-fn rebuild_many<'a>(
-    shape: Shape,
-    state: &'a [u8],
-    message: &'a [u8],
-    cast: Cast,
-    table: &mut [u8],
-) -> Rebuilt
-    requires { ⌜ Given shape (now state) (now message) cast × (length (now table) ≡ 4 + 24 * shape .c) ⌝ }
-    ensures { λ r. ⌜ Gives (shape .c) (shape .n) (votesIn shape (now (state .entry)) (now (message .entry)) cast) (now (table .exit)) r ⌝ }
-{
-    let mut rows = [65535u16; 72128];
-    rebuild_by(shape, state, message, cast, 10304, &mut rows, table)
 }
 
 // The log that the votes of the state and of the message give, put into the table, whose old bytes are not read.
@@ -440,13 +388,14 @@ pub fn rebuild<'a>(
     state: &'a [u8],
     message: &'a [u8],
     cast: Cast,
+    slots: &mut [u16],
     table: &mut [u8],
 ) -> Rebuilt
     requires { ⌜ Given shape (now state) (now message) cast × (length (now table) ≡ 4 + 24 * shape .c) ⌝ }
     ensures { λ r. ⌜ Gives (shape .c) (shape .n) (votesIn shape (now (state .entry)) (now (message .entry)) cast) (now (table .exit)) r ⌝ }
 {
-    if shape.c <= 256 {
-        return rebuild_few(shape, state, message, cast, table);
-    }
-    rebuild_many(shape, state, message, cast, table)
+    let top = ballots::top_normal(shape, state, cast);
+    let count = index_votes(shape, state, message, cast, top, slots);
+    let basis = take_prefix(shape, state, message, count, table);
+    add_all(shape, state, message, basis, slots, table)
 }

@@ -23,11 +23,10 @@ use Rattle.rules.proofs.Tables.{flat-long}
 use Rattle.rules.proofs.Digest.{digest-next}
 use Rattle.rules.proofs.Tests.{at-all}
 use Rattle.entries.proofs.Table.{all-drop}
-use Rattle.places.specs.Layout.{startOf, Laid}
-use Rattle.places.specs.With.{withLog}
-use Rattle.places.proofs.Sections.{get-in}
+use Rattle.places.specs.Layout.{startOf}
+use Rattle.places.proofs.Sections.{Laid, midway-laid, get-in}
 use Rattle.places.proofs.Rows.{within, get-row}
-use Rattle.releases.specs.Midway.{Midway, Reaches}
+use Rattle.releases.specs.Releasing.{Releasing, Reaches, logging}
 
 -- ---- in a table
 
@@ -86,29 +85,26 @@ module _ {sh : Shape} {st : State} {b : List ℕ} (l : Laid sh st b) where
   unfolding part
   log-rest r n k at m h e q = rw q (get-in l 3 (4 + 24 * n) at (24 * k) (lit< tt) e (omega arith) ∙ rest-in (sh .c) (st .logged .log) n k h)
 
--- where an entry of log or early stands
-pub log-within : (sh : Shape) (p i : ℕ) → p ≡ startOf sh atLog → i < sh .c → stateLength sh ≤ 2187586 → (p + (4 + 24 * i) ≡ startOf sh atLog + (4 + 24 * i)) × (p + (4 + 24 * i) + 24 ≤ stateLength sh) × (p + (4 + 24 * i) ≤ 2187586)
-log-within sh p i e l s = let w : 24 * i + 24 ≤ 24 * sh .c = within 24 i (sh .c) l in (omega arith, omega arith, omega arith)
-
+-- where an entry of early stands
 pub early-within : (sh : Shape) (p i : ℕ) → p ≡ startOf sh atEarly → i < sh .c → stateLength sh ≤ 2187586 → (p + (4 + 24 * i) ≡ startOf sh atEarly + (4 + 24 * i)) × (p + (4 + 24 * i) + 24 ≤ stateLength sh) × (p + (4 + 24 * i) ≤ 2187586)
 early-within sh p i e l s = let w : 24 * i + 24 ≤ 24 * sh .c = within 24 i (sh .c) l in (omega arith, omega arith, omega arith)
 
 -- ---- the digest
 
-module _ {sh : Shape} {b : List ℕ} (m : Midway sh b) where
+module _ {sh : Shape} {b : List ℕ} (m : Releasing sh b) where
   pub digest-is : (at end r : ℕ) → at ≡ startOf sh atLog + 4 → end ≡ at + 24 * length (stateOf sh b .logged .log) → r ≡ digestFrom basis (take (end - at) (drop at b)) → r ≡ digest (stateOf sh b .logged .log)
   unfolding digest
-  digest-is at end r e z q = q ∙ ap (digestFrom basis) (log-rest (m .laid) (m .state .log .room) 0 (length (stateOf sh b .logged .log)) at (end - at) (omega arith) (omega arith) (omega arith))
+  digest-is at end r e z q = q ∙ ap (digestFrom basis) (log-rest (midway-laid (m .midway)) (m .midway .holds .log .room) 0 (length (stateOf sh b .logged .log)) at (end - at) (omega arith) (omega arith) (omega arith))
 
   -- run on over the entry that was appended
-  pub digest-runs : {b′ : List ℕ} (d : Entry) (at end i sum r : ℕ) → Reaches sh (withLog (stateOf sh b) (stateOf sh b .logged .log ++ (d ∷ []))) b′ → i ≡ length (stateOf sh b .logged .log) → sum ≡ digest (stateOf sh b .logged .log)
+  pub digest-runs : {b′ : List ℕ} (d : Entry) (at end i sum r : ℕ) → Reaches sh (logging (stateOf sh b) d) b′ → i ≡ length (stateOf sh b .logged .log) → sum ≡ digest (stateOf sh b .logged .log)
       → at ≡ startOf sh atLog + (4 + 24 * i) → end ≡ at + 24 → r ≡ digestFrom sum (take (end - at) (drop at b′)) → r ≡ digest (stateOf sh b .logged .log ++ (d ∷ []))
   digest-runs {b′} d at end i sum r w hi hs e z q =
       let log = stateOf sh b .logged .log in
       let y : stateOf sh b′ .logged .log ≡ log ++ (d ∷ []) = ap (λ (x : State). x .logged .log) (w .is) in
       let long : length (stateOf sh b′ .logged .log) ≡ length log + 1 = ap length y ∙ simp length-append in
       let last : entryOf (stateOf sh b′ .logged .log) i ≡ d = ap (λ (es : List Entry). entryOf es i) y ∙ last-of log d i hi in
-      q ∙ ap (digestFrom sum) (log-entry (w .midway .laid) (w .midway .state .log .room) at end i e z (omega arith) ∙ ap entryBytes last) ∙ ap (λ (h : ℕ). digestFrom h (entryBytes d)) hs ∙ sym (digest-next log d)
+      q ∙ ap (digestFrom sum) (log-entry (midway-laid (w .releasing .midway)) (w .releasing .midway .holds .log .room) at end i e z (omega arith) ∙ ap entryBytes last) ∙ ap (λ (h : ℕ). digestFrom h (entryBytes d)) hs ∙ sym (digest-next log d)
     where
       last-of : (log : List Entry) (d : Entry) (i : ℕ) → i ≡ length log → entryOf (log ++ (d ∷ [])) i ≡ d
       last-of log d i h = let z : i ≡ length log + 0 = omega arith in rw z (getD-append-add log (d ∷ []) 0 noEntry)
@@ -117,12 +113,12 @@ module _ {sh : Shape} {b : List ℕ} (m : Midway sh b) where
 
   module _ (n k at : ℕ) (h : n + k ≡ length (stateOf sh b .logged .log)) (e : at ≡ startOf sh atLog + (4 + 24 * n)) where
     pub copy-within : at + 24 * k ≤ stateLength sh
-    copy-within = omega (arith, m .state .log .room)
+    copy-within = omega (arith, m .midway .holds .log .room)
 
     pub copied : (end : ℕ) (t u : List ℕ) → end ≡ at + 24 * k → 24 * k ≤ length t → u ≡ splice t 0 (take (end - at) (drop at b)) → items (entryAt u) 24 0 k ≡ drop n (stateOf sh b .logged .log)
     unfolding splice
     copied end t u z l q =
         let es : List Entry = drop n (stateOf sh b .logged .log) in
-        let w : take (end - at) (drop at b) ≡ flat entryBytes es = log-rest (m .laid) (m .state .log .room) n k at (end - at) h e (omega arith) in
+        let w : take (end - at) (drop at b) ≡ flat entryBytes es = log-rest (midway-laid (m .midway)) (m .midway .holds .log .room) n k at (end - at) h e (omega arith) in
         let y : length es ≡ k = length-drop n (stateOf sh b .logged .log) ∙ omega arith in
-        back-all entry u 0 k es _ (all-drop EntryFits n (stateOf sh b .logged .log) (m .state .log .each)) (sym y) (q ∙ ap (splice t 0) w)
+        back-all entry u 0 k es _ (all-drop EntryFits n (stateOf sh b .logged .log) (m .midway .holds .log .each)) (sym y) (q ∙ ap (splice t 0) w)

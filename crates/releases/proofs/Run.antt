@@ -11,8 +11,8 @@ use Rattle.rules.specs.Early.{dueOf}
 use Rattle.rules.specs.declared.Entry.{Entry}
 use Rattle.repeats.specs.Repeat.{firstTo}
 use Rattle.repeats.proofs.Laws.{first-pass, first-stop, first-end}
-use Rattle.due.specs.Due.{DueAt}
-use Rattle.due.proofs.Leading.{leading-length}
+use Rattle.early.specs.Due.{DueAt}
+use Rattle.early.proofs.Leading.{leading-length}
 
 module _ (p : Entry → Bool) (time : ℕ) (es : List Entry) where
   -- none of the first i of those due fails

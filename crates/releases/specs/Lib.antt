@@ -1,3 +1,3 @@
--- What the functions of a release cite: a state on the way from one good state to the next, and entries that wait.
-pub mod Midway
+-- What the functions of a release cite: a state while entries are released, and entries that wait.
+pub mod Releasing
 pub mod Waiting

@@ -1,42 +1,51 @@
-// The release of early entries that are due: how many there are and how many are agreed, one after the other to the log with the log's digest run on over it, and all of them out of early and the notes.
-use leaving::Listed;
+// The release of early entries that are due: how many there are and how many are agreed, one after the other to the log with the log's digest run on over
+// it, and all of them out of early and the notes.
+use early::Listed;
 use rules::Entry;
 use rules::Shape;
 ghost use mathlib.Core.Path.{_≡_};
-ghost use mathlib.Core.Bool.{true};
 ghost use mathlib.Core.List.{[], _∷_, _++_};
 ghost use Prim.Native.Nat.{_+_, _-_, _*_, _<_, _≤_};
 ghost use lib.ListN.{length, take, drop};
 ghost use Rattle.octets.specs.Bytes.{items};
 ghost use Rattle.rules.specs.Choice.{leading};
 ghost use Rattle.rules.specs.State.{agreed};
-ghost use Rattle.rules.specs.Image.{stateLength, stateOf, atEarly, atLog};
+ghost use Rattle.rules.specs.Image.{stateLength, stateOf, atEarly};
 ghost use Rattle.rules.specs.Digest.{digest};
-ghost use Rattle.rules.specs.Early.{dueOf, notesWithout};
-ghost use Rattle.rules.specs.Entry.{entryOf, without};
+ghost use Rattle.rules.specs.Early.{dueOf};
+ghost use Rattle.rules.specs.Entry.{entryOf};
 ghost use Rattle.rules.specs.Read.{entryAt};
-ghost use Rattle.due.specs.Due.{Reached};
+ghost use Rattle.notes.specs.Notes.{Notes};
+ghost use Rattle.early.specs.Due.{Reached};
+ghost use Rattle.early.specs.Listed.{listedIn, Lookup};
 ghost use Rattle.lookups.specs.Rows.{NoteRows};
-ghost use Rattle.leaving.specs.Listed.{listedIn, Lookup};
 ghost use Rattle.places.specs.Layout.{startOf, Fits};
-ghost use Rattle.places.specs.With.{withLog, withEarly, withNotes};
 ghost use Rattle.releases.specs.Waiting.{Waiting, runIn};
-ghost use Rattle.releases.specs.Midway.{Midway, Reaches, firstOf, Cleared};
+ghost use Rattle.releases.specs.Releasing.{Releasing, Reaches, logging, earlyLeft, notesLeft, Cleared};
 
 // ---- the run of a leader
 
 // How many entries are due by a time.
 pub fn due_count(shape: Shape, state: &[u8], time: u64) -> usize
-    requires { ⌜ Midway shape (now state) ⌝ }
+    requires { ⌜ Releasing shape (now state) ⌝ }
     ensures { λ r. ⌜ r ≡ length (dueOf time (stateOf shape (now (state .entry)) .waiting .early)) ⌝ }
 {
-    let layout = places::places_of(shape);
-    let start = layout.early;
-    let end = layout.late;
-    due::count_due(&state[start..end], shape.c as usize, time)
+    early::count_due(places::early(shape, state), shape.c as usize, time)
 }
 
-// Of the `due` entries that are due by a time, how many come before the first that is not agreed. The table has the rows of the notes where it is filled.
+// Puts the rows of the notes into the slots, unless few entries are due: then a search for each costs less.
+fn index_notes(notes: &[u8], c: usize, s: usize, due: usize, slots: &mut [u16])
+    requires { ⌜ Notes c s (now notes) ⌝ }
+    ensures { λ _. ⌜ NoteRows c s (now (notes .entry)) (now (slots .exit)) ⌝ }
+{
+    if due <= 8 {
+        repeats::mark_none(slots);
+        return;
+    }
+    lookups::index_notes(notes, c, s, slots);
+}
+
+// Of the `due` entries that are due by a time, how many come before the first that is not agreed.
 fn run_of(
     early: &[u8],
     notes: &[u8],
@@ -44,10 +53,9 @@ fn run_of(
     s: usize,
     time: u64,
     due: usize,
-    table: &[u16],
-    filled: bool,
+    slots: &[u16],
 ) -> usize
-    requires { ⌜ Waiting c s (now early) (now notes) time due × (filled ≡ true → NoteRows c s (now notes) (now table)) ⌝ }
+    requires { ⌜ Waiting c s (now early) (now notes) time due × NoteRows c s (now notes) (now slots) ⌝ }
     ensures { λ r. ⌜ r ≡ runIn c s (now (early .entry)) (now (notes .entry)) time ⌝ }
 {
     let mut last = Entry {
@@ -59,8 +67,8 @@ fn run_of(
     };
     let mut i = 0;
     while i < due {
-        last = entries::entry_of(early, c, due::due_at(early, c, time, i, last));
-        let row = lookups::note_row(notes, c, s, table, filled, last.request, last.coordinator);
+        last = entries::entry_of(early, c, early::due_at(early, c, time, i, last));
+        let row = lookups::note_row(notes, c, s, slots, last.request, last.coordinator);
         if !notes::agreed_from(notes, c, s, last, row) {
             return i;
         }
@@ -69,90 +77,25 @@ fn run_of(
     due
 }
 
-// The same with a table that is still empty: its rows are put in once for the whole run.
-fn run_by(
-    early: &[u8],
-    notes: &[u8],
-    c: usize,
-    s: usize,
-    time: u64,
-    due: usize,
-    table: &mut [u16],
-) -> usize
-    requires { ⌜ Waiting c s (now early) (now notes) time due ⌝ }
-    ensures { λ r. ⌜ r ≡ runIn c s (now (early .entry)) (now (notes .entry)) time ⌝ }
-{
-    let filled = lookups::fill_notes(notes, c, s, table);
-    run_of(early, notes, c, s, time, due, table, filled)
-}
-
-// With a table for at most 256 notes.
-fn run_few(early: &[u8], notes: &[u8], c: usize, s: usize, time: u64, due: usize) -> usize
-    requires { ⌜ Waiting c s (now early) (now notes) time due ⌝ }
-    ensures { λ r. ⌜ r ≡ runIn c s (now (early .entry)) (now (notes .entry)) time ⌝ }
-{
-    let mut table = [65535u16; 576];
-    run_by(early, notes, c, s, time, due, &mut table)
-}
-
-// With a table for the largest capacity.
-fn run_many(early: &[u8], notes: &[u8], c: usize, s: usize, time: u64, due: usize) -> usize
-    requires { ⌜ Waiting c s (now early) (now notes) time due ⌝ }
-    ensures { λ r. ⌜ r ≡ runIn c s (now (early .entry)) (now (notes .entry)) time ⌝ }
-{
-    let mut table = [65535u16; 10304];
-    run_by(early, notes, c, s, time, due, &mut table)
-}
-
-// With no table: for a few entries a search each costs less.
-fn run_plain(early: &[u8], notes: &[u8], c: usize, s: usize, time: u64, due: usize) -> usize
-    requires { ⌜ Waiting c s (now early) (now notes) time due ⌝ }
-    ensures { λ r. ⌜ r ≡ runIn c s (now (early .entry)) (now (notes .entry)) time ⌝ }
-{
-    let table = [65535u16; 1];
-    run_of(early, notes, c, s, time, due, &table, false)
-}
-
-// With a table by the number of notes, where more than a few entries are due.
-fn run_sized(early: &[u8], notes: &[u8], c: usize, s: usize, time: u64, due: usize) -> usize
-    requires { ⌜ Waiting c s (now early) (now notes) time due ⌝ }
-    ensures { λ r. ⌜ r ≡ runIn c s (now (early .entry)) (now (notes .entry)) time ⌝ }
-{
-    if due <= 8 {
-        return run_plain(early, notes, c, s, time, due);
-    }
-    if notes::count(notes) <= 256 {
-        return run_few(early, notes, c, s, time, due);
-    }
-    run_many(early, notes, c, s, time, due)
-}
-
 // How many of those due by a time a leader may release: those before the first that is not agreed.
-pub fn run_length(shape: Shape, state: &[u8], time: u64, due: usize) -> usize
-    requires { ⌜ Midway shape (now state) × (due ≡ length (dueOf time (stateOf shape (now state) .waiting .early))) ⌝ }
-    ensures { λ r. ⌜ r ≡ length (leading (agreed shape (stateOf shape (now (state .entry)) .waiting .notes)) (dueOf time (stateOf shape (now (state .entry)) .waiting .early))) ⌝ }
+pub fn run_length(shape: Shape, state: &[u8], time: u64, due: usize, slots: &mut [u16]) -> usize
+    requires { ⌜ Releasing shape (now state) × (due ≡ length (dueOf time (stateOf shape (now state) .waiting .early))) ⌝ }
+    ensures { λ r. ⌜ (let waiting = stateOf shape (now (state .entry)) .waiting in
+        r ≡ length (leading (agreed shape (waiting .notes)) (dueOf time (waiting .early)))) ⌝ }
 {
-    let layout = places::places_of(shape);
-    let early = layout.early;
-    let late = layout.late;
-    let notes = layout.notes;
-    let votes = layout.votes;
-    run_sized(
-        &state[early..late],
-        &state[notes..votes],
-        shape.c as usize,
-        shape.s as usize,
-        time,
-        due,
-    )
+    let c = shape.c as usize;
+    let s = shape.s as usize;
+    let notes = places::notes(shape, state);
+    index_notes(notes, c, s, due, slots);
+    run_of(places::early(shape, state), notes, c, s, time, due, slots)
 }
 
 // ---- one release
 
 // Appends e to the log.
 fn log_takes(shape: Shape, state: &mut [u8], e: Entry)
-    requires { ⌜ Midway shape (now state) × (length (stateOf shape (now state) .logged .log) < shape .c) ⌝ }
-    ensures { λ _. ⌜ Reaches shape (withLog (stateOf shape (now (state .entry))) (stateOf shape (now (state .entry)) .logged .log ++ (e ∷ []))) (now (state .exit)) ⌝ }
+    requires { ⌜ Releasing shape (now state) × (length (stateOf shape (now state) .logged .log) < shape .c) ⌝ }
+    ensures { λ _. ⌜ Reaches shape (logging (stateOf shape (now (state .entry))) e) (now (state .exit)) ⌝ }
 {
     let layout = places::places_of(shape);
     let start = layout.log;
@@ -162,19 +105,19 @@ fn log_takes(shape: Shape, state: &mut [u8], e: Entry)
 
 // The place in early of entry i of those due by a time, given the one before it.
 fn due_place(shape: Shape, state: &[u8], time: u64, i: usize, last: Entry) -> usize
-    requires { ⌜ Midway shape (now state) × Reached time (stateOf shape (now state) .waiting .early) i last × (i < length (dueOf time (stateOf shape (now state) .waiting .early))) ⌝ }
-    ensures { λ r. ⌜ (r < length (stateOf shape (now (state .entry)) .waiting .early)) × (entryOf (stateOf shape (now (state .entry)) .waiting .early) r ≡ entryOf (dueOf time (stateOf shape (now (state .entry)) .waiting .early)) i) ⌝ }
+    requires { ⌜ (let early = stateOf shape (now state) .waiting .early in
+        Releasing shape (now state) × Reached time early i last × (i < length (dueOf time early))) ⌝ }
+    ensures { λ r. ⌜ (let early = stateOf shape (now (state .entry)) .waiting .early in
+        (r < length early) × (entryOf early r ≡ entryOf (dueOf time early) i)) ⌝ }
 {
-    let layout = places::places_of(shape);
-    let start = layout.early;
-    let end = layout.late;
-    due::due_at(&state[start..end], shape.c as usize, time, i, last)
+    early::due_at(places::early(shape, state), shape.c as usize, time, i, last)
 }
 
 // The place in early of the first entry due by a time.
 pub fn first_due(shape: Shape, state: &[u8], time: u64) -> usize
-    requires { ⌜ Midway shape (now state) × (0 < length (dueOf time (stateOf shape (now state) .waiting .early))) ⌝ }
-    ensures { λ r. ⌜ (r < length (stateOf shape (now (state .entry)) .waiting .early)) × (entryOf (stateOf shape (now (state .entry)) .waiting .early) r ≡ entryOf (dueOf time (stateOf shape (now (state .entry)) .waiting .early)) 0) ⌝ }
+    requires { ⌜ Releasing shape (now state) × (0 < length (dueOf time (stateOf shape (now state) .waiting .early))) ⌝ }
+    ensures { λ r. ⌜ (let early = stateOf shape (now (state .entry)) .waiting .early in
+        (r < length early) × (entryOf early r ≡ entryOf (dueOf time early) 0)) ⌝ }
 {
     let none = Entry {
         stamp: 0,
@@ -188,29 +131,15 @@ pub fn first_due(shape: Shape, state: &[u8], time: u64) -> usize
 
 // Early entry i.
 fn early_entry(shape: Shape, state: &[u8], i: usize) -> Entry
-    requires { ⌜ Midway shape (now state) × (i < length (stateOf shape (now state) .waiting .early)) ⌝ }
+    requires { ⌜ Releasing shape (now state) × (i < length (stateOf shape (now state) .waiting .early)) ⌝ }
     ensures { λ r. ⌜ r ≡ entryOf (stateOf shape (now (state .entry)) .waiting .early) i ⌝ }
 {
-    let layout = places::places_of(shape);
-    let start = layout.early;
-    let end = layout.late;
-    entries::entry_of(&state[start..end], shape.c as usize, i)
-}
-
-// Entry i of the log.
-fn log_entry(shape: Shape, state: &[u8], i: usize) -> Entry
-    requires { ⌜ Midway shape (now state) × (i < length (stateOf shape (now state) .logged .log)) ⌝ }
-    ensures { λ r. ⌜ r ≡ entryOf (stateOf shape (now (state .entry)) .logged .log) i ⌝ }
-{
-    let layout = places::places_of(shape);
-    let start = layout.log;
-    let end = layout.early;
-    entries::entry_of(&state[start..end], shape.c as usize, i)
+    entries::entry_of(places::early(shape, state), shape.c as usize, i)
 }
 
 // The last of the i entries that went to the log from place n on; any entry where none did.
 fn last_released(shape: Shape, state: &[u8], n: usize, i: usize) -> Entry
-    requires { ⌜ Midway shape (now state) × (n + i ≡ length (stateOf shape (now state) .logged .log)) ⌝ }
+    requires { ⌜ Releasing shape (now state) × (n + i ≡ length (stateOf shape (now state) .logged .log)) ⌝ }
     ensures { λ r. ⌜ (0 < i → r ≡ entryOf (stateOf shape (now (state .entry)) .logged .log) (n + i - 1)) ⌝ }
 {
     if i == 0 {
@@ -222,22 +151,22 @@ fn last_released(shape: Shape, state: &[u8], n: usize, i: usize) -> Entry
             mask: 0,
         };
     }
-    log_entry(shape, state, n + i - 1)
+    places::log_entry(shape, state, n + i - 1)
 }
 
 // Entry i of those due by a time goes to place n + i, the end of the log, after those before it, and the log's digest runs on over it. Early and the notes stay.
 pub fn release_one(shape: Shape, state: &mut [u8], time: u64, n: usize, i: usize, sum: u64) -> u64
-    requires { ⌜
-        Midway shape (now state) × (n + i ≡ length (stateOf shape (now state) .logged .log)) × (n + i < shape .c) × (i < length (dueOf time (stateOf shape (now state) .waiting .early)))
-        × (drop n (stateOf shape (now state) .logged .log) ≡ take i (dueOf time (stateOf shape (now state) .waiting .early))) × (sum ≡ digest (stateOf shape (now state) .logged .log)) ⌝ }
-    ensures { λ r. ⌜
-        Reaches shape (withLog (stateOf shape (now (state .entry))) (stateOf shape (now (state .entry)) .logged .log ++ (entryOf (dueOf time (stateOf shape (now (state .entry)) .waiting .early)) i ∷ []))) (now (state .exit))
-        × (r ≡ digest (stateOf shape (now (state .entry)) .logged .log ++ (entryOf (dueOf time (stateOf shape (now (state .entry)) .waiting .early)) i ∷ []))) ⌝ }
+    requires { ⌜ (let st = stateOf shape (now state) in
+        Releasing shape (now state) × (n + i ≡ length (st .logged .log)) × (n + i < shape .c) × (i < length (dueOf time (st .waiting .early)))
+        × (drop n (st .logged .log) ≡ take i (dueOf time (st .waiting .early))) × (sum ≡ digest (st .logged .log))) ⌝ }
+    ensures { λ r. ⌜ (let st = stateOf shape (now (state .entry)) in
+        let e = entryOf (dueOf time (st .waiting .early)) i in
+        Reaches shape (logging st e) (now (state .exit)) × (r ≡ digest (st .logged .log ++ (e ∷ [])))) ⌝ }
 {
     let last = last_released(shape, state, n, i);
     let e = early_entry(shape, state, due_place(shape, state, time, i, last));
     log_takes(shape, state, e);
-    let at = log_place(shape, n + i);
+    let at = places::log_place(shape, n + i);
     let end = at + 24;
     digest::digest_on(sum, &state[at..end])
 }
@@ -245,44 +174,44 @@ pub fn release_one(shape: Shape, state: &mut [u8], time: u64, n: usize, i: usize
 // ---- all that were released leave
 
 // Entries of listed transactions leave early.
-fn early_leaves(shape: Shape, state: &mut [u8], b: &[u8], listed: Listed, table: &[u16])
-    requires { ⌜ Midway shape (now state) × Lookup (now b) listed (now table) ⌝ }
-    ensures { λ _. ⌜ Reaches shape (withEarly (stateOf shape (now (state .entry))) (without (listedIn (now (b .entry)) listed) (stateOf shape (now (state .entry)) .waiting .early))) (now (state .exit)) ⌝ }
+fn early_leaves(shape: Shape, state: &mut [u8], b: &[u8], listed: Listed, slots: &[u16])
+    requires { ⌜ Releasing shape (now state) × Lookup (now b) listed (now slots) ⌝ }
+    ensures { λ _. ⌜ Reaches shape (earlyLeft (stateOf shape (now (state .entry))) (listedIn (now (b .entry)) listed)) (now (state .exit)) ⌝ }
 {
     let layout = places::places_of(shape);
     let start = layout.early;
     let end = layout.late;
-    leaving::leave(
+    early::leave(
         &mut state[start..end],
         shape.c as usize,
         b,
         listed,
-        table,
+        slots,
         0,
     );
 }
 
 // The notes of listed transactions leave.
-fn notes_leave(shape: Shape, state: &mut [u8], b: &[u8], listed: Listed, table: &[u16])
-    requires { ⌜ Midway shape (now state) × Lookup (now b) listed (now table) ⌝ }
-    ensures { λ _. ⌜ Reaches shape (withNotes (stateOf shape (now (state .entry))) (notesWithout (listedIn (now (b .entry)) listed) (stateOf shape (now (state .entry)) .waiting .notes))) (now (state .exit)) ⌝ }
+fn notes_leave(shape: Shape, state: &mut [u8], b: &[u8], listed: Listed, slots: &[u16])
+    requires { ⌜ Releasing shape (now state) × Lookup (now b) listed (now slots) ⌝ }
+    ensures { λ _. ⌜ Reaches shape (notesLeft (stateOf shape (now (state .entry))) (listedIn (now (b .entry)) listed)) (now (state .exit)) ⌝ }
 {
     let layout = places::places_of(shape);
     let start = layout.notes;
     let end = layout.votes;
-    leaving::leave_notes(
+    early::leave_notes(
         &mut state[start..end],
         shape.c as usize,
         shape.s as usize,
         b,
         listed,
-        table,
+        slots,
     );
 }
 
 // Copies the last k entries of the log, those from place n on, to the start of `gone`.
 fn copy_released(shape: Shape, state: &[u8], n: usize, k: usize, gone: &mut [u8])
-    requires { ⌜ Midway shape (now state) × (n + k ≡ length (stateOf shape (now state) .logged .log)) × (24 * k ≤ length (now gone)) ⌝ }
+    requires { ⌜ Releasing shape (now state) × (n + k ≡ length (stateOf shape (now state) .logged .log)) × (24 * k ≤ length (now gone)) ⌝ }
     ensures { λ _. ⌜ items (entryAt (now (gone .exit))) 24 0 k ≡ drop n (stateOf shape (now (state .entry)) .logged .log) ⌝ }
 {
     let start = places::places_of(shape).log + (4 + 24 * n);
@@ -290,90 +219,49 @@ fn copy_released(shape: Shape, state: &[u8], n: usize, k: usize, gone: &mut [u8]
     octets::copy_in(gone, 0, &state[start..end]);
 }
 
-// Puts the rows of the k entries at the start of `gone` into the table, unless they are few: then a search costs less.
-fn fill_released(gone: &[u8], k: usize, table: &mut [u16]) -> bool
-    requires { ⌜ (24 * k ≤ length (now gone)) × (k ≤ 4096) ⌝ }
-    ensures { λ r. ⌜ Lookup (now (gone .entry)) (firstOf k r) (now (table .exit)) ⌝ }
-{
-    if k <= 4 {
-        return false;
-    }
-    let bare = Listed {
-        at: 0,
-        count: k,
-        filled: false,
-    };
-    repeats::fill(gone, leaving::spots_of(bare), table)
-}
-
 // The last k entries of the log leave early, and their notes go. They are copied first: the log and the tables that change are parts of one slice.
-fn leave_by(shape: Shape, state: &mut [u8], n: usize, k: usize, gone: &mut [u8], table: &mut [u16])
-    requires { ⌜ Midway shape (now state) × (n + k ≡ length (stateOf shape (now state) .logged .log)) × (24 * k ≤ length (now gone)) ⌝ }
+fn leave_by(shape: Shape, state: &mut [u8], n: usize, k: usize, gone: &mut [u8], slots: &mut [u16])
+    requires { ⌜ Releasing shape (now state) × (n + k ≡ length (stateOf shape (now state) .logged .log)) × (24 * k ≤ length (now gone)) ⌝ }
     ensures { λ _. ⌜ Cleared shape (now (state .entry)) n (now (state .exit)) ⌝ }
 {
     copy_released(shape, state, n, k, gone);
-    let filled = fill_released(gone, k, table);
-    let listed = Listed {
-        at: 0,
-        count: k,
-        filled,
-    };
-    early_leaves(shape, state, gone, listed, table);
-    notes_leave(shape, state, gone, listed, table);
+    let listed = Listed { at: 0, count: k };
+    early::list(gone, listed, slots);
+    early_leaves(shape, state, gone, listed, slots);
+    notes_leave(shape, state, gone, listed, slots);
 }
 
 // The same for at most 256 entries.
-fn leave_few(shape: Shape, state: &mut [u8], n: usize, k: usize)
-    requires { ⌜ Midway shape (now state) × (n + k ≡ length (stateOf shape (now state) .logged .log)) × (k ≤ 256) ⌝ }
+fn leave_few(shape: Shape, state: &mut [u8], n: usize, k: usize, slots: &mut [u16])
+    requires { ⌜ Releasing shape (now state) × (n + k ≡ length (stateOf shape (now state) .logged .log)) × (k ≤ 256) ⌝ }
     ensures { λ _. ⌜ Cleared shape (now (state .entry)) n (now (state .exit)) ⌝ }
 {
     let mut gone = [0u8; 6144];
-    let mut table = [65535u16; 576];
-    leave_by(shape, state, n, k, &mut gone, &mut table);
+    leave_by(shape, state, n, k, &mut gone, slots);
 }
 
 // The same for as many as the largest log holds.
-fn leave_many(shape: Shape, state: &mut [u8], n: usize, k: usize)
-    requires { ⌜ Midway shape (now state) × (n + k ≡ length (stateOf shape (now state) .logged .log)) × (k ≤ 4096) ⌝ }
+fn leave_many(shape: Shape, state: &mut [u8], n: usize, k: usize, slots: &mut [u16])
+    requires { ⌜ Releasing shape (now state) × (n + k ≡ length (stateOf shape (now state) .logged .log)) × (k ≤ 4096) ⌝ }
     ensures { λ _. ⌜ Cleared shape (now (state .entry)) n (now (state .exit)) ⌝ }
 {
     let mut gone = [0u8; 98304];
-    let mut table = [65535u16; 10304];
-    leave_by(shape, state, n, k, &mut gone, &mut table);
+    leave_by(shape, state, n, k, &mut gone, slots);
 }
 
 // The last k entries of the log, those from place n on, leave early, and their notes go: one pass over each.
-pub fn leave_released(shape: Shape, state: &mut [u8], n: usize, k: usize)
-    requires { ⌜ Midway shape (now state) × (n + k ≡ length (stateOf shape (now state) .logged .log)) ⌝ }
+pub fn leave_released(shape: Shape, state: &mut [u8], n: usize, k: usize, slots: &mut [u16])
+    requires { ⌜ Releasing shape (now state) × (n + k ≡ length (stateOf shape (now state) .logged .log)) ⌝ }
     ensures { λ _. ⌜ Cleared shape (now (state .entry)) n (now (state .exit)) ⌝ }
 {
     if k <= 256 {
-        leave_few(shape, state, n, k);
+        leave_few(shape, state, n, k, slots);
         return;
     }
-    leave_many(shape, state, n, k);
+    leave_many(shape, state, n, k, slots);
 }
 
 // ---- the bytes of the log and of early
-
-// How many entries the log has.
-pub fn log_length(shape: Shape, state: &[u8]) -> usize
-    requires { ⌜ Midway shape (now state) ⌝ }
-    ensures { λ r. ⌜ (r ≡ length (stateOf shape (now (state .entry)) .logged .log)) × (r ≤ shape .c) × (r ≤ 4096) ⌝ }
-{
-    let layout = places::places_of(shape);
-    let start = layout.log;
-    let end = layout.early;
-    entries::count(&state[start..end])
-}
-
-// Where entry i of the log stands.
-pub fn log_place(shape: Shape, i: usize) -> usize
-    requires { ⌜ Fits shape × (i < shape .c) ⌝ }
-    ensures { λ r. ⌜ (r ≡ startOf shape atLog + (4 + 24 * i)) × (r + 24 ≤ stateLength shape) × (r ≤ 2187586) ⌝ }
-{
-    places::places_of(shape).log + (4 + 24 * i)
-}
 
 // Where entry i of early stands.
 pub fn early_place(shape: Shape, i: usize) -> usize
@@ -385,10 +273,10 @@ pub fn early_place(shape: Shape, i: usize) -> usize
 
 // The digest of the log.
 pub fn log_digest(shape: Shape, state: &[u8]) -> u64
-    requires { ⌜ Midway shape (now state) ⌝ }
+    requires { ⌜ Releasing shape (now state) ⌝ }
     ensures { λ r. ⌜ r ≡ digest (stateOf shape (now (state .entry)) .logged .log) ⌝ }
 {
-    let n = log_length(shape, state);
+    let n = places::log_length(shape, state);
     let start = places::places_of(shape).log + 4;
     let end = start + 24 * n;
     digest::digest_of(&state[start..end])

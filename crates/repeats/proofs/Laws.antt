@@ -219,18 +219,6 @@ module _ (key : ℕ → ℕ) where
         at = λ k. absurd (omega arith);
       })
 
-  -- where a table has shown it, the place is the end
-  pub placed-last : (m r : ℕ) (t : Bool) → (t ≡ true → Distinct key m) → t ≡ true → r ≡ m → r ≡ repeatPlace key m
-  placed-last m r t d e h = h ∙ sym (distinct-repeat m (d e))
-
-  -- and none repeats
-  pub shown-distinct : (m : ℕ) (t : Bool) → (t ≡ true → Distinct key m) → t ≡ true → true ≡ eqb (repeatPlace key m) m
-  shown-distinct m t d e = sym (eq-eqb _ _ (distinct-repeat m (d e)))
-
-  -- none repeats where the place is the end
-  pub placed-test : (m r k : ℕ) → r ≡ repeatPlace key m → k ≡ m → eqb r k ≡ eqb (repeatPlace key m) m
-  placed-test m r k e h = rw (e, h)
-
 -- the place asks for the first m keys alone
 pub repeat-agree : (key other : ℕ → ℕ) (m : ℕ) → ((i : ℕ) → i < m → key i ≡ other i) → repeatPlace key m ≡ repeatPlace other m
 unfolding repeatPlace
@@ -258,3 +246,21 @@ module _ (key : ℕ → ℕ) (x m : ℕ) where
   unfolding rowOf
   row-is n l b a =
       first-is (λ i. eqb (key i) x) m n (record { low = l; before = λ i k. ne-eqb _ _ (b i k); at = λ k. eq-eqb _ _ (a k) })
+
+-- the search for it, a turn at a time
+module _ (key : ℕ → ℕ) (x : ℕ) where
+  pub row-start : rowOf key x 0 ≡ 0
+  unfolding rowOf
+  row-start = first-start (λ i. eqb (key i) x)
+
+  pub row-pass : (i : ℕ) → rowOf key x i ≡ i → eqb (key i) x ≡ false → rowOf key x (i + 1) ≡ i + 1
+  unfolding rowOf
+  row-pass i e f = first-pass (λ i. eqb (key i) x) i e f
+
+  pub row-stop : (i m : ℕ) → rowOf key x i ≡ i → eqb (key i) x ≡ true → i < m → i ≡ rowOf key x m
+  unfolding rowOf
+  row-stop i m e f l = first-stop (λ i. eqb (key i) x) i m e f l
+
+  pub row-end : (i m : ℕ) → rowOf key x i ≡ i → i ≤ m → m ≤ i → m ≡ rowOf key x m
+  unfolding rowOf
+  row-end i m e l h = first-end (λ i. eqb (key i) x) i m e l h

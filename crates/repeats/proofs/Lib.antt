@@ -1,4 +1,6 @@
--- The laws of keys in rows, of where they stand, and of the table.
+-- The laws of keys in rows, of where they stand, of the table, of the hashes, and of the slots that are lent.
 pub mod Laws
 pub mod Places
 pub mod Table
+pub mod Hashes
+pub mod Slots

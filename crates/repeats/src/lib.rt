@@ -1,13 +1,13 @@
-// Keys that stand in rows of a byte slice: the first that repeats an earlier one, and the row of a key. A table of rows by key
-// spares both the search over all rows: where it cannot (a path of 64 slots is full), it says so.
+// Keys that stand in rows of a byte slice: the first that repeats an earlier one, and the row of a key. A table of rows by key, in slots
+// that the caller lends, spares both the search over all rows. Its paths are 64 slots long, so that chosen keys cannot make them longer:
+// where one is full, the next of five hashes is tried, and where none of them serves, rows are searched.
 ghost use mathlib.Core.Path.{_≡_};
-ghost use mathlib.Core.Bool.{Bool, true, false};
 ghost use Prim.Native.Nat.{ℕ, _+_, _-_, _*_, _≤_, _<_};
-ghost use lib.ListN.{length};
+ghost use lib.ListN.{length, set};
 ghost use lib.Dec.{eqb};
 ghost use Rattle.repeats.specs.Rows.{countOf, spotOf, keyOf, Inside};
-ghost use Rattle.repeats.specs.Repeat.{repeatPlace, rowOf, Distinct};
-ghost use Rattle.repeats.specs.Table.{hashOf, slotOf, slotAt, Went, Filled};
+ghost use Rattle.repeats.specs.Repeat.{repeatPlace, rowOf};
+ghost use Rattle.repeats.specs.Table.{mixOf, firstRound, secondRound, hashOf, slotOf, slotAt, servedBy, Small, Holds, Empty, Laid, Indexed};
 
 // Where the keys stand: three runs, one after the other in number, each key 6 bytes and one `stride` after the one before.
 pub struct Spots {
@@ -19,6 +19,29 @@ pub struct Spots {
     pub third_count: usize,
     pub stride: usize,
 }
+
+// The factors of a hash: those of a key's parts, and then those of the halves of what they give.
+struct Mix {
+    low: u64,
+    high: u64,
+    turn_low: u64,
+    turn_high: u64,
+}
+
+// The number in a free slot, no row's.
+const FREE: u16 = 65535;
+
+// How many rows a slot can number at most, and how many slots a table has at most.
+const MOST: usize = 65535;
+
+// How many slots a path has.
+const PATH: usize = 64;
+
+// How many rows are searched at less cost than that of a table.
+const FEW: usize = 12;
+
+// How many hashes there are, and the number in slot 0 that says that none serves.
+const HASHES: usize = 5;
 
 // How many keys there are.
 fn count(sp: Spots) -> usize
@@ -53,7 +76,7 @@ pub fn key(b: &[u8], sp: Spots, i: usize) -> u64
 }
 
 // Whether key j is the one of these two numbers. Most keys differ in the first, and one read tells.
-fn same(b: &[u8], sp: Spots, j: usize, low: u32, high: u16) -> bool
+fn same(b: &[u8], sp: Spots, j: usize, low: u32, high: u64) -> bool
     requires { ⌜ Inside (now b) sp × (j < countOf sp) ⌝ }
     ensures { λ r. ⌜ r ≡ eqb (keyOf (now (b .entry)) sp j) (low + high * 4294967296) ⌝ }
 {
@@ -61,7 +84,7 @@ fn same(b: &[u8], sp: Spots, j: usize, low: u32, high: u16) -> bool
     if octets::get32(b, at) != low {
         return false;
     }
-    octets::get16(b, at + 4) == high
+    octets::get16(b, at + 4) as u64 == high
 }
 
 // The place of the first key that repeats an earlier one, by a nested search: the break leaves both loops with it.
@@ -77,7 +100,7 @@ fn nested(b: &[u8], sp: Spots) -> usize
         }
         let at = spot(sp, i);
         let low = octets::get32(b, at);
-        let high = octets::get16(b, at + 4);
+        let high = octets::get16(b, at + 4) as u64;
         let mut j = 0;
         while j < i {
             if same(b, sp, j, low, high) {
@@ -90,37 +113,119 @@ fn nested(b: &[u8], sp: Spots) -> usize
     place
 }
 
-// A number of 4 bytes that scatters the keys: requests are mostly consecutive, and their products are not.
-fn hash(x: u64) -> u64
-    ensures { λ r. ⌜ (r ≡ hashOf x) × (r < 4294967296) ⌝ }
+// The row with key x, or how many rows there are, by a search over them.
+fn search(b: &[u8], sp: Spots, x: u64) -> usize
+    requires { ⌜ Inside (now b) sp ⌝ }
+    ensures { λ r. ⌜ r ≡ rowOf (keyOf (now (b .entry)) sp) x (countOf sp) ⌝ }
 {
-    (x % 4294967296 * 2654435769 + x / 4294967296 % 65536 * 2246822507) % 4294967296
+    let m = count(sp);
+    let low = (x % 4294967296) as u32;
+    let high = x / 4294967296;
+    let mut i = 0;
+    while i < m {
+        if same(b, sp, i, low, high) {
+            return i;
+        }
+        i += 1;
+    }
+    m
+}
+
+// ---- the hashes
+
+// The factors of hash h, from 1 to 4.
+fn mix_of(h: usize) -> Mix
+    ensures { λ r. ⌜ (r ≡ mixOf h) × Small r ⌝ }
+{
+    if h == 1 {
+        return Mix {
+            low: 1779033703,
+            high: 3144134277,
+            turn_low: 1013904243,
+            turn_high: 2773480763,
+        };
+    }
+    if h == 2 {
+        return Mix {
+            low: 1359893119,
+            high: 2600822925,
+            turn_low: 528734635,
+            turn_high: 1541459225,
+        };
+    }
+    if h == 3 {
+        return Mix {
+            low: 3418070365,
+            high: 1654270251,
+            turn_low: 2438529371,
+            turn_high: 355462361,
+        };
+    }
+    Mix {
+        low: 1731405415,
+        high: 2394180231,
+        turn_low: 3675008525,
+        turn_high: 1203062813,
+    }
+}
+
+// The low 4 bytes of a key and the 2 above them, each by its factor.
+fn first_round(low: u64, high: u64, x: u64) -> u64
+    requires { ⌜ (low < 4294901760) × (high < 4294967296) ⌝ }
+    ensures { λ r. ⌜ (r ≡ firstRound low high x) × (r < 4294967296) ⌝ }
+{
+    (x % 4294967296 * low + x / 4294967296 % 65536 * high) % 4294967296
+}
+
+// The halves of 4 bytes, each by its factor.
+fn second_round(low: u64, high: u64, y: u64) -> u64
+    requires { ⌜ (low < 4294967296) × (high < 4294967296) × (y < 4294967296) ⌝ }
+    ensures { λ r. ⌜ (r ≡ secondRound low high y) × (r < 4294967296) ⌝ }
+{
+    (y % 65536 * low + y / 65536 * high) % 4294967296
+}
+
+// A number of 4 bytes that scatters the keys. Requests are mostly consecutive, and their products are not: one round serves these.
+fn hash(h: usize, x: u64) -> u64
+    ensures { λ r. ⌜ (r ≡ hashOf h x) × (r < 4294967296) ⌝ }
+{
+    if h == 0 {
+        return first_round(2654435769, 2246822507, x);
+    }
+    let mix = mix_of(h);
+    second_round(
+        mix.turn_low,
+        mix.turn_high,
+        first_round(mix.low, mix.high, x),
+    )
 }
 
 // The slot where the path of key x begins.
-fn slot(x: u64, size: usize) -> usize
-    requires { ⌜ (64 ≤ size) × (size ≤ 65600) ⌝ }
-    ensures { λ r. ⌜ (r ≡ slotOf size x) × (r + 64 ≤ size) ⌝ }
+fn slot(h: usize, x: u64, size: usize) -> usize
+    requires { ⌜ (64 ≤ size) × (size ≤ 65535) ⌝ }
+    ensures { λ r. ⌜ (r ≡ slotOf h size x) × (r + 64 ≤ size) ⌝ }
 {
-    (hash(x) * (size - 64) as u64 / 4294967296) as usize
+    (hash(h, x) * (size - PATH) as u64 / 4294967296) as usize
 }
+
+// ---- a table
 
 // A slot's number as a row.
 fn row(x: u16) -> usize
-    ensures { λ r. ⌜ r ≡ x ⌝ }
+    ensures { λ r. ⌜ (r ≡ x) × (r ≤ 65535) ⌝ }
 {
     x as usize
 }
 
-// The slot at which the path of key x ends, or the table's size: a path has 64 slots, so that chosen keys cannot make it long.
-fn path_end(b: &[u8], sp: Spots, table: &[u16], x: u64) -> usize
-    requires { ⌜ Inside (now b) sp × (64 ≤ length (now table)) × (length (now table) ≤ 65600) ⌝ }
-    ensures { λ r. ⌜ r ≡ slotAt (keyOf (now (b .entry)) sp) (countOf sp) (now (table .entry)) x ⌝ }
+// The slot at which the path of key x ends, or the table's size.
+fn path_end(b: &[u8], sp: Spots, h: usize, table: &[u16], x: u64) -> usize
+    requires { ⌜ Inside (now b) sp × (64 ≤ length (now table)) × (length (now table) ≤ 65535) ⌝ }
+    ensures { λ r. ⌜ r ≡ slotAt (keyOf (now (b .entry)) sp) (countOf sp) h (now (table .entry)) x ⌝ }
 {
     let m = count(sp);
-    let start = slot(x, table.len());
+    let start = slot(h, x, table.len());
     let mut n = 0;
-    while n < 64 {
+    while n < PATH {
         let e = row(table[start + n]);
         if m <= e {
             return start + n;
@@ -133,153 +238,197 @@ fn path_end(b: &[u8], sp: Spots, table: &[u16], x: u64) -> usize
     table.len()
 }
 
-// Puts row i into the free slot at which the path of its key ends. Says false where another row has the key, or no slot is free.
-fn put(b: &[u8], sp: Spots, table: &mut [u16], i: usize) -> bool
-    requires { ⌜ Inside (now b) sp × (i < countOf sp) × (64 ≤ length (now table)) × (length (now table) ≤ 65600) × (countOf sp ≤ 65535) ⌝ }
-    ensures { λ r. ⌜ (r ≡ true → Went (keyOf (now (b .entry)) sp) (countOf sp) i (now (table .entry)) (now (table .exit))) ⌝ }
+// Frees every slot of a table.
+fn empty(table: &mut [u16])
+    ensures { λ _. ⌜ Empty (now (table .exit)) ⌝ }
 {
-    let x = key(b, sp, i);
-    let p = path_end(b, sp, table, x);
-    if table.len() <= p {
-        return false;
+    let mut p = 0;
+    while p < table.len() {
+        table[p] = FREE;
+        p += 1;
     }
-    if row(table[p]) < count(sp) {
-        return false;
-    }
-    table[p] = i as u16;
-    true
 }
 
-// Puts every row into the table, of 65535s where it is empty: true only if all went in, and then no key stands twice. Of more
-// rows than a slot can number it says false.
-pub fn fill(b: &[u8], sp: Spots, table: &mut [u16]) -> bool
-    requires { ⌜ Inside (now b) sp ⌝ }
-    ensures { λ r. ⌜ (r ≡ true → Filled (keyOf (now (b .entry)) sp) (countOf sp) (now (table .exit))) ⌝ }
+// Puts row after row from row `from` on into the slot at which the path of its key ends. Tells at which row it stopped: it has the key of
+// an earlier one, or it is the end; or one more than there are rows, where no slot on a path was free.
+fn lay(b: &[u8], sp: Spots, h: usize, table: &mut [u16], from: usize) -> usize
+    requires { ⌜ Inside (now b) sp × (64 ≤ length (now table)) × (length (now table) ≤ 65535)
+        × (countOf sp ≤ 65535) × (from ≤ countOf sp) × Holds (keyOf (now b) sp) (countOf sp) h (now table) from ⌝ }
+    ensures { λ r. ⌜ Laid (keyOf (now (b .entry)) sp) (countOf sp) h (now (table .entry)) (now (table .exit)) r ⌝ }
 {
-    if table.len() < 64 {
-        return false;
-    }
-    if 65600 < table.len() {
-        return false;
-    }
     let m = count(sp);
-    if 65535 < m {
-        return false;
-    }
-    let mut i = 0;
+    let mut i = from;
     while i < m {
-        if !put(b, sp, table, i) {
-            return false;
+        let x = key(b, sp, i);
+        let p = path_end(b, sp, h, table, x);
+        if table.len() <= p {
+            return m + 1;
         }
+        if row(table[p]) < m {
+            return i;
+        }
+        table[p] = i as u16;
         i += 1;
     }
-    true
+    m
 }
 
-// Puts the last row into a table that has all the rows before it: true only if it went in.
-pub fn add(b: &[u8], sp: Spots, table: &mut [u16]) -> bool
-    requires { ⌜ Inside (now b) sp × (0 < countOf sp) × Filled (keyOf (now b) sp) (countOf sp - 1) (now table) ⌝ }
-    ensures { λ r. ⌜ (r ≡ true → Filled (keyOf (now (b .entry)) sp) (countOf sp) (now (table .exit))) ⌝ }
+// Puts every row into a table, whatever stands in it.
+fn lay_all(b: &[u8], sp: Spots, h: usize, table: &mut [u16]) -> usize
+    requires { ⌜ Inside (now b) sp × (64 ≤ length (now table)) × (length (now table) ≤ 65535) × (countOf sp ≤ 65535) ⌝ }
+    ensures { λ r. ⌜ (r ≤ countOf sp → r ≡ repeatPlace (keyOf (now (b .entry)) sp) (countOf sp))
+        × (r ≡ countOf sp → Holds (keyOf (now (b .entry)) sp) (countOf sp) h (now (table .exit)) (countOf sp)) ⌝ }
+{
+    empty(table);
+    lay(b, sp, h, table, 0)
+}
+
+// ---- the slots that are lent: the number of the hash that serves, how many slots the table has, and the table
+
+// The number of the hash by which the slots serve.
+fn served_by(slots: &[u16]) -> usize
+    ensures { λ r. ⌜ r ≡ servedBy (now (slots .entry)) ⌝ }
+{
+    if slots.len() == 0 {
+        return HASHES;
+    }
+    row(slots[0])
+}
+
+// Marks that no hash serves: for a few searches that costs less than putting every row in.
+pub fn mark_none(slots: &mut [u16])
+    ensures { λ _. ⌜ servedBy (now (slots .exit)) ≡ 5 ⌝ }
+{
+    if 0 < slots.len() {
+        slots[0] = HASHES as u16;
+    }
+}
+
+// Marks that hash h serves, by a table of `size` slots.
+fn mark(slots: &mut [u16], h: usize, size: usize)
+    requires { ⌜ (2 ≤ length (now slots)) × (h < 5) × (size ≤ 65535) ⌝ }
+    ensures { λ _. ⌜ now (slots .exit) ≡ set (set (now (slots .entry)) 0 h) 1 size ⌝ }
+{
+    slots[0] = h as u16;
+    slots[1] = size as u16;
+}
+
+// How many slots a table of m rows is given, `most` at last, where `len` slots are lent: 0 where it is not worth a table, or none fits.
+fn size_for(len: usize, m: usize, most: usize) -> usize
+    ensures { λ r. ⌜ (r ≤ 65535) × (64 ≤ r → (2 + r ≤ len) × (m ≤ 65535)) ⌝ }
+{
+    let rows = if m < most { most } else { m };
+    if rows <= FEW {
+        return 0;
+    }
+    if MOST < m {
+        return 0;
+    }
+    if len < 2 + PATH {
+        return 0;
+    }
+    let wanted = if rows < MOST / 2 - PATH {
+        PATH + 2 * rows
+    } else {
+        MOST
+    };
+    if len - 2 < wanted {
+        return len - 2;
+    }
+    wanted
+}
+
+// Puts every row into a table of this size, by the first hash from h on by which no path is full. Tells the place of the first row that
+// repeats an earlier one, or that there is none; or one more than there are rows, where no hash was left.
+fn serve(b: &[u8], sp: Spots, slots: &mut [u16], size: usize, first: usize) -> usize
+    requires { ⌜ Inside (now b) sp × (64 ≤ size) × (size ≤ 65535) × (2 + size ≤ length (now slots)) × (countOf sp ≤ 65535) ⌝ }
+    ensures { λ r. ⌜ (r ≤ countOf sp → r ≡ repeatPlace (keyOf (now (b .entry)) sp) (countOf sp))
+        × Indexed (keyOf (now (b .entry)) sp) (countOf sp) (now (slots .exit)) ⌝ }
 {
     let m = count(sp);
-    if 65535 < m {
-        return false;
+    let end = 2 + size;
+    let mut h = first;
+    while h < HASHES {
+        let place = lay_all(b, sp, h, &mut slots[2..end]);
+        if place < m {
+            mark_none(slots);
+            return place;
+        }
+        if place == m {
+            mark(slots, h, size);
+            return m;
+        }
+        h += 1;
     }
-    put(b, sp, table, m - 1)
+    mark_none(slots);
+    m + 1
 }
 
-// The row with key x, or how many rows there are where none has it.
-pub fn find(b: &[u8], sp: Spots, table: &[u16], x: u64) -> usize
-    requires { ⌜ Inside (now b) sp × Filled (keyOf (now b) sp) (countOf sp) (now table) ⌝ }
+// Puts every row into the slots, and tells how many rows come before the first whose key an earlier one has. There will be `most` rows at
+// most. A few rows are searched: that is cheaper than a table; and so are more than a slot can number.
+pub fn index(b: &[u8], sp: Spots, most: usize, slots: &mut [u16]) -> usize
+    requires { ⌜ Inside (now b) sp ⌝ }
+    ensures { λ r. ⌜ (r ≡ repeatPlace (keyOf (now (b .entry)) sp) (countOf sp))
+        × Indexed (keyOf (now (b .entry)) sp) (countOf sp) (now (slots .exit)) ⌝ }
+{
+    let m = count(sp);
+    let size = size_for(slots.len(), m, most);
+    if size < PATH {
+        mark_none(slots);
+        return nested(b, sp);
+    }
+    let place = serve(b, sp, slots, size, 0);
+    if m < place {
+        return nested(b, sp);
+    }
+    place
+}
+
+// Puts the last row into slots that have all the rows before it: where its path is full, all the rows by another hash.
+pub fn add(b: &[u8], sp: Spots, slots: &mut [u16])
+    requires { ⌜ Inside (now b) sp × (0 < countOf sp) × Indexed (keyOf (now b) sp) (countOf sp - 1) (now slots) ⌝ }
+    ensures { λ _. ⌜ Indexed (keyOf (now (b .entry)) sp) (countOf sp) (now (slots .exit)) ⌝ }
+{
+    let h = served_by(slots);
+    if HASHES <= h {
+        return;
+    }
+    let m = count(sp);
+    if MOST < m {
+        mark_none(slots);
+        return;
+    }
+    let size = row(slots[1]);
+    let end = 2 + size;
+    let reached = lay(b, sp, h, &mut slots[2..end], m - 1);
+    if reached < m {
+        mark_none(slots);
+        return;
+    }
+    if m < reached {
+        serve(b, sp, slots, size, h + 1);
+    }
+}
+
+// The row with key x, or how many rows there are where none has it: by the slots where they serve, else by a search.
+pub fn find(b: &[u8], sp: Spots, slots: &[u16], x: u64) -> usize
+    requires { ⌜ Inside (now b) sp × Indexed (keyOf (now b) sp) (countOf sp) (now slots) ⌝ }
     ensures { λ r. ⌜ r ≡ rowOf (keyOf (now (b .entry)) sp) x (countOf sp) ⌝ }
 {
+    let h = served_by(slots);
+    if HASHES <= h {
+        return search(b, sp, x);
+    }
     let m = count(sp);
-    let p = path_end(b, sp, table, x);
-    if table.len() <= p {
+    let size = row(slots[1]);
+    let end = 2 + size;
+    let p = path_end(b, sp, h, &slots[2..end], x);
+    if size <= p {
         return m;
     }
-    let e = row(table[p]);
+    let e = row(slots[2 + p]);
     if m <= e {
         return m;
     }
     e
-}
-
-// Whether every row goes into this table, so that no key stands twice.
-fn all_in(b: &[u8], sp: Spots, table: &mut [u16]) -> bool
-    requires { ⌜ Inside (now b) sp ⌝ }
-    ensures { λ r. ⌜ (r ≡ true → Distinct (keyOf (now (b .entry)) sp) (countOf sp)) ⌝ }
-{
-    fill(b, sp, table)
-}
-
-// The test by a table of its own, for at most 256 rows.
-fn few(b: &[u8], sp: Spots) -> bool
-    requires { ⌜ Inside (now b) sp ⌝ }
-    ensures { λ r. ⌜ (r ≡ true → Distinct (keyOf (now (b .entry)) sp) (countOf sp)) ⌝ }
-{
-    let mut table = [65535u16; 576];
-    all_in(b, sp, &mut table)
-}
-
-// The test by a table for at most 1,536 rows.
-fn more(b: &[u8], sp: Spots) -> bool
-    requires { ⌜ Inside (now b) sp ⌝ }
-    ensures { λ r. ⌜ (r ≡ true → Distinct (keyOf (now (b .entry)) sp) (countOf sp)) ⌝ }
-{
-    let mut table = [65535u16; 4160];
-    all_in(b, sp, &mut table)
-}
-
-// The test by a table for at most 12,288 rows, three times the largest capacity.
-fn many(b: &[u8], sp: Spots) -> bool
-    requires { ⌜ Inside (now b) sp ⌝ }
-    ensures { λ r. ⌜ (r ≡ true → Distinct (keyOf (now (b .entry)) sp) (countOf sp)) ⌝ }
-{
-    let mut table = [65535u16; 32832];
-    all_in(b, sp, &mut table)
-}
-
-// Whether a table shows that no key stands twice. Says false at will.
-fn surely_distinct(b: &[u8], sp: Spots) -> bool
-    requires { ⌜ Inside (now b) sp ⌝ }
-    ensures { λ r. ⌜ (r ≡ true → Distinct (keyOf (now (b .entry)) sp) (countOf sp)) ⌝ }
-{
-    let m = count(sp);
-    if m <= 256 {
-        return few(b, sp);
-    }
-    if m <= 1536 {
-        return more(b, sp);
-    }
-    many(b, sp)
-}
-
-// The place of the first key that repeats an earlier one. The nested search runs only where no table has shown that there is none,
-// and of a few rows at once: there it is cheaper than room for a table.
-pub fn first_repeat(b: &[u8], sp: Spots) -> usize
-    requires { ⌜ Inside (now b) sp ⌝ }
-    ensures { λ r. ⌜ r ≡ repeatPlace (keyOf (now (b .entry)) sp) (countOf sp) ⌝ }
-{
-    if count(sp) <= 12 {
-        return nested(b, sp);
-    }
-    if surely_distinct(b, sp) {
-        return count(sp);
-    }
-    nested(b, sp)
-}
-
-// Whether no key repeats an earlier one, by the same ways.
-pub fn none_repeats(b: &[u8], sp: Spots) -> bool
-    requires { ⌜ Inside (now b) sp ⌝ }
-    ensures { λ r. ⌜ r ≡ eqb (repeatPlace (keyOf (now (b .entry)) sp) (countOf sp)) (countOf sp) ⌝ }
-{
-    if count(sp) <= 12 {
-        return nested(b, sp) == count(sp);
-    }
-    if surely_distinct(b, sp) {
-        return true;
-    }
-    nested(b, sp) == count(sp)
 }

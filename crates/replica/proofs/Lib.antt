@@ -1,4 +1,3 @@
 -- Why a step is that of the rules, and what the public statements promise.
-pub mod Ways
 pub mod Promises
 pub mod Face

@@ -3,33 +3,18 @@ use rules::Answer;
 use rules::Header;
 use rules::Message;
 use rules::Shape;
-use rules::refusal;
 ghost use mathlib.Core.Path.{_≡_};
-ghost use mathlib.Core.List.{[]};
 ghost use Rattle.rules.specs.Choice.{pick};
 ghost use Rattle.rules.specs.Group.{sizesFit};
-ghost use Rattle.rules.specs.Digest.{digestFrom};
-ghost use Rattle.rules.specs.Read.{decoded};
-ghost use Rattle.rules.specs.Wire.{answerOf};
-ghost use Rattle.rules.specs.Image.{goodBytes};
-ghost use Rattle.rules.specs.Bytes.{left, stepBytes, startBytes};
-ghost use Rattle.places.specs.Layout.{lengthFor};
-ghost use Rattle.readers.specs.Said.{nextLength, fieldIn, groupViewIn, entryIn};
-ghost use Rattle.replica.specs.Face.{version, codeOf, Gives, Puts, given, narrow, writesFrom};
+ghost use Rattle.replica.specs.Face.{codeOf, given, narrow};
+ghost use Rattle.replica.specs.Statements.{Steps, StepsByNumber, Starts, Measures, Judges, Reads, Writes};
+ghost use Rattle.replica.specs.Statements.{MeasuresFirst, TellsField, TellsView, TellsEntry, Digests, IsVersion, IsCore};
 
 // One step: the next state's bytes and the outgoing messages, or the lowest number of the table that applies and all as it came.
 pub fn step(shape: Shape, state: &mut [u8], message: &[u8], out: &mut [u8]) -> Answer
-    ensures { λ r. ⌜ left r (now (state .exit)) (now (out .exit)) ≡ stepBytes shape (now (state .entry)) (now (message .entry)) (now (out .entry)) ⌝ }
+    ensures { λ r. ⌜ Steps shape (now (state .entry)) (now (message .entry)) (now (out .entry)) r (now (state .exit)) (now (out .exit)) ⌝ }
 {
-    if !good::good(shape, state) {
-        return Answer::Refused(refusal::WRONG_STATE);
-    }
-    let m = wire::read(shape.n, shape.s, message);
-    let number = admit::refusal(shape, state, m, message);
-    if number != 0 {
-        return Answer::Refused(number);
-    }
-    dispatch::handle(shape, state, m, message, out)
+    rooms::step(shape, state, message, out)
 }
 
 // ---- for hosts: the same under C names, every number one of 64 bits, a slice as a pointer and a length
@@ -47,7 +32,7 @@ fn code(answer: Answer) -> u64
 // The version of the interface: major * 10000 + minor * 100 + patch.
 #[no_mangle]
 pub extern "C" fn jallumere_version() -> u64
-    ensures { λ r. ⌜ r ≡ version ⌝ }
+    ensures { λ r. ⌜ IsVersion r ⌝ }
 {
     10000
 }
@@ -55,7 +40,7 @@ pub extern "C" fn jallumere_version() -> u64
 // 0: this is the proved core, and not the implementation that it is compared with.
 #[no_mangle]
 pub extern "C" fn jallumere_is_model() -> u64
-    ensures { λ r. ⌜ r ≡ 0 ⌝ }
+    ensures { λ r. ⌜ IsCore r ⌝ }
 {
     0
 }
@@ -63,7 +48,7 @@ pub extern "C" fn jallumere_is_model() -> u64
 // The state's length, 0 for wrong sizes.
 #[no_mangle]
 pub extern "C" fn jallumere_state_length(n: u64, s: u64, c: u64) -> u64
-    ensures { λ r. ⌜ r ≡ lengthFor (record { n = n; s = s; c = c }) ⌝ }
+    ensures { λ r. ⌜ Measures (record { n = n; s = s; c = c }) r ⌝ }
 {
     fresh::state_length(n, s, c)
 }
@@ -78,7 +63,7 @@ pub extern "C" fn jallumere_start(
     replica: u64,
     state: &mut [u8],
 ) -> u64
-    ensures { λ r. ⌜ Gives (startBytes (record { n = n; s = s; c = c }) group replica (now (state .entry))) r (now (state .exit)) [] ⌝ }
+    ensures { λ r. ⌜ Starts (record { n = n; s = s; c = c }) group replica (now (state .entry)) r (now (state .exit)) ⌝ }
 {
     code(fresh::start(Shape { n, s, c }, group, replica, state))
 }
@@ -93,7 +78,8 @@ pub extern "C" fn jallumere_step(
     message: &[u8],
     out: &mut [u8],
 ) -> u64
-    ensures { λ r. ⌜ Gives (stepBytes (record { n = n; s = s; c = c }) (now (state .entry)) (now (message .entry)) (now (out .entry))) r (now (state .exit)) (now (out .exit)) ⌝ }
+    ensures { λ r. ⌜ StepsByNumber (record { n = n; s = s; c = c }) (now (state .entry)) (now (message .entry)) (now (out .entry))
+        r (now (state .exit)) (now (out .exit)) ⌝ }
 {
     code(step(Shape { n, s, c }, state, message, out))
 }
@@ -101,9 +87,9 @@ pub extern "C" fn jallumere_step(
 // 0 where the bytes are those of a good state, else 1.
 #[no_mangle]
 pub extern "C" fn jallumere_good(n: u64, s: u64, c: u64, state: &[u8]) -> u64
-    ensures { λ r. ⌜ r ≡ pick (goodBytes (record { n = n; s = s; c = c }) (now (state .entry))) 0 1 ⌝ }
+    ensures { λ r. ⌜ Judges (record { n = n; s = s; c = c }) (now (state .entry)) r ⌝ }
 {
-    if good::good(Shape { n, s, c }, state) {
+    if rooms::good(Shape { n, s, c }, state) {
         return 0;
     }
     1
@@ -112,9 +98,9 @@ pub extern "C" fn jallumere_good(n: u64, s: u64, c: u64, state: &[u8]) -> u64
 // 0 for a message, 1 for wrong sizes, 2 for bytes that are none.
 #[no_mangle]
 pub extern "C" fn jallumere_read(n: u64, s: u64, message: &[u8]) -> u64
-    ensures { λ r. ⌜ r ≡ answerOf (decoded n s (now (message .entry))) ⌝ }
+    ensures { λ r. ⌜ Reads n s (now (message .entry)) r ⌝ }
 {
-    let m = wire::read(n, s, message);
+    let m = rooms::read(n, s, message);
     match m {
         Message::WrongSizes => 1,
         Message::Malformed(_) => 2,
@@ -137,7 +123,7 @@ pub extern "C" fn jallumere_read(n: u64, s: u64, message: &[u8]) -> u64
 // The length of the message that the bytes begin with, 0 where they begin with none.
 #[no_mangle]
 pub extern "C" fn jallumere_message_length(n: u64, s: u64, bytes: &[u8]) -> u64
-    ensures { λ r. ⌜ r ≡ nextLength n s (now (bytes .entry)) ⌝ }
+    ensures { λ r. ⌜ MeasuresFirst n s (now (bytes .entry)) r ⌝ }
 {
     readers::message_length(n, s, bytes)
 }
@@ -145,7 +131,7 @@ pub extern "C" fn jallumere_message_length(n: u64, s: u64, bytes: &[u8]) -> u64
 // A field of the state by its number, or nothing.
 #[no_mangle]
 pub extern "C" fn jallumere_field(n: u64, s: u64, c: u64, field: u64, state: &[u8]) -> u64
-    ensures { λ r. ⌜ r ≡ fieldIn (record { n = n; s = s; c = c }) (now (state .entry)) field ⌝ }
+    ensures { λ r. ⌜ TellsField (record { n = n; s = s; c = c }) field (now (state .entry)) r ⌝ }
 {
     readers::field(Shape { n, s, c }, field, state)
 }
@@ -153,7 +139,7 @@ pub extern "C" fn jallumere_field(n: u64, s: u64, c: u64, field: u64, state: &[u
 // The view of a group in the state's gVec, or nothing.
 #[no_mangle]
 pub extern "C" fn jallumere_group_view(n: u64, s: u64, c: u64, group: u64, state: &[u8]) -> u64
-    ensures { λ r. ⌜ r ≡ groupViewIn (record { n = n; s = s; c = c }) (now (state .entry)) group ⌝ }
+    ensures { λ r. ⌜ TellsView (record { n = n; s = s; c = c }) group (now (state .entry)) r ⌝ }
 {
     readers::group_view(Shape { n, s, c }, group, state)
 }
@@ -168,7 +154,7 @@ pub extern "C" fn jallumere_entry(
     field: u64,
     state: &[u8],
 ) -> u64
-    ensures { λ r. ⌜ r ≡ entryIn (record { n = n; s = s; c = c }) (now (state .entry)) position field ⌝ }
+    ensures { λ r. ⌜ TellsEntry (record { n = n; s = s; c = c }) position field (now (state .entry)) r ⌝ }
 {
     readers::entry(Shape { n, s, c }, position, field, state)
 }
@@ -176,7 +162,7 @@ pub extern "C" fn jallumere_entry(
 // FNV-1a run on from `start`.
 #[no_mangle]
 pub extern "C" fn jallumere_digest(start: u64, bytes: &[u8]) -> u64
-    ensures { λ r. ⌜ r ≡ digestFrom start (now (bytes .entry)) ⌝ }
+    ensures { λ r. ⌜ Digests start (now (bytes .entry)) r ⌝ }
 {
     digest::digest_on(start, bytes)
 }
@@ -223,7 +209,7 @@ pub extern "C" fn jallumere_write(
     out: &mut [u8],
 ) -> u64
     ensures { λ r. ⌜ (let g = given kind «to_group» «to_mask» «from_group» «from_replica» view in
-        Puts (writesFrom n s g (now (numbers .entry)) (now (views .entry)) (now (entries .entry)) (now (out .entry))) r (now (out .exit))) ⌝ }
+        Writes n s g (now (numbers .entry)) (now (views .entry)) (now (entries .entry)) (now (out .entry)) r (now (out .exit))) ⌝ }
 {
     if !is_narrow(kind, to_group, to_mask, from_group, from_replica, view) {
         return unfit(n, s);
@@ -240,5 +226,5 @@ pub extern "C" fn jallumere_write(
         return unfit(n, s);
     }
     let m = wire::decode::case_with(header, numbers);
-    code(wire::write(n, s, m, views, entries, out))
+    code(rooms::write(n, s, m, views, entries, out))
 }

@@ -13,7 +13,7 @@ use Rattle.rules.specs.declared.Shape.{Shape}
 use Rattle.rules.proofs.Choice.{by-test, count-front}
 use Rattle.rules.proofs.KeptLaws.{count-same}
 use Rattle.places.specs.Layout.{startOf, Stands}
-use Rattle.places.proofs.Sections.{stands-fits}
+use Rattle.places.proofs.Sections.{stands-fits, stands-midway}
 use Rattle.places.proofs.Kept.{reply-at}
 
 count-most : (p : ℕ → Bool) (n : ℕ) → count p n ≤ n
@@ -45,5 +45,5 @@ module _ {A : Type 0} where
 module _ {sh : Shape} {st : State} {b : List ℕ} (s : Stands sh st b) where
   pub held-counted : (k : ℕ) → k ≡ count (λ j. isSome (replyAt (sh .c) b (startOf sh atReplies + replyLength (sh .c) * j))) (sh .s) → k ≡ held (st .change .replies)
   held-counted k e =
-      e ∙ count-same (λ j. isSome (getD (st .change .replies) j none)) (λ j. isSome (replyAt (sh .c) b (startOf sh atReplies + replyLength (sh .c) * j))) (sh .s) (λ j l. ap isSome (reply-at s j l))
+      e ∙ count-same (λ j. isSome (getD (st .change .replies) j none)) (λ j. isSome (replyAt (sh .c) b (startOf sh atReplies + replyLength (sh .c) * j))) (sh .s) (λ j l. ap isSome (reply-at (stands-midway s) j l))
       ∙ ap (count (λ j. isSome (getD (st .change .replies) j none))) (sym (stands-fits s .replyPlaces))

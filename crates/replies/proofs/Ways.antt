@@ -15,7 +15,7 @@ use Rattle.rules.specs.Wire.{Wire, tagOf, headerIn}
 use Rattle.rules.specs.Kind.{bare, known, fromOutside, rowOf}
 use Rattle.rules.specs.Wire as wires
 use Rattle.rules.specs.Read.{wireIn, entriesAt, lengthFor, entryAt}
-use Rattle.rules.specs.State.{State, held}
+use Rattle.rules.specs.State.{State, withChange, held}
 use Rattle.rules.specs.Image.{replyLength, replyBytes, replyAt, tableAt, image, stateOf, atReplies}
 use Rattle.rules.specs.Merge.{merged}
 use Rattle.rules.specs.Step.{Outcome, refused, done, within, viewRight, statusRight, changing, starts, onVerifyReply}
@@ -30,8 +30,7 @@ use Rattle.rules.proofs.Tests.{same-true}
 use Rattle.entries.specs.Table.{Holds, Table}
 use Rattle.entries.proofs.Table.{decoded, is-table}
 use Rattle.places.specs.Layout.{startOf, Stands}
-use Rattle.places.specs.With.{withReplies}
-use Rattle.places.proofs.Sections.{stands-fits, stands-laid}
+use Rattle.places.proofs.Sections.{stands-fits, stands-laid, stands-midway}
 use Rattle.places.proofs.Head.{view-of}
 use Rattle.places.proofs.Kept.{even-replies, put-reply, reply-at}
 use Rattle.handler.specs.Handler.{Ready, handled}
@@ -143,7 +142,7 @@ module _ (sh : Shape) (b msg out : List ℕ) (m : Message) (h : Header) (r : Rea
 
   module _ (f : Bool) (q : f ≡ isSome (replyAt (sh .c) b (startOf sh atReplies + replyLength (sh .c) * from))) where
     flag-is : (v : Bool) → f ≡ v → isSome (getD (st .change .replies) from none) ≡ v
-    flag-is v z = ap isSome (sym (reply-at (r .stands) from from-below)) ∙ sym q ∙ z
+    flag-is v z = ap isSome (sym (reply-at (stands-midway (r .stands)) from from-below)) ∙ sym q ∙ z
 
     pub replied : f ≡ true → leaves 7 b out ≡ handled 19 onVerifyReply sh m b msg out
     replied z = sym (by-rule (refused 7) (second sh st w from (w .entries) from-is refl (flag-is true z)) ∙ closes-refused sh b out 7)
@@ -193,12 +192,12 @@ module _ (sh : Shape) (b msg out : List ℕ) (m : Message) (h : Header) (r : Rea
 
           pub reply-kept : (b′ : List ℕ) → k + 1 < sh .s - 1 → b′ ≡ splice b (startOf sh atReplies + replyLength (sh .c) * from) (replyBytes (sh .c) (some es)) → quiet b′ out ≡ handled 19 onVerifyReply sh m b msg out
           reply-kept b′ l x =
-              let y = put-reply (stands-laid (r .stands)) from es (even-replies (r .stands)) fits from-below x in
-              let d : withReplies st with ≡ changing st 3 (st .change .votes) (st .change .draft) (st .change .boundary) with = ap (λ (v : ℕ). changing st v (st .change .votes) (st .change .draft) (st .change .boundary) with) status-is in
+              let y = put-reply (stands-laid (r .stands)) from es (even-replies (stands-midway (r .stands))) fits from-below x in
+              let d : withChange (record { votes = st .change .votes; draft = st .change .draft; boundary = st .change .boundary; replies = with }) st ≡ changing st 3 (st .change .votes) (st .change .draft) (st .change .boundary) with = ap (λ (v : ℕ). changing st v (st .change .votes) (st .change .draft) (st .change .boundary) with) status-is in
               let t = changing st 3 (st .change .votes) (st .change .draft) (st .change .boundary) with in
               sym (by-rule (done t []) (waits sh st w from es from-is entries-are new fits (omega (arith, held-with))) ∙ closes-quiet sh b out t ∙ ap (λ (v : List ℕ). quiet v out) (sym (y .bytes ∙ ap (image sh) d)))
 
-          pub reply-last : (v : Left) → sh .s - 1 ≤ k + 1 → v ≡ closes sh b out (startsWith sh b (viewsOf sh msg) (mergedWith sh b from msg (at + 4) number)) → v ≡ handled 19 onVerifyReply sh m b msg out
+          pub reply-last : (v : Left) → sh .s - 1 ≤ k + 1 → v ≡ closes sh b out (startsWith sh b (viewsOf sh msg) (mergedWith sh b msg (record { from = from; at = at + 4; count = number }))) → v ≡ handled 19 onVerifyReply sh m b msg out
           unfolding starts
           reply-last v l x =
               x ∙ ap (λ (y : List ℕ). closes sh b out (startsWith sh b y (merged (st .change .draft) with))) views-equal

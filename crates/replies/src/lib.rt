@@ -1,5 +1,6 @@
 // The handler of verify reply (kind 19): replies are kept until those of all other groups are there; then they are merged into the draft, and the
 // view starts with it.
+use merge::Reply;
 use rules::Answer;
 use rules::Message;
 use rules::Shape;
@@ -17,99 +18,29 @@ ghost use Rattle.merge.specs.Merged.{mergedWith};
 ghost use Rattle.views.specs.Views.{viewsOf};
 ghost use Rattle.replies.specs.Replies.{startsWith};
 
-// Merges the replies into the draft, that of group `from` as its `number` entries stand in the message, and starts the view with what this gives.
-// The merge goes into a lent table, so that a draft that is too long, or that cannot be sent, leaves the state as it came.
+// Merges the replies into the draft, that of the message among them, and starts the view with what this gives. The merge goes into a lent table, so
+// that a draft that is too long, or that cannot be sent, leaves the state as it came.
 fn start_merged(
     shape: Shape,
     state: &mut [u8],
-    from: u64,
     message: &[u8],
-    at: usize,
-    number: usize,
-    table: &mut [u8],
+    reply: Reply,
     out: &mut [u8],
+    slots: &mut [u16],
+    table: &mut [u8],
 ) -> Answer
-    requires { ⌜ Stands shape (stateOf shape (now state)) (now state) × (16 + 4 * shape .s ≤ length (now message)) × (at + 24 * number ≤ length (now message)) × (length (now table) ≡ 4 + 24 * shape .c) ⌝ }
-    ensures { λ r. ⌜ left r (now (state .exit)) (now (out .exit)) ≡ closes shape (now (state .entry)) (now (out .entry)) (startsWith shape (now (state .entry)) (viewsOf shape (now (message .entry))) (mergedWith shape (now (state .entry)) from (now (message .entry)) at number)) ⌝ }
+    requires { ⌜
+        Stands shape (stateOf shape (now state)) (now state) × (16 + 4 * shape .s ≤ length (now message)) × (reply .at + 24 * reply .count ≤ length (now message))
+        × (length (now table) ≡ 4 + 24 * shape .c) ⌝ }
+    ensures { λ r. ⌜ (let b = now (state .entry) in
+        let draft = mergedWith shape b (now (message .entry)) reply in
+        left r (now (state .exit)) (now (out .exit)) ≡ closes shape b (now (out .entry)) (startsWith shape b (viewsOf shape (now (message .entry))) draft)) ⌝ }
 {
-    if !merge::merge(shape, state, from, message, at, number, table) {
+    if !merge::merge(shape, state, message, reply, table, slots) {
         return Answer::Refused(refusal::FULL);
     }
     let view = places::get_view(state);
     changes::start_leading(shape, state, view, message, table, out)
-}
-
-// The same, with a table of its own for at most 256 entries.
-fn merge_few(
-    shape: Shape,
-    state: &mut [u8],
-    from: u64,
-    message: &[u8],
-    at: usize,
-    number: usize,
-    out: &mut [u8],
-) -> Answer
-    requires { ⌜ Stands shape (stateOf shape (now state)) (now state) × (16 + 4 * shape .s ≤ length (now message)) × (at + 24 * number ≤ length (now message)) × (shape .c ≤ 256) ⌝ }
-    ensures { λ r. ⌜ left r (now (state .exit)) (now (out .exit)) ≡ closes shape (now (state .entry)) (now (out .entry)) (startsWith shape (now (state .entry)) (viewsOf shape (now (message .entry))) (mergedWith shape (now (state .entry)) from (now (message .entry)) at number)) ⌝ }
-{
-    let mut scratch = [0u8; 6148];
-    let end = 4 + 24 * shape.c as usize;
-    start_merged(
-        shape,
-        state,
-        from,
-        message,
-        at,
-        number,
-        &mut scratch[0..end],
-        out,
-    )
-}
-
-// The same, with a table for the largest capacity.
-fn merge_many(
-    shape: Shape,
-    state: &mut [u8],
-    from: u64,
-    message: &[u8],
-    at: usize,
-    number: usize,
-    out: &mut [u8],
-) -> Answer
-    requires { ⌜ Stands shape (stateOf shape (now state)) (now state) × (16 + 4 * shape .s ≤ length (now message)) × (at + 24 * number ≤ length (now message)) ⌝ }
-    ensures { λ r. ⌜ left r (now (state .exit)) (now (out .exit)) ≡ closes shape (now (state .entry)) (now (out .entry)) (startsWith shape (now (state .entry)) (viewsOf shape (now (message .entry))) (mergedWith shape (now (state .entry)) from (now (message .entry)) at number)) ⌝ }
-{
-    let mut scratch = [0u8; 98308];
-    let end = 4 + 24 * shape.c as usize;
-    start_merged(
-        shape,
-        state,
-        from,
-        message,
-        at,
-        number,
-        &mut scratch[0..end],
-        out,
-    )
-}
-
-// The same, with a table of its own by the capacity.
-fn merge_and_start(
-    shape: Shape,
-    state: &mut [u8],
-    from: u64,
-    message: &[u8],
-    at: usize,
-    number: usize,
-    out: &mut [u8],
-) -> Answer
-    requires { ⌜ Stands shape (stateOf shape (now state)) (now state) × (16 + 4 * shape .s ≤ length (now message)) × (at + 24 * number ≤ length (now message)) ⌝ }
-    ensures { λ r. ⌜ left r (now (state .exit)) (now (out .exit)) ≡ closes shape (now (state .entry)) (now (out .entry)) (startsWith shape (now (state .entry)) (viewsOf shape (now (message .entry))) (mergedWith shape (now (state .entry)) from (now (message .entry)) at number)) ⌝ }
-{
-    if shape.c <= 256 {
-        return merge_few(shape, state, from, message, at, number, out);
-    }
-    merge_many(shape, state, from, message, at, number, out)
 }
 
 // Kind 19: a group's second reply is refused. With fewer than all other groups' replies this one is kept; the last of them starts the view.
@@ -119,8 +50,10 @@ pub fn on_verify_reply(
     m: Message,
     message: &[u8],
     out: &mut [u8],
+    slots: &mut [u16],
+    table: &mut [u8],
 ) -> Answer
-    requires { ⌜ Ready shape (now state) m (now message) ⌝ }
+    requires { ⌜ Ready shape (now state) m (now message) × (length (now table) ≡ 4 + 24 * shape .c) ⌝ }
     ensures { λ r. ⌜ left r (now (state .exit)) (now (out .exit)) ≡ handled 19 onVerifyReply shape m (now (state .entry)) (now (message .entry)) (now (out .entry)) ⌝ }
 {
     let Message::VerifyReply(h) = m else {
@@ -136,8 +69,13 @@ pub fn on_verify_reply(
         return Answer::Refused(refusal::FULL);
     }
     if places::held_replies(shape, state) + 1 < shape.s - 1 {
-        keeping::keep_reply(shape, state, from, message, at + 4, number);
+        views::keep_reply(shape, state, from, message, at + 4, number);
         return Answer::Done(0);
     }
-    merge_and_start(shape, state, from, message, at + 4, number, out)
+    let reply = Reply {
+        from,
+        at: at + 4,
+        count: number,
+    };
+    start_merged(shape, state, message, reply, out, slots, table)
 }

@@ -1,4 +1,4 @@
--- A state on the way (Midway), the early entry that is lifted (Lifted), timestamps (Stamps).
-pub mod Midway
+-- The early entry that is lifted, in a list (Lifted) and in a state's bytes (Lifts), and what stands after an entry or a note came in; timestamps (Stamps).
 mod Lifted
+pub mod Lifts
 mod Stamps

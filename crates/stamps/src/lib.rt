@@ -10,10 +10,10 @@ ghost use Rattle.rules.specs.Entry as order;
 ghost use Rattle.rules.specs.Log as log;
 ghost use Rattle.rules.specs.Choice.{isSome};
 ghost use Rattle.rules.specs.State as rule;
+ghost use Rattle.rules.specs.State.{withWaiting};
 ghost use Rattle.rules.specs.Image.{stateOf};
 ghost use Rattle.rules.specs.Early.{lifted};
-ghost use Rattle.places.specs.With.{withEarly};
-ghost use Rattle.stamps.specs.Midway.{Midway};
+ghost use Rattle.places.specs.Layout.{Sized, Midway};
 
 // ---- the log's last
 
@@ -30,31 +30,20 @@ pub fn stamped(stamp: u64, e: Entry) -> Entry
     }
 }
 
-// The timestamp of the log's last entry, 0 where it is empty.
-fn last_stamp(shape: Shape, state: &[u8]) -> u64
-    requires { ⌜ Midway shape (stateOf shape (now state)) (now state) ⌝ }
-    ensures { λ r. ⌜ r ≡ log.lastStamp (stateOf shape (now (state .entry)) .logged .log) ⌝ }
-{
-    let layout = places::places_of(shape);
-    let start = layout.log;
-    let end = layout.early;
-    logs::last_stamp(&state[start..end], shape.c as usize)
-}
-
 // Whether e may follow the log's last.
 pub fn may_follow(shape: Shape, state: &[u8], e: Entry) -> bool
-    requires { ⌜ Midway shape (stateOf shape (now state)) (now state) ⌝ }
+    requires { ⌜ Sized shape (now state) ⌝ }
     ensures { λ r. ⌜ r ≡ log.followsLast (stateOf shape (now (state .entry)) .logged .log) e ⌝ }
 {
-    last_stamp(shape, state) <= e.stamp
+    places::last_stamp(shape, state) <= e.stamp
 }
 
 // The entry that a leader puts in early: e at its due time or, where that is below the log's last, at that timestamp.
 pub fn raised(shape: Shape, state: &[u8], e: Entry) -> Entry
-    requires { ⌜ Midway shape (stateOf shape (now state)) (now state) ⌝ }
+    requires { ⌜ Sized shape (now state) ⌝ }
     ensures { λ r. ⌜ r ≡ log.raised (stateOf shape (now (state .entry)) .logged .log) e ⌝ }
 {
-    let last = last_stamp(shape, state);
+    let last = places::last_stamp(shape, state);
     if e.stamp < last {
         return stamped(last, e);
     }
@@ -68,37 +57,12 @@ pub fn is_noted(shape: Shape, state: &[u8], e: Entry, j: u64) -> bool
     requires { ⌜ Midway shape (stateOf shape (now state)) (now state) × (j < shape .s) ⌝ }
     ensures { λ r. ⌜ r ≡ isSome (rule.noted (stateOf shape (now (state .entry)) .waiting .notes) e j) ⌝ }
 {
-    let layout = places::places_of(shape);
-    let start = layout.notes;
-    let end = layout.votes;
     let c = shape.c as usize;
     let s = shape.s as usize;
-    match notes::noted(&state[start..end], c, s, e, j as usize) {
+    match notes::noted(places::notes(shape, state), c, s, e, j as usize) {
         Point::Unheard => false,
         Point::Heard(_) => true,
     }
-}
-
-// Whether notes from every group of the entry's mask are held.
-fn agreed(shape: Shape, state: &[u8], e: Entry) -> bool
-    requires { ⌜ Midway shape (stateOf shape (now state)) (now state) ⌝ }
-    ensures { λ r. ⌜ r ≡ rule.agreed shape (stateOf shape (now (state .entry)) .waiting .notes) e ⌝ }
-{
-    let layout = places::places_of(shape);
-    let start = layout.notes;
-    let end = layout.votes;
-    notes::agreed(&state[start..end], shape.c as usize, shape.s as usize, e)
-}
-
-// The greatest of the notes from groups of the entry's mask.
-fn greatest(shape: Shape, state: &[u8], e: Entry) -> u64
-    requires { ⌜ Midway shape (stateOf shape (now state)) (now state) ⌝ }
-    ensures { λ r. ⌜ r ≡ rule.greatest shape (stateOf shape (now (state .entry)) .waiting .notes) e ⌝ }
-{
-    let layout = places::places_of(shape);
-    let start = layout.notes;
-    let end = layout.votes;
-    notes::greatest(&state[start..end], shape.c as usize, shape.s as usize, e)
 }
 
 // ---- what they lift
@@ -106,29 +70,36 @@ fn greatest(shape: Shape, state: &[u8], e: Entry) -> u64
 // Puts d in the place of early entry i.
 fn put_early(shape: Shape, state: &mut [u8], i: usize, d: Entry)
     requires { ⌜ Midway shape (stateOf shape (now state)) (now state) × (i < length (stateOf shape (now state) .waiting .early)) ⌝ }
-    ensures { λ _. ⌜ Midway shape (withEarly (stateOf shape (now (state .entry))) (set (stateOf shape (now (state .entry)) .waiting .early) i d)) (now (state .exit)) ⌝ }
+    ensures { λ _. ⌜ (let st = stateOf shape (now (state .entry)) in
+        let early = set (st .waiting .early) i d in
+        Midway shape (withWaiting (record { early = early; late = st .waiting .late; notes = st .waiting .notes }) st) (now (state .exit))) ⌝ }
 {
     let layout = places::places_of(shape);
     let start = layout.early;
     let end = layout.late;
-    entries::replace_at(&mut state[start..end], shape.c as usize, i, d);
+    early::lift(&mut state[start..end], shape.c as usize, i, d);
 }
 
 // The early entry of e's transaction, once notes from every group of its mask are held, gets their greatest as its timestamp.
 pub fn lift(shape: Shape, state: &mut [u8], e: Entry)
     requires { ⌜ Midway shape (stateOf shape (now state)) (now state) × (log.distinct (stateOf shape (now state) .waiting .early) ≡ true) ⌝ }
-    ensures { λ _. ⌜ Midway shape (withEarly (stateOf shape (now (state .entry))) (lifted shape (stateOf shape (now (state .entry)) .waiting .notes) e (stateOf shape (now (state .entry)) .waiting .early))) (now (state .exit)) ⌝ }
+    ensures { λ _. ⌜ (let st = stateOf shape (now (state .entry)) in
+        let early = lifted shape (st .waiting .notes) e (st .waiting .early) in
+        Midway shape (withWaiting (record { early = early; late = st .waiting .late; notes = st .waiting .notes }) st) (now (state .exit))) ⌝ }
 {
-    let start = places::places_of(shape).early;
-    let count = octets::get32(state, start) as usize;
-    let i = entries::find(state, start + 4, count, e.request, e.coordinator);
+    let c = shape.c as usize;
+    let s = shape.s as usize;
+    let early = places::early(shape, state);
+    let count = entries::count(early);
+    let i = entries::find(early, 4, count, e.request, e.coordinator);
     if count <= i {
         return;
     }
-    let d = entries::entry_at(state, start + 4 + 24 * i);
-    if !agreed(shape, state, d) {
+    let d = entries::entry_of(early, c, i);
+    let notes = places::notes(shape, state);
+    if !notes::agreed(notes, c, s, d) {
         return;
     }
-    let stamp = greatest(shape, state, d);
+    let stamp = notes::greatest(notes, c, s, d);
     put_early(shape, state, i, stamped(stamp, d));
 }

@@ -10,7 +10,7 @@ use Rattle.octets.specs.Bytes.{le, part, splice}
 use Rattle.octets.proofs.Laws.{part-add, splice-home, splice-splice-next}
 use Rattle.rules.specs.Choice.{keep}
 use Rattle.rules.specs.Log.{lastStamp}
-use Rattle.rules.specs.State.{State}
+use Rattle.rules.specs.State.{State, withWaiting}
 use Rattle.rules.specs.Early.{staysEarly, notesWithout}
 use Rattle.rules.specs.Image.{tableLength, noteLength, tableBytes, image, atEarly, atLate, atLog, atNotes}
 use Rattle.rules.specs.declared.Entry.{Entry}
@@ -19,16 +19,15 @@ use Rattle.rules.proofs.Tables.{TableFits, table-long}
 use Rattle.entries.proofs.Table.{hold}
 use Rattle.notes.specs.Notes.{notesAt, NotesHold, Notes}
 use Rattle.notes.proofs.Notes.{decoded, is-notes}
-use Rattle.places.specs.Layout.{startOf, Fits, Laid, Stands}
-use Rattle.places.specs.With.{withEarly, withLate}
-use Rattle.places.proofs.Sections.{stands-fits, stands-laid}
+use Rattle.places.specs.Layout.{startOf, Fits, Stands}
+use Rattle.places.proofs.Sections.{Laid, stands-fits, stands-laid}
 use Rattle.places.proofs.Tables as tables
 use Rattle.places.proofs.Head.{put-sync}
-use Rattle.handler.proofs.NotesLent.{notes-lent, notes-home}
-use Rattle.leaving.specs.Listed.{chosen}
-use Rattle.syncs.specs.Buffers.{BothHold, earlyIn, lateIn, Both}
+use Rattle.places.proofs.Lent.{notes-lent, notes-home}
+use Rattle.early.specs.Listed.{chosen}
+use Rattle.early.specs.Buffers.{BothHold, earlyIn, lateIn, Both}
 use Rattle.syncs.specs.Takes.{lateBy, syncedBy}
-use Rattle.syncs.proofs.Buffers as buffers
+use Rattle.early.proofs.Buffers as buffers
 use Rattle.syncs.proofs.Rule.{stays-is, late-is, late-long}
 
 module _ {sh : Shape} {st : State} {b : List ℕ} (l : Laid sh st b) (at n : ℕ) (e : at ≡ startOf sh atEarly) (m : n ≡ tableLength (sh .c) + tableLength (sh .c)) where
@@ -52,7 +51,7 @@ module _ {sh : Shape} {st : State} {b : List ℕ} (l : Laid sh st b) (at n : ℕ
         size = length-append x y ∙ ap₂ _+_ lx ly;
       })
 
-  pub both-home : (es ls : List Entry) (x : List ℕ) → BothHold (sh .c) es ls x → startOf sh atNotes ≤ length b → Laid sh (withLate (withEarly st es) ls) (take at b ++ (x ++ drop n (drop at b)))
+  pub both-home : (es ls : List Entry) (x : List ℕ) → BothHold (sh .c) es ls x → startOf sh atNotes ≤ length b → Laid sh (withWaiting (record { early = es; late = ls; notes = st .waiting .notes }) st) (take at b ++ (x ++ drop n (drop at b)))
   both-home es ls x h w =
       let u : List ℕ = tableBytes (sh .c) es in
       let v : List ℕ = tableBytes (sh .c) ls in
@@ -89,7 +88,7 @@ module _ {sh : Shape} {st : State} {b : List ℕ} (s : Stands sh st b) (log : Li
     abbrev b₁ : List ℕ
     b₁ = take at b ++ (x ++ drop n (drop at b))
 
-    laid₁ : Laid sh (withLate (withEarly st (staysEarly log (st .waiting .early))) (lateBy st log)) b₁
+    laid₁ : Laid sh (withWaiting (record { early = staysEarly log (st .waiting .early); late = lateBy st log; notes = st .waiting .notes }) st) b₁
     laid₁ =
         both-home (stands-laid s) at n e m (staysEarly log (st .waiting .early)) (lateBy st log) x
         (rw (buffers.early-is both, buffers.late-is both, hl, stays-is log (st .waiting .early), late-is st log) at k)

@@ -1,5 +1,4 @@
 -- What the functions of kind 4 make of the log that it brings and of the state.
-mod Buffers
 mod Rule
 mod Home
 mod Slow

@@ -13,8 +13,8 @@ use Rattle.rules.specs.Log.{followsLast, lastStamp}
 use Rattle.rules.specs.State.{State}
 use Rattle.rules.specs.Early.{staysEarly, fallsLate}
 use Rattle.rules.specs.declared.Entry.{Entry}
-use Rattle.leaving.specs.Listed.{chosen}
-use Rattle.leaving.proofs.Entries.{without-is}
+use Rattle.early.specs.Listed.{chosen}
+use Rattle.early.proofs.Entries.{without-is}
 use Rattle.syncs.specs.Takes.{lateBy}
 
 module _ {A : Type 0} where

@@ -26,15 +26,15 @@ use Rattle.rules.proofs.Tests.{all-at}
 use Rattle.rules.proofs.Entries.{EntryFits, long-entry, exact-entry}
 use Rattle.entries.proofs.Copies.{read-fits}
 use Rattle.places.specs.Layout.{Sized}
-use Rattle.places.proofs.Sections.{stands-fits, stands-laid}
+use Rattle.places.proofs.Sections.{stands-fits, stands-laid, stands-midway}
 use Rattle.places.proofs.Head.{sync-of}
 use Rattle.places.proofs.Rows.{within}
 use Rattle.handler.specs.Sending.{messageBytes, headedIn}
 use Rattle.handler.proofs.Rows.{sends-below, sends-more}
 use Rattle.handler.proofs.Sends.{sender, message-sent, sent-length}
-use Rattle.leaving.specs.Listed.{listedIn}
+use Rattle.early.specs.Listed.{listedIn}
 use Rattle.syncs.specs.Takes.{slowReplies, Coming}
-use Rattle.leaving.specs.declared.Listed.{Listed}
+use Rattle.early.specs.declared.Listed.{Listed}
 
 -- how long it is
 pub one-long : (s : ℕ) → lengthFor s 6 1 ≡ 56 + 4 * s
@@ -153,5 +153,5 @@ module _ {sh : Shape} {b msg : List ℕ} {log : Listed} (g : Coming sh b msg log
 
   pub product : (sync k : ℕ) → sync ≡ num b 24 8 → k ≡ lengthFor (sh .s) 6 1 → (k * (log .count - sync) ≤ 360448) × (k * (log .count - sync) ≡ lengthFor (sh .s) 6 1 * (log .count - stateOf sh b .logged .sync))
   product sync k e f =
-      let z : sync ≡ stateOf sh b .logged .sync = e ∙ sync-of (g .stands) in
+      let z : sync ≡ stateOf sh b .logged .sync = e ∙ sync-of (stands-midway (g .stands)) in
       rw (f, z) (all-fit (sh .s) (log .count - stateOf sh b .logged .sync) (g .stands .fits .few) (omega (arith, g .room, g .stands .fits .small)), refl)

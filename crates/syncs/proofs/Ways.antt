@@ -23,16 +23,14 @@ use Rattle.rules.specs.declared.Header.{Header}
 use Rattle.rules.specs.declared.Shape.{Shape}
 use Rattle.rules.specs.declared.Message.{Message}
 use Rattle.rules.specs.declared.Message.the-variants.{ReplicaSync}
-use Rattle.repeats.specs.Rows.{countOf, keyOf, Inside}
-use Rattle.repeats.specs.Table.{Filled}
-use Rattle.repeats.specs.declared.Spots.{Spots}
+use Rattle.places.proofs.Sections.{stands-midway}
 use Rattle.places.proofs.Head.{sync-of}
 use Rattle.handler.specs.Handler.{Ready, handled}
 use Rattle.handler.proofs.Told.{Told, told-length, told-entries, ready-told}
 use Rattle.handler.proofs.Closes.{closes-refused, closes-sent, closes-tight, handled-own}
-use Rattle.leaving.specs.Listed.{spotsOf, listedIn, Lookup}
+use Rattle.early.specs.Listed.{listedIn}
 use Rattle.syncs.specs.Takes.{lateBy, syncedBy, slowReplies, takes, Coming}
-use Rattle.leaving.specs.declared.Listed.{Listed}
+use Rattle.early.specs.declared.Listed.{Listed}
 use Rattle.syncs.proofs.Slow.{all-long}
 
 -- ---- the rule
@@ -94,14 +92,9 @@ module _ {sh : Shape} {b msg : List ℕ} {log : Listed} (g : Coming sh b msg log
       → record { refused = false; number = 0; sent = sent; state = b₁; out = out₁ } ≡ closes sh b out (takes sh st entries)
   taken out late n sent b₁ out₁ e h q k w x = all-done sh st entries b out sent b₁ out₁ (rw e at h) (rw (all-long g, ← q) k) (w .0) x (w .1)
 
-  -- the look into it, where the table was filled
-  pub filled-in : (sp : Spots) (f : Bool) (t : List ℕ) → sp ≡ spotsOf log → (f ≡ true → Filled (keyOf msg sp) (countOf sp) t)
-      → Coming sh b msg (record { at = log .at; count = log .count; filled = f }) × Lookup msg (record { at = log .at; count = log .count; filled = f }) t
-  filled-in sp f t e k =
-      (record { stands = g .stands; inside = g .inside; past = g .past; room = g .room }, record { inside = g .inside; few = omega (arith, g .room, g .stands .fits .small); found = subst (λ (x : Spots). f ≡ true → Filled (keyOf msg x) (countOf x) t) e k })
-
-  pub fill-asked : (sp : Spots) → sp ≡ spotsOf log → Inside msg sp
-  fill-asked sp e = rw e (record { one = omega (arith, g .inside); two = omega arith; three = omega arith; few = omega (arith, g .room, g .stands .fits .small) })
+  -- what its rows are put in by
+  pub list-asked : (log .at + 24 * log .count ≤ length msg) × (log .count ≤ 4096)
+  list-asked = (g .inside, omega (arith, g .room, g .stands .fits .small))
 
 -- ---- the handler
 
@@ -120,7 +113,7 @@ module _ (sh : Shape) (b msg out : List ℕ) (m : Message) (h : Header) (r : Rea
 
   module _ (at count : ℕ) (p : at ≡ entriesAt (sh .s) 4) (q : count ≡ num msg at 4) where
     abbrev log : Listed
-    log = record { at = at + 4; count = count; filled = false }
+    log = record { at = at + 4; count = count }
 
     count-is : num msg (entriesAt (sh .s) 4) 4 ≡ count
     count-is = ap (λ (a : ℕ). num msg a 4) (sym p) ∙ sym q
@@ -139,7 +132,7 @@ module _ (sh : Shape) (b msg out : List ℕ) (m : Message) (h : Header) (r : Rea
 
     module _ (sync : ℕ) (y : sync ≡ num b 24 8) where
       sync-is : sync ≡ stateOf sh b .logged .sync
-      sync-is = y ∙ sync-of (r .stands)
+      sync-is = y ∙ sync-of (stands-midway (r .stands))
 
       pub not-longer : count ≤ sync → leaves 7 b out ≡ handled 4 onReplicaSync sh m b msg out
       not-longer l = sym (closes-refused sh b out 7) ∙ by-rule (refused 7) (rule-old sh (stateOf sh b) _ (listedIn msg log) entries-are (omega (arith, count-long, sync-is)))

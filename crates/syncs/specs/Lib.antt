@@ -1,3 +1,2 @@
--- What the functions of kind 4 cite: early and late beside each other, and the rule in parts.
-pub mod Buffers
+-- What the functions of kind 4 cite: the rule in parts.
 pub mod Takes

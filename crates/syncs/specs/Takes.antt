@@ -12,7 +12,7 @@ use Rattle.rules.specs.Early.{staysEarly, fallsLate}
 use Rattle.rules.specs.declared.Entry.{Entry}
 use Rattle.rules.specs.declared.Shape.{Shape}
 use Rattle.places.specs.Layout.{Stands}
-use Rattle.leaving.specs.declared.Listed.{Listed}
+use Rattle.early.specs.declared.Listed.{Listed}
 
 -- what is left of late, and what falls to it from early
 unfoldable pub lateBy : State → List Entry → List Entry

@@ -1,5 +1,5 @@
 // Kind 4, replica sync: the leader's log is taken over, and the entries that it synced leave early, late and the notes.
-use leaving::Listed;
+use early::Listed;
 use rules::Answer;
 use rules::Entry;
 use rules::Message;
@@ -22,64 +22,8 @@ ghost use Rattle.rules.specs.Bytes.{left, closes};
 ghost use Rattle.rules.specs.Image.{image, stateOf};
 ghost use Rattle.places.specs.Layout.{Stands};
 ghost use Rattle.handler.specs.Handler.{Ready, handled};
-ghost use Rattle.leaving.specs.Listed as listing;
-ghost use Rattle.leaving.specs.Listed.{listedIn, Lookup};
-ghost use Rattle.syncs.specs.Buffers.{BothHold, earlyIn, lateIn, Both};
+ghost use Rattle.early.specs.Listed.{listedIn, Lookup};
 ghost use Rattle.syncs.specs.Takes.{lateBy, syncedBy, slowReplies, takes, Coming};
-
-// ---- early and late, one after the other in a slice
-
-// How long late becomes: what is not synced of late, and of early what is below the new log's last.
-fn late_after(t: &[u8], c: usize, message: &[u8], log: Listed, table: &[u16], last: u64) -> usize
-    requires { ⌜ Both c (now t) × Lookup (now message) log (now table) ⌝ }
-    ensures { λ r. ⌜ r ≡ length (keep (listing.chosen (listedIn (now (message .entry)) log) false 0) (lateIn c (now (t .entry)))) + length (keep (listing.chosen (listedIn (now (message .entry)) log) true last) (earlyIn c (now (t .entry)))) ⌝ }
-{
-    let half = 4 + 24 * c;
-    let end = half + half;
-    let stay = leaving::count_chosen(&t[half..end], c, message, log, table, false, 0);
-    stay + leaving::count_chosen(&t[0..half], c, message, log, table, true, last)
-}
-
-// Puts early entry i after the last of late where it is not synced and below the new log's last.
-fn fall(t: &mut [u8], c: usize, i: usize, message: &[u8], log: Listed, table: &[u16], last: u64)
-    requires { ⌜ Both c (now t) × (i < length (earlyIn c (now t))) × (listing.chosen (listedIn (now message) log) true last (entryOf (earlyIn c (now t)) i) ≡ true → length (lateIn c (now t)) < c) × Lookup (now message) log (now table) ⌝ }
-    ensures { λ _. ⌜ BothHold c (earlyIn c (now (t .entry))) (lateIn c (now (t .entry)) ++ pick (listing.chosen (listedIn (now (message .entry)) log) true last (entryOf (earlyIn c (now (t .entry))) i)) (entryOf (earlyIn c (now (t .entry))) i ∷ []) []) (now (t .exit)) ⌝ }
-{
-    let half = 4 + 24 * c;
-    let e = entries::entry_of(&t[0..half], c, i);
-    if !leaving::chosen(message, log, table, true, last, e) {
-        return;
-    }
-    let end = half + half;
-    entries::append(&mut t[half..end], c, e);
-}
-
-// Puts the early entries that are not synced and below the new log's last after the last of late, in their order.
-fn fall_late(t: &mut [u8], c: usize, message: &[u8], log: Listed, table: &[u16], last: u64)
-    requires { ⌜ Both c (now t) × (length (lateIn c (now t)) + length (keep (listing.chosen (listedIn (now message) log) true last) (earlyIn c (now t))) ≤ c) × Lookup (now message) log (now table) ⌝ }
-    ensures { λ _. ⌜ BothHold c (earlyIn c (now (t .entry))) (lateIn c (now (t .entry)) ++ keep (listing.chosen (listedIn (now (message .entry)) log) true last) (earlyIn c (now (t .entry)))) (now (t .exit)) ⌝ }
-{
-    let n = entries::count(t);
-    let mut i = 0;
-    while i < n {
-        fall(t, c, i, message, log, table, last);
-        i += 1;
-    }
-}
-
-// Synced entries leave early and late, and what is left of early below the new log's last goes to late.
-fn sync_buffers(t: &mut [u8], c: usize, message: &[u8], log: Listed, table: &[u16], last: u64)
-    requires { ⌜ Both c (now t) × (length (keep (listing.chosen (listedIn (now message) log) false 0) (lateIn c (now t))) + length (keep (listing.chosen (listedIn (now message) log) true last) (earlyIn c (now t))) ≤ c) × Lookup (now message) log (now table) ⌝ }
-    ensures { λ _. ⌜
-        BothHold c (keep (listing.chosen (listedIn (now (message .entry)) log) false last) (earlyIn c (now (t .entry))))
-        (keep (listing.chosen (listedIn (now (message .entry)) log) false 0) (lateIn c (now (t .entry))) ++ keep (listing.chosen (listedIn (now (message .entry)) log) true last) (earlyIn c (now (t .entry)))) (now (t .exit)) ⌝ }
-{
-    let half = 4 + 24 * c;
-    let end = half + half;
-    leaving::leave(&mut t[half..end], c, message, log, table, 0);
-    fall_late(t, c, message, log, table, last);
-    leaving::leave(&mut t[0..half], c, message, log, table, last);
-}
 
 // ---- the state
 
@@ -89,28 +33,30 @@ fn late_length(
     state: &[u8],
     message: &[u8],
     log: Listed,
-    table: &[u16],
+    slots: &[u16],
     last: u64,
 ) -> usize
-    requires { ⌜ Stands shape (stateOf shape (now state)) (now state) × Lookup (now message) log (now table) × (last ≡ lastStamp (listedIn (now message) log)) ⌝ }
+    requires { ⌜ Stands shape (stateOf shape (now state)) (now state) × Lookup (now message) log (now slots) × (last ≡ lastStamp (listedIn (now message) log)) ⌝ }
     ensures { λ r. ⌜ r ≡ length (lateBy (stateOf shape (now (state .entry))) (listedIn (now (message .entry)) log)) ⌝ }
 {
     let places = places::places_of(shape);
     let early = places.early;
     let notes = places.notes;
-    late_after(
+    early::late_after(
         &state[early..notes],
         shape.c as usize,
         message,
         log,
-        table,
+        slots,
         last,
     )
 }
 
 // Takes the log over: synced entries leave early, late and the notes, and the sync point becomes the log's length.
-fn sync_state(shape: Shape, state: &mut [u8], message: &[u8], log: Listed, table: &[u16], last: u64)
-    requires { ⌜ Stands shape (stateOf shape (now state)) (now state) × Lookup (now message) log (now table) × (last ≡ lastStamp (listedIn (now message) log)) × (log .count ≤ shape .c) × (length (lateBy (stateOf shape (now state)) (listedIn (now message) log)) ≤ shape .c) ⌝ }
+fn sync_state(shape: Shape, state: &mut [u8], message: &[u8], log: Listed, slots: &[u16], last: u64)
+    requires { ⌜ (let st = stateOf shape (now state) in
+        Stands shape st (now state) × Lookup (now message) log (now slots) × (last ≡ lastStamp (listedIn (now message) log)) × (log .count ≤ shape .c)
+        × (length (lateBy st (listedIn (now message) log)) ≤ shape .c)) ⌝ }
     ensures { λ _. ⌜ now (state .exit) ≡ image shape (syncedBy (stateOf shape (now (state .entry))) (listedIn (now (message .entry)) log)) ⌝ }
 {
     let places = places::places_of(shape);
@@ -118,14 +64,14 @@ fn sync_state(shape: Shape, state: &mut [u8], message: &[u8], log: Listed, table
     let notes = places.notes;
     let votes = places.votes;
     let c = shape.c as usize;
-    sync_buffers(&mut state[early..notes], c, message, log, table, last);
-    leaving::leave_notes(
+    early::settle(&mut state[early..notes], c, message, log, slots, last);
+    early::leave_notes(
         &mut state[notes..votes],
         c,
         shape.s as usize,
         message,
         log,
-        table,
+        slots,
     );
     places::put_table(shape, state, places.log, message, log.at, log.count);
     places::put_sync(state, log.count as u64);
@@ -144,7 +90,9 @@ fn tell_slow(
     i: usize,
 ) -> usize
     requires { ⌜ Coming shape (now state) (now message) log × (i < log .count) × (at + lengthFor (shape .s) 6 1 ≤ length (now out)) ⌝ }
-    ensures { λ r. ⌜ (r ≡ at + lengthFor (shape .s) 6 1) × (now (out .exit) ≡ splice (now (out .entry)) at (wireBytes (slowReply (stateOf shape (now (state .entry))) (listedIn (now (message .entry)) log) i))) ⌝ }
+    ensures { λ r. ⌜
+        (r ≡ at + lengthFor (shape .s) 6 1)
+        × (now (out .exit) ≡ splice (now (out .entry)) at (wireBytes (slowReply (stateOf shape (now (state .entry))) (listedIn (now (message .entry)) log) i))) ⌝ }
 {
     let from = log.at + 24 * i;
     let end = from + 24;
@@ -165,7 +113,9 @@ fn slow_length(shape: Shape, state: &[u8], message: &[u8], log: Listed) -> usize
 // Writes kind 6 for each position past the sync point, and says where the last ends.
 fn tell_synced(shape: Shape, state: &[u8], out: &mut [u8], message: &[u8], log: Listed) -> usize
     requires { ⌜ Coming shape (now state) (now message) log × (lengthFor (shape .s) 6 1 * (log .count - stateOf shape (now state) .logged .sync) ≤ length (now out)) ⌝ }
-    ensures { λ r. ⌜ (r ≡ length (flat wireBytes (slowReplies (stateOf shape (now (state .entry))) (listedIn (now (message .entry)) log)))) × (now (out .exit) ≡ splice (now (out .entry)) 0 (flat wireBytes (slowReplies (stateOf shape (now (state .entry))) (listedIn (now (message .entry)) log)))) ⌝ }
+    ensures { λ r. ⌜ (let st = stateOf shape (now (state .entry)) in
+        (r ≡ length (flat wireBytes (slowReplies st (listedIn (now (message .entry)) log))))
+        × (now (out .exit) ≡ splice (now (out .entry)) 0 (flat wireBytes (slowReplies st (listedIn (now (message .entry)) log))))) ⌝ }
 {
     let sync = places::get_sync(state) as usize;
     let n = log.count - sync;
@@ -187,13 +137,14 @@ fn sync_by(
     message: &[u8],
     out: &mut [u8],
     log: Listed,
-    table: &[u16],
+    slots: &[u16],
 ) -> Answer
-    requires { ⌜ Coming shape (now state) (now message) log × Lookup (now message) log (now table) ⌝ }
-    ensures { λ r. ⌜ left r (now (state .exit)) (now (out .exit)) ≡ closes shape (now (state .entry)) (now (out .entry)) (takes shape (stateOf shape (now (state .entry))) (listedIn (now (message .entry)) log)) ⌝ }
+    requires { ⌜ Coming shape (now state) (now message) log × Lookup (now message) log (now slots) ⌝ }
+    ensures { λ r. ⌜ (let b = now (state .entry) in
+        left r (now (state .exit)) (now (out .exit)) ≡ closes shape b (now (out .entry)) (takes shape (stateOf shape b) (listedIn (now (message .entry)) log))) ⌝ }
 {
     let last = octets::get64(message, log.at + 24 * (log.count - 1));
-    let late = late_length(shape, state, message, log, table, last);
+    let late = late_length(shape, state, message, log, slots, last);
     if shape.c < late as u64 {
         return Answer::Refused(refusal::FULL);
     }
@@ -201,70 +152,8 @@ fn sync_by(
         return Answer::Refused(refusal::NO_ROOM);
     }
     let sent = tell_synced(shape, state, out, message, log);
-    sync_state(shape, state, message, log, table, last);
+    sync_state(shape, state, message, log, slots, last);
     Answer::Done(sent)
-}
-
-// The same with a table that is still empty: its rows are put in once for the whole step.
-fn sync_with(
-    shape: Shape,
-    state: &mut [u8],
-    message: &[u8],
-    out: &mut [u8],
-    log: Listed,
-    table: &mut [u16],
-) -> Answer
-    requires { ⌜ Coming shape (now state) (now message) log ⌝ }
-    ensures { λ r. ⌜ left r (now (state .exit)) (now (out .exit)) ≡ closes shape (now (state .entry)) (now (out .entry)) (takes shape (stateOf shape (now (state .entry))) (listedIn (now (message .entry)) log)) ⌝ }
-{
-    let filled = repeats::fill(message, leaving::spots_of(log), table);
-    let known = Listed {
-        at: log.at,
-        count: log.count,
-        filled,
-    };
-    sync_by(shape, state, message, out, known, table)
-}
-
-// With a table for at most 256 rows.
-fn sync_few(shape: Shape, state: &mut [u8], message: &[u8], out: &mut [u8], log: Listed) -> Answer
-    requires { ⌜ Coming shape (now state) (now message) log ⌝ }
-    ensures { λ r. ⌜ left r (now (state .exit)) (now (out .exit)) ≡ closes shape (now (state .entry)) (now (out .entry)) (takes shape (stateOf shape (now (state .entry))) (listedIn (now (message .entry)) log)) ⌝ }
-{
-    let mut table = [65535u16; 576];
-    sync_with(shape, state, message, out, log, &mut table)
-}
-
-// With a table for at most 1,536 rows.
-fn sync_more(shape: Shape, state: &mut [u8], message: &[u8], out: &mut [u8], log: Listed) -> Answer
-    requires { ⌜ Coming shape (now state) (now message) log ⌝ }
-    ensures { λ r. ⌜ left r (now (state .exit)) (now (out .exit)) ≡ closes shape (now (state .entry)) (now (out .entry)) (takes shape (stateOf shape (now (state .entry))) (listedIn (now (message .entry)) log)) ⌝ }
-{
-    let mut table = [65535u16; 4160];
-    sync_with(shape, state, message, out, log, &mut table)
-}
-
-// With a table for the largest capacity.
-fn sync_many(shape: Shape, state: &mut [u8], message: &[u8], out: &mut [u8], log: Listed) -> Answer
-    requires { ⌜ Coming shape (now state) (now message) log ⌝ }
-    ensures { λ r. ⌜ left r (now (state .exit)) (now (out .exit)) ≡ closes shape (now (state .entry)) (now (out .entry)) (takes shape (stateOf shape (now (state .entry))) (listedIn (now (message .entry)) log)) ⌝ }
-{
-    let mut table = [65535u16; 10304];
-    sync_with(shape, state, message, out, log, &mut table)
-}
-
-// With a table by the log's length: a short one must not pay for a large table.
-fn sync_sized(shape: Shape, state: &mut [u8], message: &[u8], out: &mut [u8], log: Listed) -> Answer
-    requires { ⌜ Coming shape (now state) (now message) log ⌝ }
-    ensures { λ r. ⌜ left r (now (state .exit)) (now (out .exit)) ≡ closes shape (now (state .entry)) (now (out .entry)) (takes shape (stateOf shape (now (state .entry))) (listedIn (now (message .entry)) log)) ⌝ }
-{
-    if log.count <= 256 {
-        return sync_few(shape, state, message, out, log);
-    }
-    if log.count <= 1536 {
-        return sync_more(shape, state, message, out, log);
-    }
-    sync_many(shape, state, message, out, log)
 }
 
 // Kind 4: the leader's log is taken over where it is longer than the own sync point, and each position past that is told.
@@ -274,6 +163,7 @@ pub fn on_replica_sync(
     m: Message,
     message: &[u8],
     out: &mut [u8],
+    slots: &mut [u16],
 ) -> Answer
     requires { ⌜ Ready shape (now state) m (now message) ⌝ }
     ensures { λ r. ⌜ left r (now (state .exit)) (now (out .exit)) ≡ handled 4 onReplicaSync shape m (now (state .entry)) (now (message .entry)) (now (out .entry)) ⌝ }
@@ -292,7 +182,7 @@ pub fn on_replica_sync(
     let log = Listed {
         at: place + 4,
         count,
-        filled: false,
     };
-    sync_sized(shape, state, message, out, log)
+    early::list(message, log, slots);
+    sync_by(shape, state, message, out, log, slots)
 }

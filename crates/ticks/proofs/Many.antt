@@ -13,14 +13,14 @@ use Rattle.rules.specs.Entry.{noEntry, entryOf, without}
 use Rattle.rules.specs.Wire.{Wire, wireBytes}
 use Rattle.rules.specs.Read.{lengthFor}
 use Rattle.rules.specs.Digest.{digest}
-use Rattle.rules.specs.State.{State}
+use Rattle.rules.specs.State.{State, withLogged}
 use Rattle.rules.specs.Step.{sends, sendOut, released, placedReply, placedReplies}
 use Rattle.rules.specs.Early.{dueOf, notesWithout}
 use Rattle.rules.specs.declared.Entry.{Entry}
 use Rattle.rules.proofs.Choice.{all-map}
-use Rattle.due.proofs.Kept.{without-none}
+use Rattle.early.proofs.Kept.{without-none}
 use Rattle.notes.proofs.Leaving as notes
-use Rattle.places.specs.With.{withLog, withEarly, withNotes}
+use Rattle.releases.specs.Releasing.{logging, earlyLeft, notesLeft}
 use Rattle.handler.proofs.Rows.{all-below, flat-ext, sends-flat, sends-below, sends-more}
 use Rattle.handler.proofs.Sends.{sent-length}
 
@@ -86,7 +86,7 @@ module _ (st : State) (time : ℕ) where
 
   -- with the first i of them at the end of the log
   abbrev pub longer : ℕ → State
-  longer i = withLog st (st .logged .log ++ take i dues)
+  longer i = withLogged (record { log = st .logged .log ++ take i dues; sync = st .logged .sync; commit = st .logged .commit }) st
 
   pub longer-start : longer 0 ≡ st
   longer-start = rw (append-nil (st .logged .log))
@@ -94,8 +94,8 @@ module _ (st : State) (time : ℕ) where
   pub longer-log : (i : ℕ) → i < length dues → (st .logged .log ++ take i dues) ++ (entryOf dues i ∷ []) ≡ st .logged .log ++ take (i + 1) dues
   longer-log i l = append-assoc (st .logged .log) (take i dues) (entryOf dues i ∷ []) ∙ rw add-one (ap (λ (x : List Entry). st .logged .log ++ x) (sym (take-suc dues i noEntry l)))
 
-  pub longer-next : (i : ℕ) → i < length dues → withLog (longer i) (longer i .logged .log ++ (entryOf dues i ∷ [])) ≡ longer (i + 1)
-  longer-next i l = ap (withLog st) (longer-log i l)
+  pub longer-next : (i : ℕ) → i < length dues → logging (longer i) (entryOf dues i) ≡ longer (i + 1)
+  longer-next i l = ap (λ (es : List Entry). withLogged (record { log = es; sync = st .logged .sync; commit = st .logged .commit }) st) (longer-log i l)
 
   -- those that are new in it
   pub longer-rest : (n i : ℕ) → n ≡ length (st .logged .log) → drop n (longer i .logged .log) ≡ take i dues
@@ -103,8 +103,8 @@ module _ (st : State) (time : ℕ) where
 
   -- once they left early and the notes they are released
   pub longer-released : (n i : ℕ) → n ≡ length (st .logged .log)
-      → withNotes (withEarly (longer i) (without (drop n (longer i .logged .log)) (st .waiting .early))) (notesWithout (drop n (longer i .logged .log)) (st .waiting .notes)) ≡ released st (st .clock) (st .logged .sync) (take i dues)
-  longer-released n i e = ap (λ (gone : List Entry). withNotes (withEarly (longer i) (without gone (st .waiting .early))) (notesWithout gone (st .waiting .notes))) (longer-rest n i e)
+      → notesLeft (earlyLeft (longer i) (drop n (longer i .logged .log))) (drop n (longer i .logged .log)) ≡ released st (st .clock) (st .logged .sync) (take i dues)
+  longer-released n i e = ap (λ (gone : List Entry). notesLeft (earlyLeft (longer i) gone) gone) (longer-rest n i e)
 
   -- none is released
   pub released-none : released st (st .clock) (st .logged .sync) (take 0 dues) ≡ st

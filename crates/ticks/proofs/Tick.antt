@@ -21,6 +21,7 @@ use Rattle.rules.specs.declared.Header.{Header}
 use Rattle.rules.specs.declared.Shape.{Shape}
 use Rattle.rules.specs.declared.Message.{Message}
 use Rattle.rules.specs.declared.Message.the-variants.{Tick}
+use Rattle.places.proofs.Sections.{stands-midway}
 use Rattle.places.proofs.Head.{clock-of}
 use Rattle.handler.specs.Handler.{Ready, handled}
 use Rattle.handler.proofs.Told.{told-number, ready-told}
@@ -56,16 +57,16 @@ module _ (sh : Shape) (b msg out : List ℕ) (m : Message) (h : Header) (t : ℕ
   module _ (c : ℕ) (a : c ≡ num b 16 8) where
     pub too-early : t < c → leaves 7 b out ≡ handled 23 onTick sh m b msg out
     too-early g =
-        let q : t < st .clock = omega (arith, clock-of (r .stands)) in
+        let q : t < st .clock = omega (arith, clock-of (stands-midway (r .stands))) in
         sym (by-rule (refused 7) (below-clock sh st _ t time-is q) ∙ closes-refused sh b out 7)
 
     module _ (g : c ≤ t) (l : Bool) (d : l ≡ leads sh st) where
       pub led : l ≡ true → (x : Left) → x ≡ closes sh b out (leaderReleases sh st t (dueOf t (st .waiting .early)) (leading (agreed sh (st .waiting .notes)) (dueOf t (st .waiting .early)))) → x ≡ handled 23 onTick sh m b msg out
       led y x w =
-          let q : st .clock ≤ t = omega (arith, clock-of (r .stands)) in
+          let q : st .clock ≤ t = omega (arith, clock-of (stands-midway (r .stands))) in
           w ∙ sym (by-rule _ (at-leader sh st _ t time-is q (sym d ∙ y)))
 
       pub followed : l ≡ false → (x : Left) → x ≡ closes sh b out (followerReleases sh st t (dueOf t (st .waiting .early))) → x ≡ handled 23 onTick sh m b msg out
       followed y x w =
-          let q : st .clock ≤ t = omega (arith, clock-of (r .stands)) in
+          let q : st .clock ≤ t = omega (arith, clock-of (stands-midway (r .stands))) in
           w ∙ sym (by-rule _ (at-follower sh st _ t time-is q (sym d ∙ y)))

@@ -20,9 +20,8 @@ use Rattle.rules.specs.Step.{sends, sendOut, placedReplies}
 use Rattle.rules.specs.Early.{dueOf, notesWithout}
 use Rattle.rules.specs.declared.Entry.{Entry}
 use Rattle.rules.specs.declared.Shape.{Shape}
-use Rattle.places.specs.With.{withLog, withEarly, withNotes}
 use Rattle.places.proofs.Rows.{within}
-use Rattle.releases.specs.Midway.{Midway, Reaches, Cleared}
+use Rattle.releases.specs.Releasing.{Releasing, Reaches, logging, earlyLeft, notesLeft, Cleared}
 use Rattle.ticks.specs.Released.{Released}
 use Rattle.ticks.proofs.Many.{dues, longer, longer-start, longer-log, longer-next, longer-rest, longer-released, released-none, replies-more, replies-length}
 
@@ -33,7 +32,7 @@ pub record Appended (sh : Shape) (b out : List ℕ) (time i r : ℕ) (b′ out�
   pub replies : out′ ≡ splice out 0 (flat wireBytes (placedReplies (stateOf sh b) (take i (dues (stateOf sh b) time))))
   pub long : length out′ ≡ length out
 
-module _ {sh : Shape} {b₀ : List ℕ} (m : Midway sh b₀) (out₀ : List ℕ) (time : ℕ) where
+module _ {sh : Shape} {b₀ : List ℕ} (m : Releasing sh b₀) (out₀ : List ℕ) (time : ℕ) where
   abbrev st : State
   st = stateOf sh b₀
 
@@ -45,7 +44,7 @@ module _ {sh : Shape} {b₀ : List ℕ} (m : Midway sh b₀) (out₀ : List ℕ)
   unfolding flat sends below
   turn-start =
       record {
-        reached = record { is = sym (longer-start st time); midway = m };
+        reached = record { is = sym (longer-start st time); releasing = m };
         end = omega arith;
         replies = sym (splice-none out₀ 0);
         long = refl;
@@ -63,20 +62,20 @@ module _ {sh : Shape} {b₀ : List ℕ} (m : Midway sh b₀) (out₀ : List ℕ)
     long-log j h = length-append (st .logged .log) (take j ds) ∙ ap (λ (x : ℕ). length (st .logged .log) + x) (length-take-le j ds h) ∙ ap (λ (x : ℕ). x + j) (sym hn)
 
     -- what the next release asks for
-    pub turn-asks : Midway sh b × (n + i ≡ length (stateOf sh b .logged .log)) × (n + i < sh .c) × (i < length (dueOf time (stateOf sh b .waiting .early))) × (drop n (stateOf sh b .logged .log) ≡ take i (dueOf time (stateOf sh b .waiting .early))) × (sum ≡ digest (stateOf sh b .logged .log))
+    pub turn-asks : Releasing sh b × (n + i ≡ length (stateOf sh b .logged .log)) × (n + i < sh .c) × (i < length (dueOf time (stateOf sh b .waiting .early))) × (drop n (stateOf sh b .logged .log) ≡ take i (dueOf time (stateOf sh b .waiting .early))) × (sum ≡ digest (stateOf sh b .logged .log))
     turn-asks =
         let e : stateOf sh b ≡ longer st time i = r .reached .is in
         let a : length (stateOf sh b .logged .log) ≡ n + i = ap (λ (x : State). length (x .logged .log)) e ∙ long-log i (omega (arith, less)) in
         let d : length (dueOf time (stateOf sh b .waiting .early)) ≡ length ds = ap (λ (x : State). length (dueOf time (x .waiting .early))) e in
         let g : drop n (stateOf sh b .logged .log) ≡ take i (dueOf time (stateOf sh b .waiting .early)) = ap (λ (x : State). drop n (x .logged .log)) e ∙ longer-rest st time n i hn ∙ ap (λ (x : State). take i (dueOf time (x .waiting .early))) (sym e) in
-        (r .reached .midway, sym a, omega arith, omega (arith, less), g, hs ∙ ap (λ (x : State). digest (x .logged .log)) (sym e))
+        (r .reached .releasing, sym a, omega arith, omega (arith, less), g, hs ∙ ap (λ (x : State). digest (x .logged .log)) (sym e))
 
     module _ (sum₁ : ℕ) {b₁ : List ℕ}
-        (w : Reaches sh (withLog (stateOf sh b) (stateOf sh b .logged .log ++ (entryOf (dueOf time (stateOf sh b .waiting .early)) i ∷ []))) b₁)
+        (w : Reaches sh (logging (stateOf sh b) (entryOf (dueOf time (stateOf sh b .waiting .early)) i)) b₁)
         (hs₁ : sum₁ ≡ digest (stateOf sh b .logged .log ++ (entryOf (dueOf time (stateOf sh b .waiting .early)) i ∷ []))) where
       -- the state once it is there
       next-is : stateOf sh b₁ ≡ longer st time (i + 1)
-      next-is = w .is ∙ ap (λ (x : State). withLog x (x .logged .log ++ (entryOf (dueOf time (x .waiting .early)) i ∷ []))) (r .reached .is) ∙ longer-next st time i less
+      next-is = w .is ∙ ap (λ (x : State). logging x (entryOf (dueOf time (x .waiting .early)) i)) (r .reached .is) ∙ longer-next st time i less
 
       next-log : stateOf sh b₁ .logged .log ≡ st .logged .log ++ take (i + 1) ds
       next-log = ap (λ (x : State). x .logged .log) next-is
@@ -91,10 +90,10 @@ module _ {sh : Shape} {b₀ : List ℕ} (m : Midway sh b₀) (out₀ : List ℕ)
           taken-at j = let z : j < j + 1 = omega arith in rw getD-take
 
       -- what its reply asks for
-      pub turn-tells : Midway sh b₁ × (n + i < length (stateOf sh b₁ .logged .log)) × (at + lengthFor (sh .s) 5 1 ≤ length out)
+      pub turn-tells : Releasing sh b₁ × (n + i < length (stateOf sh b₁ .logged .log)) × (at + lengthFor (sh .s) 5 1 ≤ length out)
       turn-tells =
           let a : length (stateOf sh b₁ .logged .log) ≡ n + (i + 1) = ap length next-log ∙ long-log (i + 1) (omega (arith, less)) in
-          (w .midway, omega arith, omega (arith, within (lengthFor (sh .s) 5 1) i k l, r .end, r .long))
+          (w .releasing, omega arith, omega (arith, within (lengthFor (sh .s) 5 1) i k l, r .end, r .long))
 
       -- one more is there
       pub turn-next : (at₁ : ℕ) (out₁ : List ℕ)
@@ -105,14 +104,14 @@ module _ {sh : Shape} {b₀ : List ℕ} (m : Midway sh b₀) (out₀ : List ℕ)
           let x = flat wireBytes (placedReplies st (take i ds)) in
           let y = wireBytes (sendOut st 5 (1 ∷ (length (st .logged .log) + i + 1) ∷ digest (st .logged .log ++ take (i + 1) ds) ∷ []) (entryOf ds i)) in
           let s : wireBytes (sendOut (stateOf sh b₁) 5 (1 ∷ (n + i + 1) ∷ sum₁ ∷ []) (entryOf (stateOf sh b₁ .logged .log) (n + i))) ≡ y = rw (next-entry, next-sum, next-is, hn) in
-          let lx : length x ≡ L * i = replies-length st ds (sh .s) (m .state .gVecPlaces) i (omega (arith, less)) in
-          let ln : length (flat wireBytes (placedReplies st (take (i + 1) ds))) ≡ L * (i + 1) = replies-length st ds (sh .s) (m .state .gVecPlaces) (i + 1) (omega (arith, less)) in
+          let lx : length x ≡ L * i = replies-length st ds (sh .s) (m .midway .holds .gVecPlaces) i (omega (arith, less)) in
+          let ln : length (flat wireBytes (placedReplies st (take (i + 1) ds))) ≡ L * (i + 1) = replies-length st ds (sh .s) (m .midway .holds .gVecPlaces) (i + 1) (omega (arith, less)) in
           let g : L * i + L ≤ L * k = within L i k l in
           let more : L * (i + 1) ≡ L * i + L = mul-add L i 1 ∙ ap (λ (z : ℕ). L * i + z) (mul-one L) in
           let o : out₁ ≡ splice out (0 + L * i) y = q ∙ ap (splice out at) s ∙ ap (λ (z : ℕ). splice out z y) (omega (arith, r .end)) in
           let h : out₁ ≡ splice out₀ 0 (flat wireBytes (placedReplies st (take (i + 1) ds))) = splice-next out₀ 0 (L * i) x y out out₁ (omega arith) lx (r .replies) o ∙ ap (splice out₀ 0) (sym (replies-more st ds i less)) in (
             record {
-              reached = record { is = next-is; midway = w .midway };
+              reached = record { is = next-is; releasing = w .releasing };
               end = omega (arith, r .end);
               replies = h;
               long = ap length h ∙ length-splice out₀ 0 (flat wireBytes (placedReplies st (take (i + 1) ds))) (omega arith);
@@ -122,11 +121,11 @@ module _ {sh : Shape} {b₀ : List ℕ} (m : Midway sh b₀) (out₀ : List ℕ)
 
   -- all are there: what is asked for them to leave, and all are released
   module _ (n k i at : ℕ) {b out : List ℕ} (hn : n ≡ length (st .logged .log)) (hk : k ≤ length ds) (l : i ≤ k) (h : k ≤ i) (r : Appended sh b₀ out₀ time i at b out) where
-    pub leave-asks : Midway sh b × (n + k ≡ length (stateOf sh b .logged .log))
+    pub leave-asks : Releasing sh b × (n + k ≡ length (stateOf sh b .logged .log))
     leave-asks =
         let e : i ≡ k = omega arith in
         let a : length (stateOf sh b .logged .log) ≡ length (st .logged .log) + i = ap (λ (x : State). length (x .logged .log)) (r .reached .is) ∙ length-append (st .logged .log) (take i ds) ∙ ap (λ (x : ℕ). length (st .logged .log) + x) (length-take-le i ds (omega arith)) in
-        (r .reached .midway, omega arith)
+        (r .reached .releasing, omega arith)
 
     pub turn-end : (b₁ : List ℕ) → Cleared sh b n b₁ → Released sh b₀ out₀ time k at b₁ out
     turn-end b₁ w =
@@ -135,8 +134,8 @@ module _ {sh : Shape} {b₀ : List ℕ} (m : Midway sh b₀) (out₀ : List ℕ)
         (record {
           reached =
               record {
-                is = w .is ∙ ap (λ (x : State). withNotes (withEarly x (without (drop n (x .logged .log)) (x .waiting .early))) (notesWithout (drop n (x .logged .log)) (x .waiting .notes))) (r .reached .is) ∙ longer-released st time n i hn;
-                midway = w .midway;
+                is = w .is ∙ ap (λ (x : State). notesLeft (earlyLeft x (drop n (x .logged .log))) (drop n (x .logged .log))) (r .reached .is) ∙ longer-released st time n i hn;
+                releasing = w .releasing;
               };
           end = r .end;
           replies = r .replies;
@@ -148,7 +147,7 @@ module _ {sh : Shape} {b₀ : List ℕ} (m : Midway sh b₀) (out₀ : List ℕ)
   none-end k e =
       subst (λ (j : ℕ). Released sh b₀ out₀ time j 0 b₀ out₀) (sym e)
       (record {
-        reached = record { is = sym (released-none st time); midway = m };
+        reached = record { is = sym (released-none st time); releasing = m };
         end = turn-start .end;
         replies = turn-start .replies;
         long = refl;

@@ -25,14 +25,14 @@ use Rattle.rules.specs.declared.Entry.{Entry}
 use Rattle.rules.specs.declared.Shape.{Shape}
 use Rattle.rules.specs.declared.Answer.the-variants.{Done}
 use Rattle.rules.proofs.Choice.{pick-true, pick-false}
-use Rattle.due.proofs.Kept.{without-none}
-use Rattle.due.proofs.Leading.{leading-take, leading-length}
+use Rattle.early.proofs.Kept.{without-none}
+use Rattle.early.proofs.Leading.{leading-take, leading-length}
 use Rattle.notes.proofs.Leaving as notes
-use Rattle.places.specs.With.{withClock, withSync}
+use Rattle.ticks.specs.Released.{settledAt}
 use Rattle.handler.proofs.Rows.{flat-snoc}
 use Rattle.handler.proofs.Closes.{quiet, closes-refused, closes-sent, closes-tight, closes-quiet, closes-one, closes-short}
 use Rattle.handler.proofs.Sends.{sent-length}
-use Rattle.releases.specs.Midway.{Midway}
+use Rattle.releases.specs.Releasing.{Releasing}
 use Rattle.ticks.specs.Released.{Released}
 use Rattle.ticks.proofs.Many.{replies-length}
 use Rattle.ticks.proofs.Telling.{sync-in}
@@ -70,7 +70,7 @@ module _ (sh : Shape) (st : State) (ds run : List Entry) (h : run ≡ take (leng
 
 -- ---- what is left once messages are written after the replies
 
-module _ {sh : Shape} {b₀ : List ℕ} (m : Midway sh b₀) (out₀ : List ℕ) (time k : ℕ) (hk : k ≤ length (dueOf time (stateOf sh b₀ .waiting .early))) (w : Wire) (n : ℕ) (hw : length (wireBytes w) ≡ n) (next : State) where
+module _ {sh : Shape} {b₀ : List ℕ} (m : Releasing sh b₀) (out₀ : List ℕ) (time k : ℕ) (hk : k ≤ length (dueOf time (stateOf sh b₀ .waiting .early))) (w : Wire) (n : ℕ) (hw : length (wireBytes w) ≡ n) (next : State) where
   abbrev st : State
   st = stateOf sh b₀
 
@@ -78,7 +78,7 @@ module _ {sh : Shape} {b₀ : List ℕ} (m : Midway sh b₀) (out₀ : List ℕ)
   es = take k (dueOf time (st .waiting .early))
 
   long-replies : length (flat wireBytes (placedReplies st es)) ≡ lengthFor (sh .s) 5 1 * k
-  long-replies = replies-length st (dueOf time (st .waiting .early)) (sh .s) (m .state .gVecPlaces) k hk
+  long-replies = replies-length st (dueOf time (st .waiting .early)) (sh .s) (m .midway .holds .gVecPlaces) k hk
 
   long-all : length (flat wireBytes (placedReplies st es ++ (w ∷ []))) ≡ lengthFor (sh .s) 5 1 * k + n
   long-all = ap length (flat-snoc wireBytes (placedReplies st es) w) ∙ length-append (flat wireBytes (placedReplies st es)) (wireBytes w) ∙ ap₂ _+_ long-replies hw
@@ -174,7 +174,7 @@ nothing : (xs : List Entry) → length xs ≡ 0 → xs ≡ []
 nothing [] e = refl
 nothing (x ∷ xs) e = absurd (omega arith)
 
-module _ {sh : Shape} {b₀ : List ℕ} (m : Midway sh b₀) (out₀ : List ℕ) (time n : ℕ) (hn : n ≡ length (stateOf sh b₀ .logged .log)) where
+module _ {sh : Shape} {b₀ : List ℕ} (m : Releasing sh b₀) (out₀ : List ℕ) (time n : ℕ) (hn : n ≡ length (stateOf sh b₀ .logged .log)) where
   abbrev old : State
   old = stateOf sh b₀
 
@@ -182,18 +182,18 @@ module _ {sh : Shape} {b₀ : List ℕ} (m : Midway sh b₀) (out₀ : List ℕ)
   ds = dueOf time (old .waiting .early)
 
   -- the state that a release of none leaves
-  settled-none : (x : List ℕ) → x ≡ image sh (withSync (withClock old time) n) → x ≡ image sh (released old time n [])
+  settled-none : (x : List ℕ) → x ≡ image sh (settledAt old time n) → x ≡ image sh (released old time n [])
   settled-none x e = e ∙ rw (append-nil (old .logged .log), without-none (old .waiting .early), notes.without-none (old .waiting .notes))
 
   -- ---- whose run is empty
-  pub waits-none : (due : ℕ) (x : List ℕ) → due ≡ length ds → due ≡ 0 → x ≡ image sh (withSync (withClock old time) n) → left (Done 0) x out₀ ≡ closes sh b₀ out₀ (leaderReleases sh old time ds [])
+  pub waits-none : (due : ℕ) (x : List ℕ) → due ≡ length ds → due ≡ 0 → x ≡ image sh (settledAt old time n) → left (Done 0) x out₀ ≡ closes sh b₀ out₀ (leaderReleases sh old time ds [])
   waits-none due x e z i =
       sym (ap (closes sh b₀ out₀) (leader-none sh old time ds (sym e ∙ z) n hn) ∙ closes-quiet sh b₀ out₀ (released old time n []) ∙ ap (λ (y : List ℕ). quiet y out₀) (sym (settled-none x i)))
 
   module _ (due : ℕ) (e : due ≡ length ds) (f : due ≡ 0 → ⊥) where
     unplaced-long : length (wireBytes (unplacedReply old (entryOf ds 0))) ≡ lengthFor (sh .s) 5 1
     unfolding unplacedReply pick rowOf
-    unplaced-long = sent-length (sh .s) old 5 255 1 _ _ (m .state .gVecPlaces) refl refl
+    unplaced-long = sent-length (sh .s) old 5 255 1 _ _ (m .midway .holds .gVecPlaces) refl refl
 
     told-first : leaderReleases sh old time ds [] ≡ done (released old time n []) (unplacedReply old (entryOf ds 0) ∷ [])
     told-first = leader-first sh old time ds (λ z. f (e ∙ z)) n hn
@@ -208,7 +208,7 @@ module _ {sh : Shape} {b₀ : List ℕ} (m : Midway sh b₀) (out₀ : List ℕ)
     pub waits-tight : (a : ℕ) → a ≡ lengthFor (sh .s) 5 1 → length out₀ < a → leaves 9 b₀ out₀ ≡ closes sh b₀ out₀ (leaderReleases sh old time ds [])
     waits-tight a q l = sym (ap (closes sh b₀ out₀) told-first ∙ closes-short sh b₀ out₀ (released old time n []) (unplacedReply old (entryOf ds 0)) (omega (arith, unplaced-long)))
 
-    pub waits-told : (a end : ℕ) (x out₁ : List ℕ) → a ≡ lengthFor (sh .s) 5 1 → a ≤ length out₀ → (end ≡ lengthFor (sh .s) 5 1) × (out₁ ≡ splice out₀ 0 (wireBytes (unplacedReply old (entryOf ds 0)))) → x ≡ image sh (withSync (withClock old time) n)
+    pub waits-told : (a end : ℕ) (x out₁ : List ℕ) → a ≡ lengthFor (sh .s) 5 1 → a ≤ length out₀ → (end ≡ lengthFor (sh .s) 5 1) × (out₁ ≡ splice out₀ 0 (wireBytes (unplacedReply old (entryOf ds 0)))) → x ≡ image sh (settledAt old time n)
         → left (Done end) x out₁ ≡ closes sh b₀ out₀ (leaderReleases sh old time ds [])
     waits-told a end x out₁ q l (u, v) i =
         let w = unplacedReply old (entryOf ds 0) in
@@ -240,29 +240,29 @@ module _ {sh : Shape} {b₀ : List ℕ} (m : Midway sh b₀) (out₀ : List ℕ)
 
     sync-long : length (wireBytes sync) ≡ z
     unfolding pick rowOf
-    sync-long = sent-length (sh .s) old 4 _ _ [] (old .logged .log ++ take k ds) (m .state .gVecPlaces) refl refl ∙ ap (lengthFor (sh .s) 4) long-log ∙ sym hz
+    sync-long = sent-length (sh .s) old 4 _ _ [] (old .logged .log ++ take k ds) (m .midway .holds .gVecPlaces) refl refl ∙ ap (lengthFor (sh .s) 4) long-log ∙ sym hz
 
     pub leader-tight : length out₀ < a + z → leaves 9 b₀ out₀ ≡ closes sh b₀ out₀ (leaderReleases sh old time ds run)
     leader-tight t = releases-tight m out₀ time k within sync z sync-long (released old time (n + k) (take k ds)) (omega arith) ∙ ap (closes sh b₀ out₀) (sym made)
 
     module _ (t : a + z ≤ length out₀) where
-      pub leader-asks : Midway sh b₀ × (n ≡ length (old .logged .log)) × (k ≤ length ds) × (n + k ≤ sh .c) × (lengthFor (sh .s) 5 1 * k ≤ length out₀)
+      pub leader-asks : Releasing sh b₀ × (n ≡ length (old .logged .log)) × (k ≤ length ds) × (n + k ≤ sh .c) × (lengthFor (sh .s) 5 1 * k ≤ length out₀)
       leader-asks = (m, hn, within, omega arith, omega arith)
 
       module _ (at : ℕ) {b₁ out₁ : List ℕ} (w : Released sh b₀ out₀ time k at b₁ out₁) where
         now-log : length (stateOf sh b₁ .logged .log) ≡ n + k
         now-log = ap (λ (x : State). length (x .logged .log)) (w .reached .is) ∙ long-log
 
-        pub leader-log : Midway sh b₁ × (at + lengthFor (sh .s) 4 (length (stateOf sh b₁ .logged .log)) ≤ length out₁)
-        leader-log = let y : lengthFor (sh .s) 4 (length (stateOf sh b₁ .logged .log)) ≡ z = ap (lengthFor (sh .s) 4) now-log ∙ sym hz in (w .reached .midway, omega (arith, w .end, w .long))
+        pub leader-log : Releasing sh b₁ × (at + lengthFor (sh .s) 4 (length (stateOf sh b₁ .logged .log)) ≤ length out₁)
+        leader-log = let y : lengthFor (sh .s) 4 (length (stateOf sh b₁ .logged .log)) ≡ z = ap (lengthFor (sh .s) 4) now-log ∙ sym hz in (w .reached .releasing, omega (arith, w .end, w .long))
 
-        pub leader-done : (end : ℕ) (b₂ out₂ : List ℕ) → (end ≡ at + lengthFor (sh .s) 4 (length (stateOf sh b₁ .logged .log))) × (out₂ ≡ splice out₁ at (wireBytes (sendFollowers sh (stateOf sh b₁) 4 (stateOf sh b₁ .logged .log)))) → b₂ ≡ image sh (withSync (withClock (stateOf sh b₁) time) (n + k))
+        pub leader-done : (end : ℕ) (b₂ out₂ : List ℕ) → (end ≡ at + lengthFor (sh .s) 4 (length (stateOf sh b₁ .logged .log))) × (out₂ ≡ splice out₁ at (wireBytes (sendFollowers sh (stateOf sh b₁) 4 (stateOf sh b₁ .logged .log)))) → b₂ ≡ image sh (settledAt (stateOf sh b₁) time (n + k))
             → left (Done end) b₂ out₂ ≡ closes sh b₀ out₀ (leaderReleases sh old time ds run)
         leader-done end b₂ out₂ (u, v) i =
             let y : lengthFor (sh .s) 4 (length (stateOf sh b₁ .logged .log)) ≡ z = ap (lengthFor (sh .s) 4) now-log ∙ sym hz in
             releases-done m out₀ time k within sync z sync-long (released old time (n + k) (take k ds)) at end b₂ out₂ (omega arith) w (omega arith)
             (v ∙ ap (λ (x : State). splice out₁ at (wireBytes (sendFollowers sh x 4 (x .logged .log)))) (w .reached .is))
-            (i ∙ ap (λ (x : State). image sh (withSync (withClock x time) (n + k))) (w .reached .is))
+            (i ∙ ap (λ (x : State). image sh (settledAt x time (n + k))) (w .reached .is))
             ∙ ap (closes sh b₀ out₀) (sym made)
 
   -- ---- a follower
@@ -285,24 +285,24 @@ module _ {sh : Shape} {b₀ : List ℕ} (m : Midway sh b₀) (out₀ : List ℕ)
 
       status-long : length (wireBytes status) ≡ z
       unfolding pick rowOf
-      status-long = sent-length (sh .s) old 10 _ _ (old .logged .sync ∷ []) [] (m .state .gVecPlaces) refl refl ∙ sym hz
+      status-long = sent-length (sh .s) old 10 _ _ (old .logged .sync ∷ []) [] (m .midway .holds .gVecPlaces) refl refl ∙ sym hz
 
       pub follower-tight : length out₀ < a + z → leaves 9 b₀ out₀ ≡ closes sh b₀ out₀ (followerReleases sh old time ds)
       follower-tight t = releases-tight m out₀ time k inside status z status-long (released old time (old .logged .sync) (take k ds)) (omega arith) ∙ ap (closes sh b₀ out₀) (sym sent)
 
       module _ (t : a + z ≤ length out₀) where
-        pub follower-asks : Midway sh b₀ × (n ≡ length (old .logged .log)) × (k ≤ length ds) × (n + k ≤ sh .c) × (lengthFor (sh .s) 5 1 * k ≤ length out₀)
+        pub follower-asks : Releasing sh b₀ × (n ≡ length (old .logged .log)) × (k ≤ length ds) × (n + k ≤ sh .c) × (lengthFor (sh .s) 5 1 * k ≤ length out₀)
         follower-asks = (m, hn, inside, omega arith, omega arith)
 
         module _ (at : ℕ) {b₁ out₁ : List ℕ} (w : Released sh b₀ out₀ time k at b₁ out₁) where
-          pub follower-tells : Midway sh b₁ × (at + lengthFor (sh .s) 10 0 ≤ length out₁)
-          follower-tells = (w .reached .midway, omega (arith, w .end, w .long))
+          pub follower-tells : Releasing sh b₁ × (at + lengthFor (sh .s) 10 0 ≤ length out₁)
+          follower-tells = (w .reached .releasing, omega (arith, w .end, w .long))
 
-          pub follower-done : (end sync : ℕ) (b₂ out₂ : List ℕ) → (end ≡ at + lengthFor (sh .s) 10 0) × (out₂ ≡ splice out₁ at (wireBytes (sendLeader sh (stateOf sh b₁) 10 (stateOf sh b₁ .site .group) (stateOf sh b₁ .logged .sync ∷ []) []))) → sync ≡ num b₁ 24 8 → b₂ ≡ image sh (withSync (withClock (stateOf sh b₁) time) sync)
+          pub follower-done : (end sync : ℕ) (b₂ out₂ : List ℕ) → (end ≡ at + lengthFor (sh .s) 10 0) × (out₂ ≡ splice out₁ at (wireBytes (sendLeader sh (stateOf sh b₁) 10 (stateOf sh b₁ .site .group) (stateOf sh b₁ .logged .sync ∷ []) []))) → sync ≡ num b₁ 24 8 → b₂ ≡ image sh (settledAt (stateOf sh b₁) time sync)
               → left (Done end) b₂ out₂ ≡ closes sh b₀ out₀ (followerReleases sh old time ds)
           follower-done end sync b₂ out₂ (u, v) y i =
-              let s : sync ≡ old .logged .sync = y ∙ sync-in (w .reached .midway) ∙ ap (λ (x : State). x .logged .sync) (w .reached .is) in
+              let s : sync ≡ old .logged .sync = y ∙ sync-in (w .reached .releasing) ∙ ap (λ (x : State). x .logged .sync) (w .reached .is) in
               releases-done m out₀ time k inside status z status-long (released old time (old .logged .sync) (take k ds)) at end b₂ out₂ (omega arith) w (omega arith)
               (v ∙ ap (λ (x : State). splice out₁ at (wireBytes (sendLeader sh x 10 (x .site .group) (x .logged .sync ∷ []) []))) (w .reached .is))
-              (i ∙ ap (λ (x : ℕ). image sh (withSync (withClock (stateOf sh b₁) time) x)) s ∙ ap (λ (x : State). image sh (withSync (withClock x time) (old .logged .sync))) (w .reached .is))
+              (i ∙ ap (λ (x : ℕ). image sh (settledAt (stateOf sh b₁) time x)) s ∙ ap (λ (x : State). image sh (settledAt x time (old .logged .sync))) (w .reached .is))
               ∙ ap (closes sh b₀ out₀) (sym sent)

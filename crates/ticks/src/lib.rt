@@ -18,19 +18,20 @@ ghost use Rattle.rules.specs.Step.{sendOut, sendLeader, sendFollowers, unplaced
 ghost use Rattle.rules.specs.Early.{dueOf};
 ghost use Rattle.rules.specs.Bytes.{left, closes};
 ghost use Rattle.rules.specs.Entry.{entryOf};
-ghost use Rattle.places.specs.With.{withClock, withSync};
 ghost use Rattle.handler.specs.Handler.{Ready, handled};
-ghost use Rattle.releases.specs.Midway.{Midway};
-ghost use Rattle.ticks.specs.Released.{Released};
+ghost use Rattle.releases.specs.Releasing.{Releasing};
+ghost use Rattle.ticks.specs.Released.{settledAt, Released};
 
 // ---- what is sent
 
 // Writes at `at` that entry n of the log is placed: its position, and the digest of the log up to it. Says where the message ends.
 fn tell_placed(shape: Shape, state: &[u8], out: &mut [u8], at: usize, n: usize, sum: u64) -> usize
-    requires { ⌜ Midway shape (now state) × (n < length (stateOf shape (now state) .logged .log)) × (at + lengthFor (shape .s) 5 1 ≤ length (now out)) ⌝ }
-    ensures { λ r. ⌜ (r ≡ at + lengthFor (shape .s) 5 1) × (now (out .exit) ≡ splice (now (out .entry)) at (wireBytes (sendOut (stateOf shape (now (state .entry))) 5 (1 ∷ (n + 1) ∷ sum ∷ []) (entryOf (stateOf shape (now (state .entry)) .logged .log) n)))) ⌝ }
+    requires { ⌜ Releasing shape (now state) × (n < length (stateOf shape (now state) .logged .log)) × (at + lengthFor (shape .s) 5 1 ≤ length (now out)) ⌝ }
+    ensures { λ r. ⌜ (let st = stateOf shape (now (state .entry)) in
+        (r ≡ at + lengthFor (shape .s) 5 1)
+        × (now (out .exit) ≡ splice (now (out .entry)) at (wireBytes (sendOut st 5 (1 ∷ (n + 1) ∷ sum ∷ []) (entryOf (st .logged .log) n))))) ⌝ }
 {
-    let from = releases::log_place(shape, n);
+    let from = places::log_place(shape, n);
     let end = from + 24;
     let m = Message::FastReply(
         handler::headed(state, kind::FAST_REPLY, rules::OUTSIDE, 1),
@@ -43,8 +44,10 @@ fn tell_placed(shape: Shape, state: &[u8], out: &mut [u8], at: usize, n: usize, 
 
 // Writes from the start of the outgoing buffer on that the first entry due by a time is not placed, with the digest of the log. Says where the message ends.
 fn tell_unplaced(shape: Shape, state: &[u8], out: &mut [u8], time: u64) -> usize
-    requires { ⌜ Midway shape (now state) × (0 < length (dueOf time (stateOf shape (now state) .waiting .early))) × (lengthFor (shape .s) 5 1 ≤ length (now out)) ⌝ }
-    ensures { λ r. ⌜ (r ≡ lengthFor (shape .s) 5 1) × (now (out .exit) ≡ splice (now (out .entry)) 0 (wireBytes (unplacedReply (stateOf shape (now (state .entry))) (entryOf (dueOf time (stateOf shape (now (state .entry)) .waiting .early)) 0)))) ⌝ }
+    requires { ⌜ Releasing shape (now state) × (0 < length (dueOf time (stateOf shape (now state) .waiting .early))) × (lengthFor (shape .s) 5 1 ≤ length (now out)) ⌝ }
+    ensures { λ r. ⌜ (let st = stateOf shape (now (state .entry)) in
+        (r ≡ lengthFor (shape .s) 5 1)
+        × (now (out .exit) ≡ splice (now (out .entry)) 0 (wireBytes (unplacedReply st (entryOf (dueOf time (st .waiting .early)) 0))))) ⌝ }
 {
     let from = releases::early_place(shape, releases::first_due(shape, state, time));
     let end = from + 24;
@@ -60,11 +63,13 @@ fn tell_unplaced(shape: Shape, state: &[u8], out: &mut [u8], time: u64) -> usize
 
 // Writes the log at `at`, to all followers. Says where the message ends.
 fn tell_log(shape: Shape, state: &[u8], out: &mut [u8], at: usize) -> usize
-    requires { ⌜ Midway shape (now state) × (at + lengthFor (shape .s) 4 (length (stateOf shape (now state) .logged .log)) ≤ length (now out)) ⌝ }
-    ensures { λ r. ⌜ (r ≡ at + lengthFor (shape .s) 4 (length (stateOf shape (now (state .entry)) .logged .log))) × (now (out .exit) ≡ splice (now (out .entry)) at (wireBytes (sendFollowers shape (stateOf shape (now (state .entry))) 4 (stateOf shape (now (state .entry)) .logged .log)))) ⌝ }
+    requires { ⌜ Releasing shape (now state) × (at + lengthFor (shape .s) 4 (length (stateOf shape (now state) .logged .log)) ≤ length (now out)) ⌝ }
+    ensures { λ r. ⌜ (let st = stateOf shape (now (state .entry)) in
+        (r ≡ at + lengthFor (shape .s) 4 (length (st .logged .log)))
+        × (now (out .exit) ≡ splice (now (out .entry)) at (wireBytes (sendFollowers shape st 4 (st .logged .log))))) ⌝ }
 {
     let from = places::places_of(shape).log + 4;
-    let end = from + 24 * releases::log_length(shape, state);
+    let end = from + 24 * places::log_length(shape, state);
     let others = group::others(shape.n, places::get_replica(state));
     let m = Message::ReplicaSync(handler::headed(
         state,
@@ -77,8 +82,10 @@ fn tell_log(shape: Shape, state: &[u8], out: &mut [u8], at: usize) -> usize
 
 // Writes the sync point at `at`, to the leader of the own group. Says where the message ends.
 fn tell_status(shape: Shape, state: &[u8], out: &mut [u8], at: usize) -> usize
-    requires { ⌜ Midway shape (now state) × (at + lengthFor (shape .s) 10 0 ≤ length (now out)) ⌝ }
-    ensures { λ r. ⌜ (r ≡ at + lengthFor (shape .s) 10 0) × (now (out .exit) ≡ splice (now (out .entry)) at (wireBytes (sendLeader shape (stateOf shape (now (state .entry))) 10 (stateOf shape (now (state .entry)) .site .group) (stateOf shape (now (state .entry)) .logged .sync ∷ []) []))) ⌝ }
+    requires { ⌜ Releasing shape (now state) × (at + lengthFor (shape .s) 10 0 ≤ length (now out)) ⌝ }
+    ensures { λ r. ⌜ (let st = stateOf shape (now (state .entry)) in
+        (r ≡ at + lengthFor (shape .s) 10 0)
+        × (now (out .exit) ≡ splice (now (out .entry)) at (wireBytes (sendLeader shape st 10 (st .site .group) (st .logged .sync ∷ []) [])))) ⌝ }
 {
     let view = places::view_at(shape, state, places::get_group(state));
     let leader = group::only(view as u64 % shape.n);
@@ -89,9 +96,20 @@ fn tell_status(shape: Shape, state: &[u8], out: &mut [u8], at: usize) -> usize
 
 // ---- the release
 
-// Releases the first k entries due by a time, each with its reply, from the start of the outgoing buffer on: one after the other to the log, then all at once out of early and the notes. Says where the last reply ends. n is the log's length.
-fn release(shape: Shape, state: &mut [u8], out: &mut [u8], time: u64, n: usize, k: usize) -> usize
-    requires { ⌜ Midway shape (now state) × (n ≡ length (stateOf shape (now state) .logged .log)) × (k ≤ length (dueOf time (stateOf shape (now state) .waiting .early))) × (n + k ≤ shape .c) × (lengthFor (shape .s) 5 1 * k ≤ length (now out)) ⌝ }
+// Releases the first k entries due by a time, each with its reply, from the start of the outgoing buffer on: one after the other to the log, then all at
+// once out of early and the notes. Says where the last reply ends. n is the log's length.
+fn release(
+    shape: Shape,
+    state: &mut [u8],
+    out: &mut [u8],
+    time: u64,
+    n: usize,
+    k: usize,
+    slots: &mut [u16],
+) -> usize
+    requires { ⌜ (let st = stateOf shape (now state) in
+        Releasing shape (now state) × (n ≡ length (st .logged .log)) × (k ≤ length (dueOf time (st .waiting .early))) × (n + k ≤ shape .c)
+        × (lengthFor (shape .s) 5 1 * k ≤ length (now out))) ⌝ }
     ensures { λ r. ⌜ Released shape (now (state .entry)) (now (out .entry)) time k r (now (state .exit)) (now (out .exit)) ⌝ }
 {
     if k == 0 {
@@ -105,7 +123,7 @@ fn release(shape: Shape, state: &mut [u8], out: &mut [u8], time: u64, n: usize, 
         at = tell_placed(shape, state, out, at, n + i, sum);
         i += 1;
     }
-    releases::leave_released(shape, state, n, k);
+    releases::leave_released(shape, state, n, k, slots);
     at
 }
 
@@ -130,8 +148,8 @@ fn replies_length(s: u64, k: usize) -> usize
 
 // Puts the clock and the sync point.
 fn settle(shape: Shape, state: &mut [u8], time: u64, sync: u64)
-    requires { ⌜ Midway shape (now state) ⌝ }
-    ensures { λ _. ⌜ now (state .exit) ≡ image shape (withSync (withClock (stateOf shape (now (state .entry))) time) sync) ⌝ }
+    requires { ⌜ Releasing shape (now state) ⌝ }
+    ensures { λ _. ⌜ now (state .exit) ≡ image shape (settledAt (stateOf shape (now (state .entry))) time sync) ⌝ }
 {
     places::put_clock(state, time);
     places::put_sync(state, sync);
@@ -148,8 +166,11 @@ fn leader_waits(
     n: usize,
     due: usize,
 ) -> Answer
-    requires { ⌜ Midway shape (now state) × (n ≡ length (stateOf shape (now state) .logged .log)) × (due ≡ length (dueOf time (stateOf shape (now state) .waiting .early))) ⌝ }
-    ensures { λ r. ⌜ left r (now (state .exit)) (now (out .exit)) ≡ closes shape (now (state .entry)) (now (out .entry)) (leaderReleases shape (stateOf shape (now (state .entry))) time (dueOf time (stateOf shape (now (state .entry)) .waiting .early)) []) ⌝ }
+    requires { ⌜ (let st = stateOf shape (now state) in
+        Releasing shape (now state) × (n ≡ length (st .logged .log)) × (due ≡ length (dueOf time (st .waiting .early)))) ⌝ }
+    ensures { λ r. ⌜ (let st = stateOf shape (now (state .entry)) in
+        let due = dueOf time (st .waiting .early) in
+        left r (now (state .exit)) (now (out .exit)) ≡ closes shape (now (state .entry)) (now (out .entry)) (leaderReleases shape st time due [])) ⌝ }
 {
     if due == 0 {
         settle(shape, state, time, n as u64);
@@ -164,13 +185,22 @@ fn leader_waits(
 }
 
 // A leader releases the run that is agreed, as far as the log holds it, and sends the log to its followers.
-fn leader_releases(shape: Shape, state: &mut [u8], out: &mut [u8], time: u64) -> Answer
-    requires { ⌜ Midway shape (now state) ⌝ }
-    ensures { λ r. ⌜ left r (now (state .exit)) (now (out .exit)) ≡ closes shape (now (state .entry)) (now (out .entry)) (leaderReleases shape (stateOf shape (now (state .entry))) time (dueOf time (stateOf shape (now (state .entry)) .waiting .early)) (leading (agreed shape (stateOf shape (now (state .entry)) .waiting .notes)) (dueOf time (stateOf shape (now (state .entry)) .waiting .early)))) ⌝ }
+fn leader_releases(
+    shape: Shape,
+    state: &mut [u8],
+    out: &mut [u8],
+    time: u64,
+    slots: &mut [u16],
+) -> Answer
+    requires { ⌜ Releasing shape (now state) ⌝ }
+    ensures { λ r. ⌜ (let st = stateOf shape (now (state .entry)) in
+        let due = dueOf time (st .waiting .early) in
+        let run = leading (agreed shape (st .waiting .notes)) due in
+        left r (now (state .exit)) (now (out .exit)) ≡ closes shape (now (state .entry)) (now (out .entry)) (leaderReleases shape st time due run)) ⌝ }
 {
-    let n = releases::log_length(shape, state);
+    let n = places::log_length(shape, state);
     let due = releases::due_count(shape, state, time);
-    let run = releases::run_length(shape, state, time, due);
+    let run = releases::run_length(shape, state, time, due, slots);
     if run == 0 {
         return leader_waits(shape, state, out, time, n, due);
     }
@@ -183,18 +213,26 @@ fn leader_releases(shape: Shape, state: &mut [u8], out: &mut [u8], time: u64) ->
     {
         return Answer::Refused(refusal::NO_ROOM);
     }
-    let at = release(shape, state, out, time, n, k);
+    let at = release(shape, state, out, time, n, k, slots);
     let end = tell_log(shape, state, out, at);
     settle(shape, state, time, (n + k) as u64);
     Answer::Done(end)
 }
 
 // A follower releases all that is due, as far as the log holds it, and tells the leader its sync point.
-fn follower_releases(shape: Shape, state: &mut [u8], out: &mut [u8], time: u64) -> Answer
-    requires { ⌜ Midway shape (now state) ⌝ }
-    ensures { λ r. ⌜ left r (now (state .exit)) (now (out .exit)) ≡ closes shape (now (state .entry)) (now (out .entry)) (followerReleases shape (stateOf shape (now (state .entry))) time (dueOf time (stateOf shape (now (state .entry)) .waiting .early))) ⌝ }
+fn follower_releases(
+    shape: Shape,
+    state: &mut [u8],
+    out: &mut [u8],
+    time: u64,
+    slots: &mut [u16],
+) -> Answer
+    requires { ⌜ Releasing shape (now state) ⌝ }
+    ensures { λ r. ⌜ (let st = stateOf shape (now (state .entry)) in
+        let due = dueOf time (st .waiting .early) in
+        left r (now (state .exit)) (now (out .exit)) ≡ closes shape (now (state .entry)) (now (out .entry)) (followerReleases shape st time due)) ⌝ }
 {
-    let n = releases::log_length(shape, state);
+    let n = places::log_length(shape, state);
     let due = releases::due_count(shape, state, time);
     if (shape.c as usize <= n) & (due != 0) {
         return Answer::Refused(refusal::FULL);
@@ -203,7 +241,7 @@ fn follower_releases(shape: Shape, state: &mut [u8], out: &mut [u8], time: u64) 
     if out.len() < replies_length(shape.s, k) + kinds::length_for(shape.s, kind::SYNC_STATUS, 0) {
         return Answer::Refused(refusal::NO_ROOM);
     }
-    let at = release(shape, state, out, time, n, k);
+    let at = release(shape, state, out, time, n, k, slots);
     let end = tell_status(shape, state, out, at);
     let sync = places::get_sync(state);
     settle(shape, state, time, sync);
@@ -211,7 +249,14 @@ fn follower_releases(shape: Shape, state: &mut [u8], out: &mut [u8], time: u64) 
 }
 
 // Kind 23: time passes, and what is due by it is released.
-pub fn on_tick(shape: Shape, state: &mut [u8], m: Message, message: &[u8], out: &mut [u8]) -> Answer
+pub fn on_tick(
+    shape: Shape,
+    state: &mut [u8],
+    m: Message,
+    message: &[u8],
+    out: &mut [u8],
+    slots: &mut [u16],
+) -> Answer
     requires { ⌜ Ready shape (now state) m (now message) ⌝ }
     ensures { λ r. ⌜ left r (now (state .exit)) (now (out .exit)) ≡ handled 23 onTick shape m (now (state .entry)) (now (message .entry)) (now (out .entry)) ⌝ }
 {
@@ -222,7 +267,7 @@ pub fn on_tick(shape: Shape, state: &mut [u8], m: Message, message: &[u8], out: 
         return Answer::Refused(refusal::NOTHING_TO_DO);
     }
     if handler::leads(shape, state) {
-        return leader_releases(shape, state, out, time);
+        return leader_releases(shape, state, out, time, slots);
     }
-    follower_releases(shape, state, out, time)
+    follower_releases(shape, state, out, time, slots)
 }

@@ -27,7 +27,7 @@ pub struct Look {
 }
 
 // The first of `count` entries whose transaction an earlier one has, or `count`; there is at least one entry.
-fn repeat_of(b: &[u8], at: usize, count: usize) -> usize
+fn repeat_of(b: &[u8], at: usize, count: usize, slots: &mut [u16]) -> usize
     requires { ⌜ (1 ≤ count) × (at + 24 * count ≤ length (now b)) ⌝ }
     ensures { λ r. ⌜ r ≡ repeatOf (rowIn (now (b .entry)) at) count ⌝ }
 {
@@ -41,7 +41,7 @@ fn repeat_of(b: &[u8], at: usize, count: usize) -> usize
         third_count: 0,
         stride: 24,
     };
-    repeats::first_repeat(b, spots)
+    repeats::index(b, spots, count, slots)
 }
 
 // The smaller of two.
@@ -52,7 +52,7 @@ pub fn smaller(a: usize, b: usize) -> usize
 }
 
 // How many of `seen` entries come before the first that repeats an earlier one, where they are a log.
-fn limit_of(log: bool, b: &[u8], look: Look) -> usize
+fn limit_of(log: bool, b: &[u8], look: Look, slots: &mut [u16]) -> usize
     requires { ⌜ 24 * look .whole ≤ length (now b) - look .at ⌝ }
     ensures { λ r. ⌜ r ≡ limitOf log (rowIn (now (b .entry)) (look .at)) (look .whole) (look .seen) ⌝ }
 {
@@ -64,7 +64,7 @@ fn limit_of(log: bool, b: &[u8], look: Look) -> usize
     if count < 1 {
         return seen;
     }
-    let place = repeat_of(b, look.at, count);
+    let place = repeat_of(b, look.at, count, slots);
     if place < count {
         return place;
     }
@@ -80,7 +80,7 @@ fn stands_after(s: u64, group: u64, last: u64, e: Entry) -> bool
 }
 
 // The first wrong field of the entries that are looked at.
-fn entries_wrong(s: u64, h: Header, b: &[u8], look: Look) -> Verdict
+fn entries_wrong(s: u64, h: Header, b: &[u8], look: Look, slots: &mut [u16]) -> Verdict
     requires { ⌜ Looked s look (length (now b)) ⌝ }
     ensures { λ r. ⌜ r ≡ reading.entriesWrong s (fieldsFrom (headed h) [] (rowIn (now (b .entry)) (look .at))) (look .whole) (look .seen) ⌝ }
 {
@@ -88,7 +88,7 @@ fn entries_wrong(s: u64, h: Header, b: &[u8], look: Look) -> Verdict
     let whole = look.whole;
     let log = with_log(h.kind);
     let from = entries_at(s, h.kind);
-    let limit = limit_of(log, b, look);
+    let limit = limit_of(log, b, look, slots);
     let mut last: u64 = 0;
     let mut i = 0;
     while i < limit {
@@ -110,7 +110,15 @@ fn entries_wrong(s: u64, h: Header, b: &[u8], look: Look) -> Verdict
 }
 
 // The first wrong field of a message of these numbers, whose entries stand in b.
-pub fn message_wrong(n: u64, s: u64, p: Parts, numbers: &[u64], b: &[u8], look: Look) -> Verdict
+pub fn message_wrong(
+    n: u64,
+    s: u64,
+    p: Parts,
+    numbers: &[u64],
+    b: &[u8],
+    look: Look,
+    slots: &mut [u16],
+) -> Verdict
     requires { ⌜ Looked s look (length (now b)) ⌝ }
     ensures { λ r. ⌜ r ≡ wrongIn n s p (now (numbers .entry)) (now (b .entry)) look ⌝ }
 {
@@ -124,5 +132,5 @@ pub fn message_wrong(n: u64, s: u64, p: Parts, numbers: &[u64], b: &[u8], look: 
         Verdict::Fine => {}
         Verdict::Wrong(a, u) => return Verdict::Wrong(a, u),
     }
-    entries_wrong(s, p.header, b, look)
+    entries_wrong(s, p.header, b, look, slots)
 }

@@ -18,22 +18,21 @@ use Rattle.rules.specs.Entry.{ordered}
 use Rattle.rules.specs.Wire.{entryBytes}
 use Rattle.rules.specs.Read.{entryAt}
 use Rattle.rules.specs.State.{State}
-use Rattle.rules.specs.Image.{zeroBytes, tableLength, tableBytes, tableAt, atDraft, atLog}
+use Rattle.rules.specs.Image.{zeroBytes, tableBytes, tableAt}
 use Rattle.rules.specs.Step.{source, asked}
 use Rattle.rules.specs.declared.Entry.{Entry}
 use Rattle.rules.specs.declared.Shape.{Shape}
 use Rattle.rules.proofs.Choice.{by-cases, by-test, pick-true, pick-false, all-keep, length-keep}
+use Rattle.rules.proofs.Order.{ordered-length}
 use Rattle.rules.proofs.Entries.{EntryFits, entry, long-entry}
 use Rattle.rules.proofs.Tables.{TableFits, flat-long, in-row}
 use Rattle.entries.specs.Table.{Holds, Table}
 use Rattle.entries.proofs.Table.{hold, is-table, and-then}
-use Rattle.entries.proofs.Sorting.{length-placed}
 use Rattle.entries.proofs.Sifting.{keep-last}
 use Rattle.entries.proofs.Copies.{read-fits}
-use Rattle.places.specs.Layout.{startOf, Stands}
-use Rattle.places.proofs.Sections.{stands-fits, stands-laid}
+use Rattle.places.specs.Layout.{Stands}
+use Rattle.places.proofs.Sections.{stands-fits, stands-midway}
 use Rattle.places.proofs.Head.{status-of}
-use Rattle.places.proofs.Lent.{log-lent, draft-lent}
 use Rattle.handler.proofs.Rows.{flat-snoc}
 use Rattle.verify.specs.Asked.{isAsked, usedIn, askedTo, askedIn}
 
@@ -60,23 +59,16 @@ module _ {sh : Shape} {st : State} {b : List ℕ} (s : Stands sh st b) where
   pub source-fits : TableFits (sh .c) (source st)
   source-fits = by-test (TableFits (sh .c)) (eqb (st .view .status) 3) (λ t. stands-fits s .draft) (λ f. stands-fits s .log)
 
-  module _ (d n l k : ℕ) (hd : d ≡ startOf sh atDraft) (hn : n ≡ tableLength (sh .c)) (hl : l ≡ startOf sh atLog) (hk : k ≡ tableLength (sh .c)) where
-    pub draft-held : Holds (sh .c) (st .change .draft) (take n (drop d b))
-    draft-held = draft-lent (stands-laid s) d n (s .fits) (stands-fits s .draft) hd hn
-
-    pub log-held : Holds (sh .c) (st .logged .log) (take k (drop l b))
-    log-held = log-lent (stands-laid s) l k (s .fits) (stands-fits s .log) hl hk
-
-    -- by the status
-    pub source-lent : (status : ℕ) (r : List ℕ) → status ≡ num b 2 1 → r ≡ usedIn (pick (eqb status 3) (take n (drop d b)) (take k (drop l b))) → (r ≡ flat entryBytes (source st)) × (length r ≤ 98304)
-    source-lent status r e q =
-        let i : status ≡ st .view .status = e ∙ status-of s in
-        let g : (t : Bool) → usedIn (pick t (take n (drop d b)) (take k (drop l b))) ≡ flat entryBytes (pick t (st .change .draft) (st .logged .log))
-        = λ t. by-cases t
-        (λ y. ap usedIn (pick-true t _ _ y) ∙ used-is (sh .c) (st .change .draft) _ draft-held ∙ sym (ap (flat entryBytes) (pick-true t (st .change .draft) (st .logged .log) y)))
-        (λ y. ap usedIn (pick-false t _ _ y) ∙ used-is (sh .c) (st .logged .log) _ log-held ∙ sym (ap (flat entryBytes) (pick-false t (st .change .draft) (st .logged .log) y))) in
-        let w : r ≡ flat entryBytes (source st) = rw i at (q ∙ g (eqb status 3)) in
-        (w, omega (arith, ap length w ∙ rows-long (source st), source-fits .room, s .fits .small))
+  -- by the status
+  pub source-lent : (draft log : List ℕ) → Table (sh .c) draft → tableAt (sh .c) draft 0 ≡ st .change .draft → Table (sh .c) log → tableAt (sh .c) log 0 ≡ st .logged .log → (status : ℕ) (r : List ℕ) → status ≡ num b 2 1 → r ≡ usedIn (pick (eqb status 3) draft log) → (r ≡ flat entryBytes (source st)) × (length r ≤ 98304)
+  source-lent draft log hd ed hl el status r e q =
+      let i : status ≡ st .view .status = e ∙ status-of (stands-midway s) in
+      let g : (t : Bool) → usedIn (pick t draft log) ≡ flat entryBytes (pick t (st .change .draft) (st .logged .log))
+      = λ t. by-cases t
+      (λ y. ap usedIn (pick-true t draft log y) ∙ used-is (sh .c) _ draft hd ∙ ap (flat entryBytes) ed ∙ sym (ap (flat entryBytes) (pick-true t (st .change .draft) (st .logged .log) y)))
+      (λ y. ap usedIn (pick-false t draft log y) ∙ used-is (sh .c) _ log hl ∙ ap (flat entryBytes) el ∙ sym (ap (flat entryBytes) (pick-false t (st .change .draft) (st .logged .log) y))) in
+      let w : r ≡ flat entryBytes (source st) = rw i at (q ∙ g (eqb status 3)) in
+      (w, omega (arith, ap length w ∙ rows-long (source st), source-fits .room, s .fits .small))
 
 -- ---- those that are asked for, one by one
 
@@ -195,9 +187,6 @@ pub splice-again : (b : List ℕ) (at : ℕ) (y x : List ℕ) → at ≤ length 
 unfolding splice
 splice-again b at y x h e = splice-at (take at b) y (drop (at + length y) b) x at (length-take-le at b h) e ∙ rw e
 
-pub length-ordered : (es : List Entry) → length (ordered es) ≡ length es
-length-ordered es = length-placed [] es ∙ omega arith
-
 module _ (es : List Entry) (k : ℕ) (e : k ≡ length es) (s : k ≤ 4096) (f : All EntryFits es) (out out₁ out₂ : List ℕ) (at n : ℕ) (r : at + (4 + 24 * k) ≤ length out) (hn : n ≡ 4 + 24 * k) (w₁ : out₁ ≡ splice out at (le 4 k)) (w₂ : out₂ ≡ splice out₁ (at + 4) (flat entryBytes es)) where
   abbrev x : List ℕ
   x = le 4 k ++ flat entryBytes es
@@ -220,5 +209,5 @@ module _ (es : List Entry) (k : ℕ) (e : k ≡ length es) (s : k ≤ 4096) (f :
   pub in-order : (y out₃ : List ℕ) → Holds k (ordered (tableAt k (take n (drop at out₂)) 0)) y → out₃ ≡ take at out₂ ++ (y ++ drop n (drop at out₂)) → out₃ ≡ splice out at (le 4 k ++ flat entryBytes (ordered es))
   in-order y out₃ h w =
       let g = and-then k es _ held ordered y h in
-      let z : y ≡ le 4 k ++ flat entryBytes (ordered es) = g .bytes ∙ full-table k (ordered es) (length-ordered es ∙ sym e) in
+      let z : y ≡ le 4 k ++ flat entryBytes (ordered es) = g .bytes ∙ full-table k (ordered es) (ordered-length es ∙ sym e) in
       w ∙ splice-home out₂ at n y (g .size ∙ sym hn) ∙ ap (λ (o : List ℕ). splice o at y) written ∙ splice-again out at x y (omega arith) (x-long ∙ hn ∙ sym (g .size)) ∙ ap (splice out at) z

@@ -17,23 +17,23 @@ use Rattle.rules.specs.Kind.{known, fromOutside, rowOf}
 use Rattle.rules.specs.Wire as wires
 use Rattle.rules.specs.Read.{wireIn, lengthFor}
 use Rattle.rules.specs.State.{State}
-use Rattle.rules.specs.Image.{image, stateOf}
+use Rattle.rules.specs.Image.{stateOf}
 use Rattle.rules.specs.Step.{done, send, source, asked, onVerifyRequest}
-use Rattle.rules.specs.Bytes.{Left, leaves, closes}
+use Rattle.rules.specs.Bytes.{Left, leaves}
 use Rattle.rules.specs.declared.Entry.{Entry}
 use Rattle.rules.specs.declared.Header.{Header}
 use Rattle.rules.specs.declared.Shape.{Shape}
 use Rattle.rules.specs.declared.Message.{Message}
 use Rattle.rules.specs.declared.Message.the-variants.{VerifyRequest, VerifyReply}
+use Rattle.rules.proofs.Order.{ordered-length}
 use Rattle.places.specs.Layout.{Sized}
 use Rattle.places.proofs.Sections.{stands-fits, stands-laid}
 use Rattle.handler.specs.Handler.{Ready, handled}
 use Rattle.handler.specs.Sending.{messageBytes, headedIn}
-use Rattle.handler.proofs.Told.{ready-told, told-number, told-sender}
-use Rattle.handler.proofs.Closes.{closes-one, closes-short, handled-own}
+use Rattle.handler.proofs.Ways.{no-room-for, sends-one, said, said-number, said-sender}
 use Rattle.handler.proofs.Sends.{sender, sent-length, message-length, message-sent}
 use Rattle.verify.specs.Asked.{askedIn}
-use Rattle.verify.proofs.Asked.{rows-long, source-fits, asked-is, splice-again, length-ordered}
+use Rattle.verify.proofs.Asked.{rows-long, source-fits, asked-is, splice-again}
 
 -- ---- a message's entries stand last, after their count
 
@@ -69,13 +69,6 @@ over-none out F k rows h =
     ∙ splice-splice-next (splice out 0 F) (length F) (le 4 k) rows (omega (arith, length-le 4 k)) in
     ap (λ (o : List ℕ). splice o (length F) (le 4 k ++ rows)) a ∙ b ∙ rw z at (splice-splice-next out 0 F (le 4 k ++ rows) (omega arith))
 
--- a step that sent n bytes
-abbrev sentLeft : ℕ → List ℕ → List ℕ → Left
-sentLeft n b out = record { refused = false; number = 0; sent = n; state = b; out = out }
-
-sent-is : (n k : ℕ) (b c out o : List ℕ) → n ≡ k → b ≡ c → out ≡ o → sentLeft n b out ≡ sentLeft k c o
-sent-is n k b c out o e f g = rw (e, f, g)
-
 -- ---- the ways
 
 module _ (sh : Shape) (b msg out : List ℕ) (m : Message) (h : Header) (p : ℕ) (r : Ready sh b m msg) (e : m ≡ VerifyRequest h p) where
@@ -88,20 +81,23 @@ module _ (sh : Shape) (b msg out : List ℕ) (m : Message) (h : Header) (p : ℕ
   abbrev from : ℕ
   from = h .«from_replica»
 
-  kind-known : known (tagOf m) ≡ true
+  own : tagOf m ≡ 18
+  own = ap tagOf e
+
+  kind-known : known 18 ≡ true
   unfolding pick any
-  kind-known = ap (λ (x : Message). known (tagOf x)) e
+  kind-known = refl
 
   boundary-is : wires.number (wireIn (sh .s) msg) 0 ≡ p
-  boundary-is = told-number (sh .n) (sh .s) m msg (ready-told sh b msg m r kind-known) 0 ∙ ap (λ (x : Message). getD (numbersOf x) 0 0) e
+  boundary-is = said-number r 18 own kind-known 0 ∙ ap (λ (x : Message). getD (numbersOf x) 0 0) e
 
   header-is : wires.headerOf (wireIn (sh .s) msg) ≡ h
-  header-is = ready-told sh b msg m r kind-known .header ∙ ap headerIn e
+  header-is = said r 18 own kind-known .header ∙ ap headerIn e
 
   -- the sender is a replica
   pub from-below : from < sh .n
   unfolding rowOf
-  from-below = rw e at (told-sender (sh .n) (sh .s) m msg (ready-told sh b msg m r kind-known) (ap (λ (x : Message). fromOutside (tagOf x)) e) .1)
+  from-below = rw e at (said-sender r 18 own kind-known refl .1)
 
   pub from-small : from < 8
   from-small = omega (arith, from-below, r .stands .fits .most)
@@ -109,12 +105,11 @@ module _ (sh : Shape) (b msg out : List ℕ) (m : Message) (h : Header) (p : ℕ
   abbrev told : Wire
   told = send st 19 asker (only from) [] (asked p asker (source st))
 
-  by-rule : handled 18 onVerifyRequest sh m b msg out ≡ closes sh b out (done st (told ∷ []))
+  says : onVerifyRequest sh st (wireIn (sh .s) msg) ≡ done st (told ∷ [])
   unfolding onVerifyRequest
-  by-rule =
-      handled-own 18 onVerifyRequest sh m b msg out (ap tagOf e)
-      ∙ ap (λ (x : Header). closes sh b out (done st (send st 19 (x .«from_group») (only (x .«from_replica»)) [] (asked (wires.number (wireIn (sh .s) msg) 0) (x .«from_group») (source st)) ∷ []))) header-is
-      ∙ ap (λ (x : ℕ). closes sh b out (done st (send st 19 asker (only from) [] (asked x asker (source st)) ∷ []))) boundary-is
+  says =
+      ap (λ (x : Header). done st (send st 19 (x .«from_group») (only (x .«from_replica»)) [] (asked (wires.number (wireIn (sh .s) msg) 0) (x .«from_group») (source st)) ∷ [])) header-is
+      ∙ ap (λ (x : ℕ). done st (send st 19 asker (only from) [] (asked x asker (source st)) ∷ [])) boundary-is
 
   -- the message with no entries
   none-told : messageBytes sh b (VerifyReply (headedIn b 19 asker (only from))) [] ≡ wireBytes (send st 19 asker (only from) [] [])
@@ -130,14 +125,14 @@ module _ (sh : Shape) (b msg out : List ℕ) (m : Message) (h : Header) (p : ℕ
     asked-all = asked-is p asker t (source st) lt (source-fits (r .stands) .each)
 
     asked-long : length (asked p asker (source st)) ≡ count
-    asked-long = ap length (sym asked-all) ∙ length-ordered (askedIn p asker t) ∙ sym hc
+    asked-long = ap length (sym asked-all) ∙ ordered-length (askedIn p asker t) ∙ sym hc
 
     told-long : length (wireBytes told) ≡ lengthFor (sh .s) 19 count
     unfolding pick rowOf
     told-long = sent-length (sh .s) st 19 asker (only from) [] _ (stands-fits (r .stands) .gVecPlaces) refl refl ∙ ap (lengthFor (sh .s) 19) asked-long
 
     pub no-room : (need : ℕ) → need ≡ lengthFor (sh .s) 19 count → length out < need → leaves 9 b out ≡ handled 18 onVerifyRequest sh m b msg out
-    no-room need n l = sym (by-rule ∙ closes-short sh b out st told (omega (arith, told-long)))
+    no-room need n l = no-room-for 18 onVerifyRequest sh b msg out m own st told says (omega (arith, told-long))
 
     pub asked-told : (need end : ℕ) (out₁ out₂ : List ℕ) → need ≡ lengthFor (sh .s) 19 count → need ≤ length out → end ≡ 24 + 4 * sh .s → out₁ ≡ splice out 0 (messageBytes sh b (VerifyReply (headedIn b 19 asker (only from))) [])
         → out₂ ≡ splice out₁ (end - 4) (le 4 count ++ flat entryBytes (ordered (askedIn p asker t)))
@@ -151,5 +146,4 @@ module _ (sh : Shape) (b msg out : List ℕ) (m : Message) (h : Header) (p : ℕ
         let x : out₂ ≡ splice out 0 (wireBytes told)
         = w₂ ∙ rw (w₁ ∙ ap (splice out 0) (none-told ∙ z), ← lf, asked-all) (over-none out F count (flat entryBytes es) (omega (arith, rows-long es, asked-long, told-long)))
         ∙ ap (splice out 0) (sym (in-two st 19 asker (only from) [] es ∙ ap (λ (k : ℕ). F ++ (le 4 k ++ flat entryBytes es)) asked-long)) in
-        sent-is (end + 24 * count) (length (wireBytes told)) b (image sh st) out₂ (splice out 0 (wireBytes told)) (omega (arith, told-long)) (r .stands .bytes) x
-        ∙ sym (by-rule ∙ closes-one sh b out st told (omega (arith, told-long)))
+        sends-one 18 onVerifyRequest sh b msg out m own st told says b out₂ (end + 24 * count) (omega (arith, told-long)) (r .stands .bytes) (omega (arith, told-long)) x

@@ -44,16 +44,9 @@ fn source_of(shape: Shape, state: &[u8]) -> &[u8]
     requires { ⌜ Stands shape (stateOf shape (now state)) (now state) ⌝ }
     ensures { λ r. ⌜ (now r ≡ flat entryBytes (steps.source (stateOf shape (now (state .entry))))) × (length (now r) ≤ 98304) ⌝ }
 {
-    let layout = places::places_of(shape);
-    let draft = layout.draft;
-    let replies = layout.replies;
-    let log = layout.log;
-    let early = layout.early;
-    source(
-        places::get_status(state),
-        &state[draft..replies],
-        &state[log..early],
-    )
+    let draft = places::draft(shape, state);
+    let log = places::log(shape, state);
+    source(places::get_status(state), draft, log)
 }
 
 // Whether e is past the boundary that is asked from.
@@ -118,7 +111,9 @@ fn put_asked(t: &[u8], boundary: u64, asker: u64, count: usize, out: &mut [u8], 
 // Writes a verify reply with no entries to a replica of a group, first into the outgoing buffer, and says where it ends.
 fn tell_none(shape: Shape, state: &[u8], out: &mut [u8], to_group: u8, to: u64) -> usize
     requires { ⌜ Sized shape (now state) × (to < 8) × (24 + 4 * shape .s ≤ length (now out)) ⌝ }
-    ensures { λ r. ⌜ (r ≡ 24 + 4 * shape .s) × (now (out .exit) ≡ splice (now (out .entry)) 0 (messageBytes shape (now (state .entry)) (cases.VerifyReply (headedIn (now (state .entry)) 19 «to_group» (sets.only to))) [])) ⌝ }
+    ensures { λ r. ⌜ (let b = now (state .entry) in
+        (r ≡ 24 + 4 * shape .s)
+        × (now (out .exit) ≡ splice (now (out .entry)) 0 (messageBytes shape b (cases.VerifyReply (headedIn b 19 «to_group» (sets.only to))) []))) ⌝ }
 {
     let mask = group::only(to);
     let h = handler::headed(state, kind::VERIFY_REPLY, to_group, mask);
@@ -135,7 +130,8 @@ pub fn on_verify_request(
     out: &mut [u8],
 ) -> Answer
     requires { ⌜ Ready shape (now state) m (now message) ⌝ }
-    ensures { λ r. ⌜ left r (now (state .entry)) (now (out .exit)) ≡ handled 18 steps.onVerifyRequest shape m (now (state .entry)) (now (message .entry)) (now (out .entry)) ⌝ }
+    ensures { λ r. ⌜ left r (now (state .entry)) (now (out .exit))
+        ≡ handled 18 steps.onVerifyRequest shape m (now (state .entry)) (now (message .entry)) (now (out .entry)) ⌝ }
 {
     let Message::VerifyRequest(h, boundary) = m else {
         return Answer::Refused(refusal::MALFORMED);

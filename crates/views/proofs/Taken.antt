@@ -7,19 +7,15 @@ use lib.ListN.{length}
 use Rattle.octets.specs.Bytes.{le, num, part, splice}
 use Rattle.octets.proofs.Laws.{Bytes, num-lt}
 use Rattle.octets.proofs.Codecs.{All, length-items}
-use Rattle.rules.specs.State.{State}
-use Rattle.rules.specs.Image.{image, atGVec}
+use Rattle.rules.specs.State.{State, inView}
+use Rattle.rules.specs.Image.{atGVec}
 use Rattle.rules.specs.declared.Shape.{Shape}
 use Rattle.rules.proofs.Tests.{all-items}
-use Rattle.places.specs.Layout.{startOf, Laid}
-use Rattle.places.specs.With.{withView, withGVec}
+use Rattle.places.specs.Layout.{startOf}
+use Rattle.places.proofs.Sections.{Laid}
 use Rattle.places.proofs.Head.{put-view}
 use Rattle.places.proofs.Kept.{put-views, views-in}
 use Rattle.views.specs.Views.{viewsOf, takenIn}
-
--- bytes that are a state's image are laid as any other that are
-pub laid-as : {sh : Shape} {st : State} {b b′ : List ℕ} → Laid sh st b → b′ ≡ image sh st → Laid sh st b′
-laid-as l e = record { bytes = e; long = l .long; size = ap length (e ∙ sym (l .bytes)) ∙ l .size }
 
 -- ---- the views of a message
 
@@ -36,6 +32,6 @@ pub taken-in : (sh : Shape) (b b₁ b₂ msg : List ℕ) (view : ℕ) → b₁ �
 taken-in sh b b₁ b₂ msg view w₁ w₂ = w₂ ∙ rw w₁
 
 module _ {sh : Shape} {st : State} {b : List ℕ} (l : Laid sh st b) where
-  pub view-taken : {b′ : List ℕ} (view : ℕ) (msg : List ℕ) → Bytes msg → 16 + 4 * sh .s ≤ length msg → b′ ≡ takenIn sh b view msg → Laid sh (withGVec (withView st view) (viewsOf sh msg)) b′
+  pub view-taken : {b′ : List ℕ} (view : ℕ) (msg : List ℕ) → Bytes msg → 16 + 4 * sh .s ≤ length msg → b′ ≡ takenIn sh b view msg → Laid sh (inView (record { gView = view; gVec = viewsOf sh msg; normal = st .view .normal; status = st .view .status }) st) b′
   view-taken view msg bs h w =
       put-views (put-view l view refl) (viewsOf sh msg) (views-long sh msg) (w ∙ ap (splice (splice b 8 (le 4 view)) (startOf sh atGVec)) (views-in msg 16 (sh .s) bs h))

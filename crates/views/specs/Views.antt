@@ -2,11 +2,11 @@
 use Prim.Native.Nat.{ℕ, _*_, min}
 use mathlib.Core.Option.{none}
 use mathlib.Core.List.{List, []}
-use lib.ListN.{drop, replicate}
+use lib.ListN.{take, drop, replicate}
 use Rattle.octets.specs.Bytes.{le, num, part, splice, items}
 use Rattle.octets.specs.Sections.{total}
 use Rattle.rules.specs.State.{withWaiting, withChange, noneWait, State}
-use Rattle.rules.specs.Image.{lengths, atGVec}
+use Rattle.rules.specs.Image.{lengths, atGVec, atEarly}
 use Rattle.rules.specs.declared.Shape.{Shape}
 use Rattle.places.specs.Layout.{startOf}
 
@@ -20,9 +20,9 @@ emptied sh st =
     withWaiting noneWait
     (withChange (record { votes = replicate (sh .n) none; draft = []; boundary = st .change .boundary; replies = replicate (sh .s) none }) st)
 
--- how many bytes there are from early on
+-- how many bytes early, late, notes, votes, draft and replies have
 abbrev pub tablesLength : Shape → ℕ
-tablesLength sh = total (drop 4 (lengths sh))
+tablesLength sh = total (take 6 (drop atEarly (lengths sh)))
 
 -- the gView and the gVec of a message written
 abbrev pub takenIn : Shape → List ℕ → ℕ → List ℕ → List ℕ

@@ -1,24 +1,97 @@
-// What a new view leaves in the state: its gView and its gVec, empty tables, and, where it starts, its numbers and its log.
+// What a change of view writes into the state: its gView and its gVec, empty tables, the votes and replies that it gathers and, where the view starts, its numbers and its log.
 use rules::Shape;
 use rules::status;
 ghost use mathlib.Core.Path.{_≡_};
-ghost use Prim.Native.Nat.{_+_, _*_, _≤_, min};
+ghost use mathlib.Core.Option.{some};
+ghost use mathlib.Core.List.{_++_};
+ghost use Prim.Native.Nat.{_+_, _*_, _≤_, _<_, min};
 ghost use lib.ListN.{length, replicate};
-ghost use Rattle.octets.specs.Bytes.{splice, items};
+ghost use Rattle.octets.specs.Bytes.{le, num, splice, items};
 ghost use Rattle.rules.specs.Read.{entryAt};
-ghost use Rattle.rules.specs.Image.{image, stateOf, atEarly};
+ghost use Rattle.rules.specs.Image.{voteLength, replyLength, voteBytes, replyBytes, image, stateOf, atEarly, atReplies, atVotes};
 ghost use Rattle.rules.specs.Step.{started};
-ghost use Rattle.places.specs.Layout.{startOf, Sized, Stands};
+ghost use Rattle.places.specs.Layout.{startOf, Sized, Stands, ownBytes};
 ghost use Rattle.views.specs.Views.{viewsOf, tablesLength, takenIn, begunIn};
 
-// Empties early, late, notes, votes, draft and replies: they stand side by side to the end.
+// What a vote says beside its log: the last normal gView and the sync point.
+pub struct Said {
+    pub normal: u32,
+    pub sync: u64,
+}
+
+// ---- votes and replies
+
+// Writes what stands before the log of a vote.
+fn begin_vote(state: &mut [u8], place: usize, said: Said)
+    requires { ⌜ place + 13 ≤ length (now state) ⌝ }
+    ensures { λ _. ⌜ now (state .exit) ≡ splice (now (state .entry)) place (le 1 1 ++ (le 4 (said .normal) ++ le 8 (said .sync))) ⌝ }
+{
+    octets::put8(state, place, 1);
+    octets::put32(state, place + 1, said.normal);
+    octets::put64(state, place + 5, said.sync);
+}
+
+// Keeps the vote of replica r: its log are the `number` entries that stand in `src` from `at` on.
+pub fn keep_vote(
+    shape: Shape,
+    state: &mut [u8],
+    r: u64,
+    said: Said,
+    src: &[u8],
+    at: usize,
+    number: usize,
+)
+    requires { ⌜ Sized shape (now state) × (r < shape .n) × (number ≤ shape .c) × (at + 24 * number ≤ length (now src)) ⌝ }
+    ensures { λ _. ⌜ (let log = items (entryAt (now (src .entry))) 24 at number in
+        now (state .exit) ≡ splice (now (state .entry)) (startOf shape atVotes + voteLength (shape .c) * r)
+        (voteBytes (shape .c) (some (record { normal = said .normal; sync = said .sync; log = log })))) ⌝ }
+{
+    let place = places::vote_place(shape, r);
+    begin_vote(state, place, said);
+    places::put_table(shape, state, place + 13, src, at, number);
+}
+
+// Keeps the own vote: the log is copied as it stands.
+pub fn keep_own_vote(shape: Shape, state: &mut [u8])
+    requires { ⌜ Sized shape (now state) × (num (now state) 1 1 < shape .n) ⌝ }
+    ensures { λ _. ⌜ (let b = now (state .entry) in
+        now (state .exit) ≡ splice b (startOf shape atVotes + voteLength (shape .c) * num b 1 1) (ownBytes shape b)) ⌝ }
+{
+    let said = Said {
+        normal: places::get_normal(state),
+        sync: places::get_sync(state),
+    };
+    let place = places::vote_place(shape, places::get_replica(state));
+    let places = places::places_of(shape);
+    begin_vote(state, place, said);
+    octets::move_up(state, place + 13, places.log, places.table);
+}
+
+// Keeps the reply of group j: the `number` entries that stand in `src` from `at` on.
+pub fn keep_reply(shape: Shape, state: &mut [u8], j: u64, src: &[u8], at: usize, number: usize)
+    requires { ⌜ Sized shape (now state) × (j < shape .s) × (number ≤ shape .c) × (at + 24 * number ≤ length (now src)) ⌝ }
+    ensures { λ _. ⌜ now (state .exit)
+        ≡ splice (now (state .entry)) (startOf shape atReplies + replyLength (shape .c) * j)
+        (replyBytes (shape .c) (some (items (entryAt (now (src .entry))) 24 at number))) ⌝ }
+{
+    let place = places::reply_place(shape, j);
+    octets::put8(state, place, 1);
+    places::put_table(shape, state, place + 1, src, at, number);
+}
+
+// ---- the tables
+
+// Empties early, late, notes, votes, draft and replies: they stand side by side.
 pub fn empty_tables(shape: Shape, state: &mut [u8])
     requires { ⌜ Sized shape (now state) ⌝ }
     ensures { λ _. ⌜ now (state .exit) ≡ splice (now (state .entry)) (startOf shape atEarly) (replicate (tablesLength shape) 0) ⌝ }
 {
     let places = places::places_of(shape);
-    octets::fill_zero(state, places.early, places.end - places.early);
+    let end = places.replies + places.reply * shape.s as usize;
+    octets::fill_zero(state, places.early, end - places.early);
 }
+
+// ---- the view
 
 // Takes over the gView, and the gVec that stands in the message.
 pub fn take_view(shape: Shape, state: &mut [u8], view: u32, message: &[u8])
@@ -59,8 +132,11 @@ pub fn begin(
     at: usize,
     number: usize,
 )
-    requires { ⌜ Stands shape (stateOf shape (now state)) (now state) × (16 + 4 * shape .s ≤ length (now message)) × (number ≤ shape .c) × (at + 24 * number ≤ length (now src)) ⌝ }
-    ensures { λ _. ⌜ now (state .exit) ≡ image shape (started shape (stateOf shape (now (state .entry))) view (viewsOf shape (now (message .entry))) (items (entryAt (now (src .entry))) 24 at number)) ⌝ }
+    requires { ⌜ Stands shape (stateOf shape (now state)) (now state) × (16 + 4 * shape .s ≤ length (now message))
+        × (number ≤ shape .c) × (at + 24 * number ≤ length (now src)) ⌝ }
+    ensures { λ _. ⌜ (let st = stateOf shape (now (state .entry)) in
+        let log = items (entryAt (now (src .entry))) 24 at number in
+        now (state .exit) ≡ image shape (started shape st view (viewsOf shape (now (message .entry))) log)) ⌝ }
 {
     take_view(shape, state, view, message);
     begin_head(state, view, number as u64);

@@ -22,7 +22,8 @@ use Rattle.rules.specs.declared.Entry.{Entry}
 use Rattle.rules.specs.declared.Shape.{Shape}
 use Rattle.rules.proofs.Choice.{all-given}
 use Rattle.entries.specs.Table.{Table}
-use Rattle.places.specs.Layout.{Laid, Stands}
+use Rattle.places.specs.Layout.{Stands}
+use Rattle.places.proofs.Sections.{Laid}
 use Rattle.places.proofs.Sections.{stands-fits, stands-laid}
 use Rattle.handler.specs.Sending.{othersIn, leaderBytes}
 use Rattle.handler.proofs.Closes.{closes-sent, closes-tight}

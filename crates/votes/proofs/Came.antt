@@ -13,16 +13,15 @@ use Rattle.octets.proofs.Codecs.{length-items}
 use Rattle.rules.specs.Kind.{rowOf}
 use Rattle.rules.specs.Choice.{pick}
 use Rattle.rules.specs.Read.{entryAt}
-use Rattle.rules.specs.State.{Vote, State}
+use Rattle.rules.specs.State.{Vote, State, inView, withChange}
 use Rattle.rules.specs.Image.{voteLength, tableBytes, voteBytes, tableAt, image, stateOf, atDraft, atVotes}
 use Rattle.rules.specs.Step.{ownVote, started}
 use Rattle.rules.specs.declared.Entry.{Entry}
 use Rattle.rules.specs.declared.Shape.{Shape}
 use Rattle.rules.proofs.Choice.{by-cases, pick-true, pick-false}
 use Rattle.entries.specs.Table.{Table}
-use Rattle.places.specs.Layout.{startOf, Laid, Stands}
-use Rattle.places.specs.With.{withVotes, withDraft, withBoundary, withStatus}
-use Rattle.places.proofs.Sections.{stands-fits, stands-laid}
+use Rattle.places.specs.Layout.{startOf, Stands}
+use Rattle.places.proofs.Sections.{Laid, laid-as, stands-fits, stands-laid, stands-midway}
 use Rattle.places.proofs.Head.{put-boundary, put-status}
 use Rattle.places.proofs.Tables.{put-draft}
 use Rattle.places.proofs.Rows.{Even, even-set}
@@ -30,14 +29,13 @@ use Rattle.places.proofs.Kept.{vote-long, put-vote, even-votes}
 use Rattle.handler.proofs.Own.{replica-below}
 use Rattle.handler.proofs.Sends.{Sender, sender}
 use Rattle.views.specs.Views.{viewsOf}
-use Rattle.views.proofs.Taken.{laid-as}
 use Rattle.changes.specs.Changes.{enteredBy}
 use Rattle.changes.proofs.Entered.{entered-laid, entered-sender}
 use Rattle.changes.proofs.Started.{table-row}
 use Rattle.ballots.specs.Ballots.{sentLog, votesIn}
 use Rattle.ballots.specs.declared.Cast.{Cast}
 use Rattle.ballots.proofs.Votes.{ballots-kept, ballots-entering}
-use Rattle.votes.specs.Votes.{Brought, cameTo, keptIn, draftedIn}
+use Rattle.votes.specs.Votes.{Brought, cameTo, voting, keptIn, draftedIn}
 
 -- the vote that the message brings
 abbrev pub said : List ℕ → Cast → Vote
@@ -103,7 +101,7 @@ module _ (sh : Shape) (b msg : List ℕ) (view : ℕ) (k : Cast) (g : Brought sh
     comes-same e =
         record {
           votes = sym (rw e (ballots-kept sh st (k .sender) (said msg k)));
-          even = even-votes stands;
+          even = even-votes (stands-midway stands);
           laid = λ b′ i. laid-as (stands-laid stands) i;
           sends = sender (stands-fits stands);
           status = g .status e;
@@ -125,7 +123,7 @@ module _ (sh : Shape) (b msg : List ℕ) (view : ℕ) (k : Cast) (g : Brought sh
         let q = comes in
         let r : length (sentLog msg (k .at)) ≤ sh .c = omega (arith, g .given .room, length-items (entryAt msg) 24 (k .at + 4) (num msg (k .at) 4)) in
         let w′ : b₂ ≡ splice b₁ (startOf sh atVotes + voteLength (sh .c) * k .sender) (voteBytes (sh .c) (some (said msg k))) = w ∙ rw (n, a, m) in
-        subst (λ (vs : List (Option Vote)). Laid sh (withVotes (cameTo sh b msg view (k .entering)) vs) b₂) (q .votes)
+        subst (λ (vs : List (Option Vote)). Laid sh (voting (cameTo sh b msg view (k .entering)) vs) b₂) (q .votes)
         (put-vote (q .laid b₁ i) (k .sender) (said msg k) (q .even) r (g .given .sent .sender) w′)
 
 -- ---- the view
@@ -145,5 +143,5 @@ pub draft-taken : (sh : Shape) (b b₁ b₂ b₃ t : List ℕ) (draft number bou
 draft-taken sh b b₁ b₂ b₃ t draft number boundary h d n w₁ w₂ w₃ = rw (w₃, w₂, w₁, d, table-row (sh .c) t number h n)
 
 module _ {sh : Shape} {st : State} {b : List ℕ} (l : Laid sh st b) where
-  pub drafted : {b′ : List ℕ} (es : List Entry) (boundary : ℕ) → length es ≤ sh .c → b′ ≡ draftedIn sh b es boundary → Laid sh (withStatus (withBoundary (withDraft st es) boundary) 3) b′
+  pub drafted : {b′ : List ℕ} (es : List Entry) (boundary : ℕ) → length es ≤ sh .c → b′ ≡ draftedIn sh b es boundary → Laid sh (inView (record { gView = st .view .gView; gVec = st .view .gVec; normal = st .view .normal; status = 3 }) (withChange (record { votes = st .change .votes; draft = es; boundary = boundary; replies = st .change .replies }) st)) b′
   drafted es boundary r w = put-status (put-boundary (put-draft l es r refl) boundary refl) 3 w

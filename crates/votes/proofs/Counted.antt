@@ -14,8 +14,10 @@ use Rattle.rules.specs.State.{Vote, held}
 use Rattle.rules.specs.Image.{voteLength, voteAt, stateOf, atVotes}
 use Rattle.rules.specs.declared.Shape.{Shape}
 use Rattle.rules.proofs.Choice.{by-test, by-cases, pick-true, pick-false}
-use Rattle.rules.proofs.KeptLaws.{count-same, count-none}
+use Rattle.rules.proofs.Choice.{count-none}
+use Rattle.rules.proofs.KeptLaws.{count-same}
 use Rattle.places.specs.Layout.{startOf}
+use Rattle.places.proofs.Sections.{stands-midway}
 use Rattle.places.proofs.Kept.{vote-at, votes-held}
 use Rattle.ballots.specs.Ballots.{Sent}
 use Rattle.ballots.specs.declared.Cast.{Cast}
@@ -67,11 +69,11 @@ module _ (sh : Shape) (b : List ℕ) (k : Cast) where
 
   module _ (g : Sent sh b k) where
     pub second-kept : (t : Bool) → t ≡ isSome (voteAt (sh .c) b (startOf sh atVotes + voteLength (sh .c) * k .sender)) → (not (k .entering) && t) ≡ isSecond sh b k
-    second-kept t e = ap (λ (x : Bool). not (k .entering) && x) (e ∙ ap isSome (vote-at (g .stands) (k .sender) (g .sender)))
+    second-kept t e = ap (λ (x : Bool). not (k .entering) && x) (e ∙ ap isSome (vote-at (stands-midway (g .stands)) (k .sender) (g .sender)))
 
     module _ (m : ℕ) (e : m ≡ count (λ r. isSome (voteAt (sh .c) b (startOf sh atVotes + voteLength (sh .c) * r))) (sh .n)) where
       pub count-small : m ≤ 7
       count-small = omega (arith, count-most (λ r. isSome (voteAt (sh .c) b (startOf sh atVotes + voteLength (sh .c) * r))) (sh .n), g .stands .fits .most)
 
       pub count-kept : k .entering ≡ false → m + 1 ≡ countWith sh b k
-      count-kept f = ap (λ (x : ℕ). x + 1) (e ∙ votes-held (g .stands)) ∙ sym (pick-false (k .entering) 2 (held (stateOf sh b .change .votes) + 1) f)
+      count-kept f = ap (λ (x : ℕ). x + 1) (e ∙ votes-held (stands-midway (g .stands))) ∙ sym (pick-false (k .entering) 2 (held (stateOf sh b .change .votes) + 1) f)

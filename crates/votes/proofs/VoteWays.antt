@@ -29,8 +29,8 @@ use Rattle.rules.specs.declared.Message.the-variants as cases
 use Rattle.rules.proofs.Choice.{by-cases, pick-true, pick-false, and-left, and-right, or-cases, clash}
 use Rattle.rules.proofs.Tests.{same-true}
 use Rattle.rules.proofs.KeptMessage.{view-wide, vote-parts}
-use Rattle.places.specs.Layout.{Laid}
-use Rattle.places.proofs.Sections.{stands-fits}
+use Rattle.places.proofs.Sections.{Laid}
+use Rattle.places.proofs.Sections.{stands-fits, stands-midway}
 use Rattle.places.proofs.Head.{view-of}
 use Rattle.handler.specs.Handler.{Ready, handled}
 use Rattle.handler.proofs.Own.{replica-below}
@@ -106,7 +106,7 @@ module _ (sh : Shape) (b msg out : List ℕ) (m : Message) (h : Header) (normal 
   w = wireIn (sh .s) msg
 
   abbrev k : Cast
-  k = record { sender = h .«from_replica»; normal = normal; sync = sync; at = at; entering = ltb old (h .view) }
+  k = record { view = h .view; sender = h .«from_replica»; normal = normal; sync = sync; at = at; entering = ltb old (h .view) }
 
   abbrev here : State
   here = cameTo sh b msg (h .view) (k .entering)
@@ -156,7 +156,7 @@ module _ (sh : Shape) (b msg out : List ℕ) (m : Message) (h : Header) (normal 
   is-right = right sh st w (rw kind-is at (r .view)) (rw kind-is at (r .status)) (rw kind-is at (r .role))
 
   entering-is : newer st w ≡ k .entering
-  entering-is = rw (o ∙ view-of (r .stands), view-is)
+  entering-is = rw (o ∙ view-of (stands-midway (r .stands)), view-is)
 
   leads-is : true ≡ leadsWith sh st (viewsOf sh msg)
   leads-is = rw (← views-said sh b msg m r kind-known kind-views) (sym (is-right .leads))
@@ -199,6 +199,7 @@ module _ (sh : Shape) (b msg out : List ℕ) (m : Message) (h : Header) (normal 
       record {
         given = record { sent = vote-sender; long = omega (arith, whole); room = l; good = good; within = omega (arith, p .1, entries-long) };
         normal = omega (arith, p .0);
+        wide = omega (arith, view-is, wide);
         views = views-stand sh b msg m r kind-known kind-views;
         status = λ f. is-right .status (entering-is ∙ f);
         sameView = λ f. sym view-is ∙ is-right .view (entering-is ∙ f);

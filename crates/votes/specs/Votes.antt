@@ -8,14 +8,13 @@ use lib.ListN.{length, getD}
 use lib.Dec.{eqb}
 use Rattle.octets.specs.Bytes.{le, splice}
 use Rattle.rules.specs.Choice.{pick, isSome}
-use Rattle.rules.specs.State.{Vote, State, held}
+use Rattle.rules.specs.State.{Vote, State, withChange, held}
 use Rattle.rules.specs.Image.{tableBytes, stateOf, atDraft}
 use Rattle.rules.specs.Rebuild.{rebuilt}
 use Rattle.rules.specs.Step.{Outcome, done, sends, sendLeader, otherGroups, starts, changing, verifies}
 use Rattle.rules.specs.declared.Entry.{Entry}
 use Rattle.rules.specs.declared.Shape.{Shape}
 use Rattle.places.specs.Layout.{startOf}
-use Rattle.places.specs.With.{withVotes}
 use Rattle.views.specs.Views.{viewsOf}
 use Rattle.changes.specs.Changes.{enteredBy}
 use Rattle.ballots.specs.Ballots.{votesIn, Given}
@@ -25,6 +24,7 @@ use Rattle.ballots.specs.declared.Cast.{Cast}
 pub record Brought (sh : Shape) (b msg : List ℕ) (view : ℕ) (k : Cast) : Type 0 where
   pub given : Given sh b msg k
   pub normal : k .normal < 2 ^ 32
+  pub wide : view < 256 ^ 4
   pub views : 16 + 4 * sh .s ≤ length msg
   pub status : k .entering ≡ false → stateOf sh b .view .status ≡ 2
   pub sameView : k .entering ≡ false → view ≡ stateOf sh b .view .gView
@@ -42,9 +42,13 @@ countWith sh b k = pick (k .entering) 2 (held (stateOf sh b .change .votes) + 1)
 unfoldable pub cameTo : Shape → List ℕ → List ℕ → ℕ → Bool → State
 cameTo sh b msg view entering = pick entering (enteredBy sh (stateOf sh b) view (viewsOf sh msg) true) (stateOf sh b)
 
+-- with these votes kept
+abbrev pub voting : State → List (Option Vote) → State
+voting st votes = withChange (record { votes = votes; draft = st .change .draft; boundary = st .change .boundary; replies = st .change .replies }) st
+
 -- with the vote kept
 abbrev pub keptIn : Shape → List ℕ → List ℕ → ℕ → Cast → State
-keptIn sh b msg view k = withVotes (cameTo sh b msg view (k .entering)) (votesIn sh b msg k)
+keptIn sh b msg view k = voting (cameTo sh b msg view (k .entering)) (votesIn sh b msg k)
 
 -- a draft, its boundary and status 3 written
 abbrev pub draftedIn : Shape → List ℕ → List Entry → ℕ → List ℕ

@@ -1,5 +1,6 @@
 // The handler of votes (kind 8): each is kept, and with F+1 of them the log is rebuilt.
 use ballots::Cast;
+use handler::Asking;
 use rebuild::Rebuilt;
 use rules::Answer;
 use rules::GroupSize;
@@ -8,6 +9,7 @@ use rules::Shape;
 use rules::kind;
 use rules::refusal;
 use rules::status;
+use views::Said;
 ghost use mathlib.Core.Path.{_≡_};
 ghost use mathlib.Core.List.{[]};
 ghost use Prim.Native.Nat.{_+_, _-_, _*_, _^_, _≤_, _<_};
@@ -18,7 +20,8 @@ ghost use Rattle.rules.specs.Image.{tableAt, image, stateOf};
 ghost use Rattle.rules.specs.Step.{onVote};
 ghost use Rattle.rules.specs.Bytes.{left, closes};
 ghost use Rattle.entries.specs.Table.{Table};
-ghost use Rattle.places.specs.Layout.{Sized, Laid, Stands};
+ghost use Rattle.places.specs.Layout.{Sized, Stands};
+ghost use Rattle.places.proofs.Sections.{Laid};
 ghost use Rattle.handler.specs.Handler.{Ready, handled};
 ghost use Rattle.handler.specs.Sending.{othersIn, leaderBytes};
 ghost use Rattle.ballots.specs.Ballots.{votesIn, Sent};
@@ -60,24 +63,19 @@ fn come_to(shape: Shape, state: &mut [u8], view: u32, message: &[u8], entering: 
 }
 
 // Keeps the vote under its sender's number, in its view.
-fn keep_vote(shape: Shape, state: &mut [u8], view: u32, message: &[u8], cast: Cast)
-    requires { ⌜ Brought shape (now state) (now message) view cast ⌝ }
-    ensures { λ _. ⌜ Laid shape (keptIn shape (now (state .entry)) (now (message .entry)) view cast) (now (state .exit)) ⌝ }
+fn keep_vote(shape: Shape, state: &mut [u8], message: &[u8], cast: Cast)
+    requires { ⌜ Brought shape (now state) (now message) (cast .view) cast ⌝ }
+    ensures { λ _. ⌜ Laid shape (keptIn shape (now (state .entry)) (now (message .entry)) (cast .view) cast) (now (state .exit)) ⌝ }
 {
     let at = cast.at;
     let number = octets::get32(message, at) as usize;
     let normal = cast.normal as u32;
-    come_to(shape, state, view, message, cast.entering);
-    keeping::keep_vote(
-        shape,
-        state,
-        cast.sender,
+    come_to(shape, state, cast.view, message, cast.entering);
+    let said = Said {
         normal,
-        cast.sync,
-        message,
-        at + 4,
-        number,
-    );
+        sync: cast.sync,
+    };
+    views::keep_vote(shape, state, cast.sender, said, message, at + 4, number);
 }
 
 // Takes over the rebuilt log as the draft, with its boundary: status 3.
@@ -105,136 +103,95 @@ fn all_groups(s: u64) -> u16
 // Kind 18 with the boundary to the leader of each other group in the mask: says where the last ends.
 fn tell_all(shape: Shape, state: &[u8], out: &mut [u8], boundary: u64, mask: u16) -> usize
     requires { ⌜ Sized shape (now state) × (lengthFor (shape .s) 18 0 * length (othersIn shape (now state) mask) ≤ length (now out)) ⌝ }
-    ensures { λ r. ⌜ (r ≡ length (flat (leaderBytes shape (now (state .entry)) 18 boundary []) (othersIn shape (now (state .entry)) mask))) × (now (out .exit) ≡ splice (now (out .entry)) 0 (flat (leaderBytes shape (now (state .entry)) 18 boundary []) (othersIn shape (now (state .entry)) mask))) ⌝ }
+    ensures { λ r. ⌜ (let b = now (state .entry) in
+        (r ≡ length (flat (leaderBytes shape b 18 boundary []) (othersIn shape b mask)))
+        × (now (out .exit) ≡ splice (now (out .entry)) 0 (flat (leaderBytes shape b 18 boundary []) (othersIn shape b mask)))) ⌝ }
 {
-    handler::tell_leaders(
-        shape,
-        state,
-        out,
-        kind::VERIFY_REQUEST,
-        boundary,
-        mask,
-        &state[0..0],
-    )
+    let asking = Asking {
+        kind: kind::VERIFY_REQUEST,
+        number: boundary,
+    };
+    handler::tell_leaders(shape, state, out, asking, mask, &state[0..0])
 }
 
 // The rebuilt log becomes the draft, and the leaders of all other groups are asked for what they have past its boundary.
 fn ask_all(
     shape: Shape,
     state: &mut [u8],
-    view: u32,
     message: &[u8],
     cast: Cast,
     table: &[u8],
     boundary: u64,
     out: &mut [u8],
 ) -> Answer
-    requires { ⌜ Brought shape (now state) (now message) view cast × Table (shape .c) (now table) ⌝ }
-    ensures { λ r. ⌜ left r (now (state .exit)) (now (out .exit)) ≡ closes shape (now (state .entry)) (now (out .entry)) (asksAll shape (cameTo shape (now (state .entry)) (now (message .entry)) view (cast .entering)) (votesIn shape (now (state .entry)) (now (message .entry)) cast) (tableAt (shape .c) (now (table .entry)) 0) boundary) ⌝ }
+    requires { ⌜ Brought shape (now state) (now message) (cast .view) cast × Table (shape .c) (now table) ⌝ }
+    ensures { λ r. ⌜ (let b = now (state .entry) in
+        let came = cameTo shape b (now (message .entry)) (cast .view) (cast .entering) in
+        let votes = votesIn shape b (now (message .entry)) cast in
+        left r (now (state .exit)) (now (out .exit)) ≡ closes shape b (now (out .entry)) (asksAll shape came votes (tableAt (shape .c) (now (table .entry)) 0) boundary)) ⌝ }
 {
     let mask = all_groups(shape.s);
     let count = handler::count_others(shape, state, mask) as usize;
     if out.len() < kinds::length_for(shape.s, kind::VERIFY_REQUEST, 0) * count {
         return Answer::Refused(refusal::NO_ROOM);
     }
-    keep_vote(shape, state, view, message, cast);
+    keep_vote(shape, state, message, cast);
     take_draft(shape, state, table, boundary);
     let sent = tell_all(shape, state, out, boundary, mask);
     Answer::Done(sent)
 }
 
-// Rebuilds the log into the table. One group starts with it at once, more verify it first.
+// Rebuilds the log into the lent table, so that nothing of the state changes before the log is known to fit. One group starts with it at once, more
+// verify it first.
 fn conclude(
     shape: Shape,
     state: &mut [u8],
-    view: u32,
     message: &[u8],
     cast: Cast,
-    table: &mut [u8],
     out: &mut [u8],
+    slots: &mut [u16],
+    table: &mut [u8],
 ) -> Answer
-    requires { ⌜ Brought shape (now state) (now message) view cast × (length (now table) ≡ 4 + 24 * shape .c) ⌝ }
-    ensures { λ r. ⌜ left r (now (state .exit)) (now (out .exit)) ≡ closes shape (now (state .entry)) (now (out .entry)) (concludes shape (cameTo shape (now (state .entry)) (now (message .entry)) view (cast .entering)) (votesIn shape (now (state .entry)) (now (message .entry)) cast)) ⌝ }
+    requires { ⌜ Brought shape (now state) (now message) (cast .view) cast × (length (now table) ≡ 4 + 24 * shape .c) ⌝ }
+    ensures { λ r. ⌜ (let b = now (state .entry) in
+        let came = cameTo shape b (now (message .entry)) (cast .view) (cast .entering) in
+        left r (now (state .exit)) (now (out .exit)) ≡ closes shape b (now (out .entry)) (concludes shape came (votesIn shape b (now (message .entry)) cast))) ⌝ }
 {
-    let rebuilt = rebuild::rebuild(shape, state, message, cast, table);
+    let rebuilt = rebuild::rebuild(shape, state, message, cast, slots, table);
     let Rebuilt::Log(boundary) = rebuilt else {
         return Answer::Refused(refusal::FULL);
     };
     if shape.s == 1 {
-        return changes::start_leading(shape, state, view, message, table, out);
+        return changes::start_leading(shape, state, cast.view, message, table, out);
     }
-    ask_all(shape, state, view, message, cast, table, boundary, out)
-}
-
-// The same, with a table of its own for at most 256 entries.
-fn conclude_few(
-    shape: Shape,
-    state: &mut [u8],
-    view: u32,
-    message: &[u8],
-    cast: Cast,
-    out: &mut [u8],
-) -> Answer
-    requires { ⌜ Brought shape (now state) (now message) view cast × (shape .c ≤ 256) ⌝ }
-    ensures { λ r. ⌜ left r (now (state .exit)) (now (out .exit)) ≡ closes shape (now (state .entry)) (now (out .entry)) (concludes shape (cameTo shape (now (state .entry)) (now (message .entry)) view (cast .entering)) (votesIn shape (now (state .entry)) (now (message .entry)) cast)) ⌝ }
-{
-    let mut scratch = [0u8; 6148];
-    let end = 4 + 24 * shape.c as usize;
-    conclude(shape, state, view, message, cast, &mut scratch[0..end], out)
-}
-
-// The same, with a table for the largest capacity.
-fn conclude_many(
-    shape: Shape,
-    state: &mut [u8],
-    view: u32,
-    message: &[u8],
-    cast: Cast,
-    out: &mut [u8],
-) -> Answer
-    requires { ⌜ Brought shape (now state) (now message) view cast ⌝ }
-    ensures { λ r. ⌜ left r (now (state .exit)) (now (out .exit)) ≡ closes shape (now (state .entry)) (now (out .entry)) (concludes shape (cameTo shape (now (state .entry)) (now (message .entry)) view (cast .entering)) (votesIn shape (now (state .entry)) (now (message .entry)) cast)) ⌝ }
-{
-    let mut scratch = [0u8; 98308];
-    let end = 4 + 24 * shape.c as usize;
-    conclude(shape, state, view, message, cast, &mut scratch[0..end], out)
-}
-
-// The same, with a table of its own by the capacity: nothing of the state changes before the log is known to fit.
-fn conclude_aside(
-    shape: Shape,
-    state: &mut [u8],
-    view: u32,
-    message: &[u8],
-    cast: Cast,
-    out: &mut [u8],
-) -> Answer
-    requires { ⌜ Brought shape (now state) (now message) view cast ⌝ }
-    ensures { λ r. ⌜ left r (now (state .exit)) (now (out .exit)) ≡ closes shape (now (state .entry)) (now (out .entry)) (concludes shape (cameTo shape (now (state .entry)) (now (message .entry)) view (cast .entering)) (votesIn shape (now (state .entry)) (now (message .entry)) cast)) ⌝ }
-{
-    if shape.c <= 256 {
-        return conclude_few(shape, state, view, message, cast, out);
-    }
-    conclude_many(shape, state, view, message, cast, out)
+    ask_all(shape, state, message, cast, table, boundary, out)
 }
 
 // ---- kind 8
 
 // Kind 8: a replica's second vote is refused; else it is kept, in a greater view after that is entered. With F+1 votes the log is rebuilt.
-pub fn on_vote(shape: Shape, state: &mut [u8], m: Message, message: &[u8], out: &mut [u8]) -> Answer
-    requires { ⌜ Ready shape (now state) m (now message) ⌝ }
+pub fn on_vote(
+    shape: Shape,
+    state: &mut [u8],
+    m: Message,
+    message: &[u8],
+    out: &mut [u8],
+    slots: &mut [u16],
+    table: &mut [u8],
+) -> Answer
+    requires { ⌜ Ready shape (now state) m (now message) × (length (now table) ≡ 4 + 24 * shape .c) ⌝ }
     ensures { λ r. ⌜ left r (now (state .exit)) (now (out .exit)) ≡ handled 8 onVote shape m (now (state .entry)) (now (message .entry)) (now (out .entry)) ⌝ }
 {
     let Message::Vote(h, normal, sync) = m else {
         return Answer::Refused(refusal::MALFORMED);
     };
-    let view = h.view;
     let cast = Cast {
+        view: h.view,
         sender: h.from_replica as u64,
         normal,
         sync,
         at: kinds::entries_at(shape.s, kind::VOTE),
-        entering: places::get_view(state) < view,
+        entering: places::get_view(state) < h.view,
     };
     if is_second(shape, state, cast) {
         return Answer::Refused(refusal::NOTHING_TO_DO);
@@ -245,8 +202,8 @@ pub fn on_vote(shape: Shape, state: &mut [u8], m: Message, message: &[u8], out: 
         return Answer::Refused(refusal::FULL);
     }
     if count_with(shape, state, cast) < GroupSize(shape.n).majority() {
-        keep_vote(shape, state, view, message, cast);
+        keep_vote(shape, state, message, cast);
         return Answer::Done(0);
     }
-    conclude_aside(shape, state, view, message, cast, out)
+    conclude(shape, state, message, cast, out, slots, table)
 }

@@ -1,7 +1,7 @@
 -- When the writer's parts are formed, and what it answers. Assumes nothing.
 use Prim.Native.Nat.{ℕ, _+_, _-_, _*_, _/_, _^_, _≤_, _<_}
 use mathlib.Core.Path.{_≡_, refl, sym, ap, ap₂, _∙_}
-use mathlib.Core.Bool.{Bool, true, false, _&&_, not}
+use mathlib.Core.Bool.{Bool, true, false, _&&_, not, true≢false}
 use mathlib.Core.List.{List, [], _∷_}
 use native.Mathlib.Omega.{arith}
 use lib.ListN.{length, take, getD}
@@ -24,17 +24,29 @@ use Rattle.rules.specs.declared.Message.{Message}
 use Rattle.rules.specs.declared.Verdict.{Verdict}
 use Rattle.rules.specs.declared.Verdict.the-variants.{Fine, Wrong}
 use Rattle.rules.proofs.Tests.{and-l, and-r, and-both, split, join, _also_, each-of, all-items, at-all, sizes}
-use Rattle.rules.proofs.Verdicts.{not-fine, is-fine, verdict-ext}
+use Rattle.rules.proofs.Verdicts.{verdict-ext}
 use Rattle.rules.proofs.Messages.{formed-fits}
 use Rattle.rules.proofs.Case.{PartsAre, parts-are}
 use Rattle.fields.specs.declared.Parts.{Parts}
 use Rattle.writer.specs.declared.Said.{Said}
 use Rattle.fields.specs.Parts.{fieldsFrom}
 use Rattle.writer.specs.Said.{saidOf, sizeOf, Room}
-use Rattle.wire.specs.Parts.{partsFrom}
-use Rattle.verdicts.specs.declared.Look.{Look}
+use Rattle.wire.specs.Parts.{partsFrom, wholeLook, allRight}
 use Rattle.verdicts.specs.Rows.{rowIn, wrongIn}
 use Rattle.writer.proofs.Writer.{length-bytes, numbers-said}
+
+-- the fields of a message whose numbers stand in a slice: no verdict is wrong, or one is
+module _ (n s : ℕ) (p : Parts) (xs entries : List ℕ) (v : Verdict) (known : (i : ℕ) → getD xs i 0 < 2 ^ 64) (q : v ≡ wrongIn n s p xs entries (wholeLook entries)) where
+  all-wide : every (λ x. ltb x (2 ^ 64)) xs ≡ true
+  all-wide = each-of _ _ (at-all (λ x. ltb x (2 ^ 64) ≡ true) 0 xs (λ i h. lt-ltb _ _ (known i)))
+
+  pub right-fine : v ≡ Fine → true ≡ allRight n s p xs entries
+  unfolding allRight
+  right-fine f = rw (all-wide, sym q ∙ f)
+
+  pub right-wrong : (a u : ℕ) → v ≡ Wrong a u → false ≡ allRight n s p xs entries
+  unfolding allRight
+  right-wrong a u f = rw (all-wide, sym q ∙ f)
 
 -- the parts that a case says, and its blocks
 abbrev partsSaid : Said → List ℕ → List ℕ → Parts
@@ -66,12 +78,8 @@ module _ (n s : ℕ) (m : Message) (views entries : List ℕ) where
       let l : length (items (entryAt entries) 24 0 count) < 4294967296 = ltb-true _ _ (split _ w 3) in
       omega (arith, length-items (entryAt entries) 24 0 count))
 
-  -- all its entries are looked at
-  abbrev look : Look
-  look = record { at = 0; whole = count; seen = count }
-
   -- the verdict on the message of the parts, as the reader's function gives it
-  verdict-is : messageWrong n s (Reads.fieldsOf (wireFrom m views entries)) (length (wireFrom m views entries .entries)) (length (wireFrom m views entries .entries)) ≡ wrongIn n s (partsFrom m views entries) (numbersOf m) entries look
+  verdict-is : messageWrong n s (Reads.fieldsOf (wireFrom m views entries)) (length (wireFrom m views entries .entries)) (length (wireFrom m views entries .entries)) ≡ wrongIn n s (partsFrom m views entries) (numbersOf m) entries (wholeLook entries)
   unfolding Reads.fieldsOf wireFrom
   verdict-is =
       simp length-items
@@ -81,21 +89,14 @@ module _ (n s : ℕ) (m : Message) (views entries : List ℕ) where
     pub tag-off : (p .tag ≡ p .header .kind → ⊥) → false ≡ partsFormed n s m views entries
     tag-off h = refuses (λ f. h (rw e (parts-are n s m views entries f .kind)))
 
-    module _ (v : Verdict) (q : v ≡ wrongIn n s (partsSaid p views entries) (take (p .count - 0) (p .numbers)) entries look) where
-      given : v ≡ messageWrong n s (Reads.fieldsOf (wireFrom m views entries)) (length (wireFrom m views entries .entries)) (length (wireFrom m views entries .entries))
-      given = let whole : p .count - 0 ≡ p .count = omega arith in rw (whole, e, numbers-said m) at q ∙ sym verdict-is
+    module _ (r : Bool) (q : r ≡ allRight n s (partsSaid p views entries) (take (p .count - 0) (p .numbers)) entries) where
+      given : r ≡ (every (λ x. ltb x (2 ^ 64)) (numbersOf m) && isFine (messageWrong n s (Reads.fieldsOf (wireFrom m views entries)) (length (wireFrom m views entries .entries)) (length (wireFrom m views entries .entries))))
+      unfolding allRight
+      given =
+          let whole : p .count - 0 ≡ p .count = omega arith in
+          rw (whole, e, numbers-said m) at q ∙ ap (λ (v : Verdict). every (λ x. ltb x (2 ^ 64)) (numbersOf m) && isFine v) (sym verdict-is)
 
-      pub wrong-off : (a u : ℕ) → v ≡ Wrong a u → false ≡ partsFormed n s m views entries
-      unfolding formed
-      wrong-off a u h = refuses (λ f. not-fine a u (sym h ∙ given ∙ is-fine _ (and-r (wide (wireFrom m views entries)) _ (parts-are n s m views entries f .right))))
-
-      module _ (bv : Bytes views) (be : Bytes entries) (wv : 4 * (length views / 4) ≡ length views) (we : 24 * count ≡ length entries) (few : count < 4294967296) (view : p .header .view < 4294967296) (each : (i : ℕ) → getD (take (p .count - 0) (p .numbers)) i 0 < 2 ^ 64) where
-        number-wide : (i : ℕ) → i < length (numbersOf m) → ltb (getD (numbersOf m) i 0) (2 ^ 64) ≡ true
-        number-wide i h =
-            let whole : p .count - 0 ≡ p .count = omega arith in
-            let w : getD (numbersOf m) i 0 < 2 ^ 64 = rw (whole, e, numbers-said m) at (each i) in
-            lt-ltb _ _ w
-
+      module _ (bv : Bytes views) (be : Bytes entries) (wv : 4 * (length views / 4) ≡ length views) (we : 24 * count ≡ length entries) (few : count < 4294967296) (view : p .header .view < 4294967296) (t : p .tag ≡ p .header .kind) where
         view-wide : (i : ℕ) → i < length views / 4 → ltb (num views (0 + 4 * i) 4) (2 ^ 32) ≡ true
         view-wide i h = lt-ltb _ _ (num-lt views (0 + 4 * i) 4 bv (omega arith))
 
@@ -104,23 +105,42 @@ module _ (n s : ℕ) (m : Message) (views entries : List ℕ) where
         entry-wide i h =
             and-both _ _ (lt-ltb _ _ (num-lt entries (0 + 24 * i + 8) 8 be (omega arith))) (lt-ltb _ _ (num-lt entries (0 + 24 * i + 16) 4 be (omega arith)))
 
-        parts-wide : wide (wireFrom m views entries) ≡ true
+        parts-wide : every (λ x. ltb x (2 ^ 64)) (numbersOf m) ≡ true → wide (wireFrom m views entries) ≡ true
         unfolding wide wireFrom
-        parts-wide =
+        parts-wide each =
             let c : length (items (entryAt entries) 24 0 count) < 4294967296 = omega (arith, length-items (entryAt entries) 24 0 count) in
             join _
             (lt-ltb _ _ (rw e at view)
             also each-of _ _ (all-items (λ v. ltb v (2 ^ 32) ≡ true) (λ a. num views a 4) 4 0 (length views / 4) view-wide)
-            also each-of _ _ (at-all (λ v. ltb v (2 ^ 64) ≡ true) 0 (numbersOf m) number-wide)
+            also each
             also lt-ltb _ _ c
             also each-of _ _ (all-items (λ x. entryWide x ≡ true) (entryAt entries) 24 0 count entry-wide)
             also tt)
 
-        pub formed-on : p .tag ≡ p .header .kind → v ≡ Fine → true ≡ partsFormed n s m views entries
+        fine-numbers : wide (wireFrom m views entries) ≡ true → every (λ x. ltb x (2 ^ 64)) (numbersOf m) ≡ true
+        unfolding wide wireFrom
+        fine-numbers w = split _ w 2
+
+        right-on : r ≡ true → partsFormed n s m views entries ≡ true
         unfolding partsFormed formed
-        formed-on t f =
-            let fine : isFine (messageWrong n s (Reads.fieldsOf (wireFrom m views entries)) (length (wireFrom m views entries .entries)) (length (wireFrom m views entries .entries))) ≡ true = rw (sym given ∙ f) in
-            sym (and-both _ _ (eq-eqb _ _ (rw e at t)) (and-both _ _ (eq-eqb _ _ wv) (and-both _ _ (eq-eqb _ _ we) (and-both _ _ parts-wide fine))))
+        right-on f =
+            let wide-ones : Bool = every (λ x. ltb x (2 ^ 64)) (numbersOf m) in
+            let g = sym given ∙ f in
+            and-both _ _ (eq-eqb _ _ (rw e at t)) (and-both _ _ (eq-eqb _ _ wv) (and-both _ _ (eq-eqb _ _ we) (and-both _ _ (parts-wide (and-l wide-ones _ g)) (and-r wide-ones _ g))))
+
+        right-of : partsFormed n s m views entries ≡ true → r ≡ true
+        unfolding formed
+        right-of f =
+            let g = parts-are n s m views entries f .right in
+            given ∙ and-both _ _ (fine-numbers (and-l (wide (wireFrom m views entries)) _ g)) (and-r (wide (wireFrom m views entries)) _ g)
+
+        -- the parts are formed where all is right
+        pub formed-is : r ≡ partsFormed n s m views entries
+        formed-is = go r refl
+          where
+            go : (b : Bool) → r ≡ b → r ≡ partsFormed n s m views entries
+            go true f = f ∙ sym (right-on f)
+            go false f = f ∙ refuses (λ g. true≢false (sym (right-of g) ∙ f))
 
   -- ---- the writer's answers
   module _ (out : List ℕ) (t : Bool) (et : t ≡ sizesFit n s) where

@@ -1,20 +1,23 @@
 -- The parts of a message, as the reader finds them and as the writer is given them.
-use Prim.Native.Nat.{ℕ, _+_, _/_, min}
+use Prim.Native.Nat.{ℕ, _+_, _/_, _^_, min}
+use mathlib.Core.Bool.{Bool, _&&_}
 use mathlib.Core.List.{List}
 use lib.ListN.{length}
-use lib.Dec.{eqb, leb}
+use lib.Dec.{eqb, ltb, leb}
 use Rattle.octets.specs.Bytes.{num, items}
-use Rattle.rules.specs.Choice.{pick}
+use Rattle.rules.specs.Choice.{pick, every}
 use Rattle.rules.specs.Kind.{numbersIn}
 use Rattle.rules.specs.Wire.{numbersOf}
 use Rattle.rules.specs.Wire as Wires
-use Rattle.rules.specs.Read.{numbersAt, entriesAt}
+use Rattle.rules.specs.Read.{numbersAt, entriesAt, isFine}
 use Rattle.rules.specs.declared.Header.{Header}
 use Rattle.rules.specs.declared.Message.{Message}
 use Rattle.rules.specs.declared.Message.the-variants.{Malformed}
 use Rattle.rules.specs.declared.Verdict.{Verdict}
 use Rattle.rules.specs.declared.Verdict.the-variants.{Fine, Wrong}
 use Rattle.fields.specs.declared.Parts.{Parts}
+use Rattle.verdicts.specs.declared.Look.{Look}
+use Rattle.verdicts.specs.Rows.{wrongIn}
 
 -- ---- as they stand in bytes
 
@@ -57,3 +60,11 @@ partsFrom m views entries =
       numbers = length (numbersOf m);
       entries = length entries / 24;
     }
+
+-- all entries of a block are looked at
+abbrev pub wholeLook : List ℕ → Look
+wholeLook entries = record { at = 0; whole = length entries / 24; seen = length entries / 24 }
+
+-- each number is one of 8 bytes, and no field of the message is wrong
+unfoldable pub allRight : ℕ → ℕ → Parts → List ℕ → List ℕ → Bool
+allRight n s p xs entries = every (λ x. ltb x (2 ^ 64)) xs && isFine (wrongIn n s p xs entries (wholeLook entries))

@@ -2,11 +2,12 @@
 pub mod decode;
 
 ghost use mathlib.Core.Path.{_≡_};
-ghost use Prim.Native.Nat.{ℕ, _+_, _*_, _^_, _≤_, _<_};
-ghost use lib.ListN.{length, getD};
+ghost use Prim.Native.Nat.{_+_, _*_, _/_, _^_, _≤_, _<_};
+ghost use lib.ListN.{length};
 ghost use Rattle.rules.specs.Read as reading;
 ghost use Rattle.rules.specs.Wire as kinds;
 ghost use Rattle.rules.specs.Write as writing;
+ghost use Rattle.wire.specs.Parts.{allRight};
 use fields::Parts;
 use kinds::entries_at;
 use kinds::length_for;
@@ -29,7 +30,7 @@ fn whole_in(len: usize, from: usize) -> usize
 }
 
 // The message that the bytes are, or where they stop being one.
-pub fn read(n: u64, s: u64, b: &[u8]) -> Message
+pub fn read(n: u64, s: u64, b: &[u8], slots: &mut [u16]) -> Message
     ensures { λ r. ⌜ r ≡ reading.decoded n s (now (b .entry)) ⌝ }
 {
     if !group::sizes_fit(n, s) {
@@ -44,20 +45,38 @@ pub fn read(n: u64, s: u64, b: &[u8]) -> Message
     let at = entries_at(s, h.kind) + 4;
     let whole = whole_in(b.len(), at);
     let seen = verdicts::smaller(entries, whole + 1);
-    let v = verdicts::message_wrong(n, s, p, numbers, b, Look { at, whole, seen });
+    let v = verdicts::message_wrong(n, s, p, numbers, b, Look { at, whole, seen }, slots);
     let end = length_for(s, h.kind, entries);
     decode::judged(b.len(), end, decode::case_with(h, numbers), v)
 }
 
-// That each number fits its 64 bits is known of a slice that is a parameter, and of an array in a struct it is not.
-fn known_wide(numbers: &[u64])
-    ensures { λ _. ⌜ ((i : ℕ) → getD (now (numbers .entry)) i 0 < 2 ^ 64) ⌝ }
+// Whether no field of a message of these parts is wrong, all its entries looked at, and each of its numbers is one of 8 bytes.
+fn fields_right(
+    n: u64,
+    s: u64,
+    p: Parts,
+    numbers: &[u64],
+    entries: &[u8],
+    slots: &mut [u16],
+) -> bool
+    requires { ⌜ (s ≤ 8) × (length (now entries) / 24 ≤ 2 ^ 32) ⌝ }
+    ensures { λ r. ⌜ r ≡ allRight n s p (now (numbers .entry)) (now (entries .entry)) ⌝ }
 {
-    let _first = fields::number_of(numbers, 0);
+    let count = entries.len() / 24;
+    let look = Look {
+        at: 0,
+        whole: count,
+        seen: count,
+    };
+    let v = verdicts::message_wrong(n, s, p, numbers, entries, look, slots);
+    match v {
+        Verdict::Fine => true,
+        Verdict::Wrong(_, _) => false,
+    }
 }
 
 // Whether the case is that of its header, the blocks are whole, and the message is well formed.
-fn parts_formed(n: u64, s: u64, m: Message, views: &[u8], entries: &[u8]) -> bool
+fn parts_formed(n: u64, s: u64, m: Message, views: &[u8], entries: &[u8], slots: &mut [u16]) -> bool
     requires { ⌜ s ≤ 8 ⌝ }
     ensures { λ r. ⌜ r ≡ writing.partsFormed n s m (now (views .entry)) (now (entries .entry)) ⌝ }
 {
@@ -86,17 +105,7 @@ fn parts_formed(n: u64, s: u64, m: Message, views: &[u8], entries: &[u8]) -> boo
     };
     let room = said.numbers;
     let most = said.count;
-    let look = Look {
-        at: 0,
-        whole: count,
-        seen: count,
-    };
-    known_wide(&room[0..most]);
-    let v = verdicts::message_wrong(n, s, p, &room[0..most], entries, look);
-    match v {
-        Verdict::Fine => true,
-        Verdict::Wrong(_, _) => false,
-    }
+    fields_right(n, s, p, &room[0..most], entries, slots)
 }
 
 // How long the message of these parts is.
@@ -109,13 +118,21 @@ fn size_of(m: Message, views: usize, entries: usize) -> usize
 }
 
 // Writes the message of these parts first into the buffer. All is tested, the room last, before a byte is written.
-pub fn write(n: u64, s: u64, m: Message, views: &[u8], entries: &[u8], out: &mut [u8]) -> Answer
+pub fn write(
+    n: u64,
+    s: u64,
+    m: Message,
+    views: &[u8],
+    entries: &[u8],
+    out: &mut [u8],
+    slots: &mut [u16],
+) -> Answer
     ensures { λ r. ⌜ writing.written r (now (out .exit)) ≡ writing.writes n s m (now (views .entry)) (now (entries .entry)) (now (out .entry)) ⌝ }
 {
     if !group::sizes_fit(n, s) {
         return Answer::Refused(refusal::WRONG_STATE);
     }
-    if !parts_formed(n, s, m, views, entries) {
+    if !parts_formed(n, s, m, views, entries, slots) {
         return Answer::Refused(refusal::MALFORMED);
     }
     if out.len() < size_of(m, views.len(), entries.len()) {

@@ -5,7 +5,7 @@ use mathlib.Core.Path.{refl}
 use mathlib.Core.List.{List, [], _∷_, _++_}
 use Rattle.rules.specs.declared.Entry.{Entry}
 use Rattle.entries.proofs.Table.{decoded, is-table, and-then}
-use Rattle.stamps.proofs.Midway.{early-here, early-comes}
+use Rattle.places.proofs.Midway.{early-here, early-comes}
 use borrow.Author.Needs.{needs}
 use Rattle.arrivals.proofs.add_early.Statement.{statement}
 use Rattle.arrivals.proofs.add_early.Tie as tie
@@ -13,32 +13,32 @@ use Rattle.arrivals.proofs.add_early.Tie as tie
 places-of-requires : tie.Need-places-of-requires
 places-of-requires c κs = c .before .pre .0 .fits
 
-sub-append : tie.Need-sub-append
-sub-append c = omega arith
+sub-put : tie.Need-sub-put
+sub-put c = omega arith
 
-part-append-start : tie.Need-part-append-start
-part-append-start c = omega arith
+part-put-start : tie.Need-part-put-start
+part-put-start c = omega arith
 
-part-append-end : tie.Need-part-append-end
-part-append-end c = omega arith
+part-put-end : tie.Need-part-put-end
+part-put-end c = omega arith
 
-append-requires : tie.Need-append-requires
-append-requires c κs = let h = early-here (c .before .before .before .pre .0) _ _ (c .before .places-of .ensures .early) (c .before .places-of .ensures .late) in (is-table _ _ _ h, rw (decoded _ _ _ h) (c .before .before .before .pre .1))
+put-requires : tie.Need-put-requires
+put-requires c κs = let h = early-here (c .before .before .before .pre .0) _ _ (c .before .places-of .ensures .early) (c .before .places-of .ensures .late) in (is-table _ _ _ h, rw (decoded _ _ _ h) (c .before .before .before .pre .1))
 
 same-length : tie.Need-same-length
 same-length c = search needs
 
 returns : tie.Need-returns
-returns c = let h = early-here (c .before .before .before .before .before .before .pre .0) _ _ (c .before .before .before .before .places-of .ensures .early) (c .before .before .before .before .places-of .ensures .late) in early-comes (c .before .before .before .before .before .before .pre .0) _ _ _ (and-then _ _ _ h (λ (es : List Entry). es ++ (c .before .before .before .before .before .before .args .e ∷ [])) _ (c .before .before .append .ensures)) (c .before .before .before .before .places-of .ensures .early) (c .before .before .before .before .places-of .ensures .late) refl
+returns c = let h = early-here (c .before .before .before .before .before .before .pre .0) _ _ (c .before .before .before .before .places-of .ensures .early) (c .before .before .before .before .places-of .ensures .late) in early-comes (c .before .before .before .before .before .before .pre .0) _ _ _ (and-then _ _ _ h (λ (es : List Entry). es ++ (c .before .before .before .before .before .before .args .e ∷ [])) _ (c .before .before .put .ensures)) (c .before .before .before .before .places-of .ensures .early) (c .before .before .before .before .places-of .ensures .late) refl
 
 pub add-early-spec : {M : Type 1} → statement M
 add-early-spec =
     tie.close
     (tie.spec
     places-of-requires
-    sub-append
-    part-append-start
-    part-append-end
-    append-requires
+    sub-put
+    part-put-start
+    part-put-end
+    put-requires
     same-length
     returns)

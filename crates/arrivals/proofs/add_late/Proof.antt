@@ -5,7 +5,7 @@ use mathlib.Core.Path.{refl}
 use mathlib.Core.List.{List, [], _∷_, _++_}
 use Rattle.rules.specs.declared.Entry.{Entry}
 use Rattle.entries.proofs.Table.{decoded, is-table, and-then}
-use Rattle.stamps.proofs.Midway.{late-here, late-comes}
+use Rattle.places.proofs.Midway.{late-here, late-comes}
 use borrow.Author.Needs.{needs}
 use Rattle.arrivals.proofs.add_late.Statement.{statement}
 use Rattle.arrivals.proofs.add_late.Tie as tie

@@ -1,7 +1,8 @@
 -- `arrivals::keep_and_lift` meets its contract. Assumes nothing.
 -- Made by tools/answers from the file `answers` beside it: change that one.
 use Rattle.rules.specs.Image.{stateOf}
-use Rattle.stamps.proofs.Midway.{midway-here, still-once, kept-lifted}
+use Rattle.places.proofs.Sections.{midway-here}
+use Rattle.stamps.proofs.Lifts.{still-once, kept-lifted}
 use borrow.Author.Needs.{needs}
 use Rattle.arrivals.proofs.keep_and_lift.Statement.{statement}
 use Rattle.arrivals.proofs.keep_and_lift.Tie as tie

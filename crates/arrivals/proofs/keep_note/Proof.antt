@@ -9,7 +9,7 @@ use Rattle.notes.specs.Notes.{sized}
 use Rattle.rules.specs.Image.{stateOf}
 use Rattle.notes.proofs.Notes.{decoded, is-notes, and-then}
 use Rattle.notes.proofs.Row.{kept-sized}
-use Rattle.stamps.proofs.Midway.{notes-here, notes-come}
+use Rattle.places.proofs.Midway.{notes-here, notes-come}
 use borrow.Author.Needs.{needs}
 use Rattle.arrivals.proofs.keep_note.Statement.{statement}
 use Rattle.arrivals.proofs.keep_note.Tie as tie

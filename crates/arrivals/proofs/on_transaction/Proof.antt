@@ -6,7 +6,7 @@ use Rattle.rules.specs.Kind.{rowOf}
 use Rattle.rules.specs.Step.{onTransaction}
 use Rattle.handler.proofs.Closes.{handled-other}
 use Rattle.handler.proofs.OtherKind.{not-tag}
-use Rattle.stamps.proofs.Midway.{stands-midway}
+use Rattle.places.proofs.Sections.{stands-midway, midway-sized}
 use Rattle.arrivals.proofs.TransactionWays.{due-low, known-way, not-early, leader-way, follower-way}
 use borrow.Author.Needs.{needs}
 use Rattle.arrivals.proofs.on_transaction.Statement.{statement}
@@ -41,7 +41,7 @@ leads-requires : tie.Need-leads-requires
 leads-requires c κs = c .before .before .before .before .before .before .before .before .before .before .before .before .before .pre .stands
 
 raised-requires : tie.Need-raised-requires
-raised-requires c κs = stands-midway (c .before .before .before .before .before .before .before .before .before .before .before .before .before .before .before .before .before .pre .stands)
+raised-requires c κs = midway-sized (stands-midway (c .before .before .before .before .before .before .before .before .before .before .before .before .before .before .before .before .before .pre .stands))
 
 leader-takes-requires : tie.Need-leader-takes-requires
 leader-takes-requires c κs = (c .before .before .before .before .before .before .before .before .before .before .before .before .before .before .before .before .before .before .before .pre .stands, not-early _ _ _ (c .before .before .before .before .before .before .before .before .before .before .before .before .before .before .before .before .before .before .before .args .out .now) _ _ _ _ (c .before .before .before .before .before .before .before .before .before .before .before .before .before .before .before .before .before .before .before .pre) (c .before .before .before .before .before .before .before .before .before .before .before .before .before .before .m .given .1) _ (c .before .before .before .before .before .before .before .before .before .before .before .first-entry .ensures) _ (c .before .before .before .before .before .before .before .before .before .known .ensures) (c .before .before .before .before .before .before .before .before .if1 .left) _ (c .before .before .before .before .before .leads .ensures) _ (c .before .before .before .before .before .before .before .stamped .ensures) _ (c .before .raised .ensures))

@@ -9,7 +9,8 @@ use Rattle.notes.specs.Notes.{row}
 use Rattle.places.proofs.Head.{group-of}
 use Rattle.handler.proofs.Own.{own-below}
 use Rattle.handler.proofs.Own.{early-once}
-use Rattle.stamps.proofs.Midway.{stands-midway, midway-here, added-once, added-row}
+use Rattle.places.proofs.Sections.{stands-midway, midway-here}
+use Rattle.stamps.proofs.Lifts.{added-once, added-row}
 use Rattle.arrivals.proofs.TakeWays.{taken-is}
 use borrow.Author.Needs.{needs}
 use Rattle.arrivals.proofs.take_early.Statement.{statement}
@@ -28,7 +29,7 @@ same-length : tie.Need-same-length
 same-length c = search needs
 
 returns : tie.Need-returns
-returns c = taken-is (stateOf (c .before .before .before .before .before .before .before .before .before .before .before .args .shape) (c .before .before .before .before .before .before .before .before .before .before .before .args .state .now)) (c .before .before .before .before .before .before .before .before .before .before .before .args .e) _ _ (c .before .before .before .before .before .before .add-early .ensures) (c .before .before .before .before .before .before .before .before .get-group .ensures ∙ group-of (c .before .before .before .before .before .before .before .before .before .before .before .pre .0)) (c .before .before .keep-and-lift .ensures)
+returns c = taken-is (stateOf (c .before .before .before .before .before .before .before .before .before .before .before .args .shape) (c .before .before .before .before .before .before .before .before .before .before .before .args .state .now)) (c .before .before .before .before .before .before .before .before .before .before .before .args .e) _ _ (c .before .before .before .before .before .before .add-early .ensures) (c .before .before .before .before .before .before .before .before .get-group .ensures ∙ group-of (stands-midway (c .before .before .before .before .before .before .before .before .before .before .before .pre .0))) (c .before .before .keep-and-lift .ensures)
 
 pub take-early-spec : {M : Type 1} → statement M
 take-early-spec =

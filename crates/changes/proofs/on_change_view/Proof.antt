@@ -5,7 +5,7 @@ use Rattle.octets.proofs.Laws.{bytes-known}
 use Rattle.rules.specs.Step.{onChangeView}
 use Rattle.handler.proofs.Closes.{handled-other}
 use Rattle.handler.proofs.OtherKind.{not-tag}
-use Rattle.changes.proofs.ChangeWays.{change-room, count-small, change-leads, change-short, change-tells, change-sent}
+use Rattle.changes.proofs.ChangeWays.{change-room, change-leads, change-short, change-tells, change-sent}
 use borrow.Author.Needs.{needs}
 use Rattle.changes.proofs.on_change_view.Statement.{statement}
 use Rattle.changes.proofs.on_change_view.Tie as tie
@@ -28,23 +28,23 @@ same-length c = search needs
 returns-2 : tie.Need-returns-2
 returns-2 c = change-leads _ _ _ _ _ _ (c .before .before .before .before .before .before .before .before .before .before .before .before .before .pre) (c .before .before .before .before .before .before .before .before .m .given .1) _ (c .before .before .before .before .before .leads-by .ensures) _ (c .before .before .before .before .if1 .taken) (c .before .before .enter .ensures)
 
-log-count-requires : tie.Need-log-count-requires
-log-count-requires c κs = search needs
+log-length-requires : tie.Need-log-length-requires
+log-length-requires c κs = search needs
 
 length-for-requires : tie.Need-length-for-requires
-length-for-requires c κs = (search needs, count-small _ _ _ (c .before .before .before .before .before .before .before .before .before .before .before .args .out .now) _ _ (c .before .before .before .before .before .before .before .before .before .before .before .pre) (c .before .before .before .before .before .before .m .given .1) _ (c .before .before .before .leads-by .ensures) (c .before .before .if1 .left) _ (c .log-count .ensures))
+length-for-requires c κs = search needs
 
 same-length-2 : tie.Need-same-length-2
 same-length-2 c = search needs
 
 returns-3 : tie.Need-returns-3
-returns-3 c = change-short _ _ _ _ _ _ (c .before .before .before .before .before .before .before .before .before .before .before .before .before .pre) (c .before .before .before .before .before .before .before .before .m .given .1) _ (c .before .before .before .before .before .leads-by .ensures) (c .before .before .before .before .if1 .left) _ (c .before .before .log-count .ensures) (bytes-known (c .before .before .before .before .before .before .before .before .before .before .before .before .before .args .message .now) (λ i. (c .before .before .before .before .before .before .before .before .before .before .before .shared-slice-known .given) i .fits)) _ (c .before .length-for .ensures) (c .if2 .taken)
+returns-3 c = change-short _ _ _ _ _ _ (c .before .before .before .before .before .before .before .before .before .before .before .before .before .pre) (c .before .before .before .before .before .before .before .before .m .given .1) _ (c .before .before .before .before .before .leads-by .ensures) (c .before .before .before .before .if1 .left) _ (c .before .before .log-length .ensures .0) (bytes-known (c .before .before .before .before .before .before .before .before .before .before .before .before .before .args .message .now) (λ i. (c .before .before .before .before .before .before .before .before .before .before .before .shared-slice-known .given) i .fits)) _ (c .before .length-for .ensures) (c .if2 .taken)
 
 enter-requires-2 : tie.Need-enter-requires-2
 enter-requires-2 c κs = (c .before .before .before .before .before .before .before .before .before .before .before .before .before .before .pre .stands, change-room _ _ _ (c .before .before .before .before .before .before .before .before .before .before .before .before .before .before .args .out .now) _ _ (c .before .before .before .before .before .before .before .before .before .before .before .before .before .before .pre) (c .before .before .before .before .before .before .before .before .before .m .given .1))
 
 tell-vote-requires : tie.Need-tell-vote-requires
-tell-vote-requires c κs = let t = change-tells _ _ _ (c .before .before .before .before .before .before .before .before .before .before .before .before .before .before .before .before .before .before .before .args .out .now) _ _ (c .before .before .before .before .before .before .before .before .before .before .before .before .before .before .before .before .before .before .before .pre) (c .before .before .before .before .before .before .before .before .before .before .before .before .before .before .m .given .1) _ (c .before .before .before .before .before .before .before .before .before .before .before .leads-by .ensures) (c .before .before .before .before .before .before .before .before .before .before .if1 .left) _ (c .before .before .before .before .before .before .before .before .log-count .ensures) (bytes-known (c .before .before .before .before .before .before .before .before .before .before .before .before .before .before .before .before .before .before .before .args .message .now) (λ i. (c .before .before .before .before .before .before .before .before .before .before .before .before .before .before .before .before .before .shared-slice-known .given) i .fits)) _ (c .before .before .before .before .before .before .before .length-for .ensures) (c .before .before .before .before .before .before .if2 .left) _ (c .before .before .before .before .enter2 .ensures) in (search needs, t .0, t .1, t .2)
+tell-vote-requires c κs = let t = change-tells _ _ _ (c .before .before .before .before .before .before .before .before .before .before .before .before .before .before .before .before .before .before .before .args .out .now) _ _ (c .before .before .before .before .before .before .before .before .before .before .before .before .before .before .before .before .before .before .before .pre) (c .before .before .before .before .before .before .before .before .before .before .before .before .before .before .m .given .1) _ (c .before .before .before .before .before .before .before .before .before .before .before .leads-by .ensures) (c .before .before .before .before .before .before .before .before .before .before .if1 .left) _ (c .before .before .before .before .before .before .before .before .log-length .ensures .0) (bytes-known (c .before .before .before .before .before .before .before .before .before .before .before .before .before .before .before .before .before .before .before .args .message .now) (λ i. (c .before .before .before .before .before .before .before .before .before .before .before .before .before .before .before .before .before .shared-slice-known .given) i .fits)) _ (c .before .before .before .before .before .before .before .length-for .ensures) (c .before .before .before .before .before .before .if2 .left) _ (c .before .before .before .before .enter2 .ensures) in (search needs, t .0, t .1)
 
 same-length-3 : tie.Need-same-length-3
 same-length-3 c = search needs
@@ -53,7 +53,7 @@ same-length-4 : tie.Need-same-length-4
 same-length-4 c = search needs
 
 returns-4 : tie.Need-returns-4
-returns-4 c = change-sent _ _ _ _ _ _ (c .before .before .before .before .before .before .before .before .before .before .before .before .before .before .before .before .before .before .before .before .before .before .pre) (c .before .before .before .before .before .before .before .before .before .before .before .before .before .before .before .before .before .m .given .1) _ (c .before .before .before .before .before .before .before .before .before .before .before .before .before .before .leads-by .ensures) (c .before .before .before .before .before .before .before .before .before .before .before .before .before .if1 .left) _ (c .before .before .before .before .before .before .before .before .before .before .before .log-count .ensures) (bytes-known (c .before .before .before .before .before .before .before .before .before .before .before .before .before .before .before .before .before .before .before .before .before .before .args .message .now) (λ i. (c .before .before .before .before .before .before .before .before .before .before .before .before .before .before .before .before .before .before .before .before .shared-slice-known .given) i .fits)) _ (c .before .before .before .before .before .before .before .before .before .before .length-for .ensures) (c .before .before .before .before .before .before .before .before .before .if2 .left) _ (c .before .before .before .before .before .before .before .enter2 .ensures) _ _ (c .before .before .tell-vote .ensures .0) (c .before .before .tell-vote .ensures .1)
+returns-4 c = change-sent _ _ _ _ _ _ (c .before .before .before .before .before .before .before .before .before .before .before .before .before .before .before .before .before .before .before .before .before .before .pre) (c .before .before .before .before .before .before .before .before .before .before .before .before .before .before .before .before .before .m .given .1) _ (c .before .before .before .before .before .before .before .before .before .before .before .before .before .before .leads-by .ensures) (c .before .before .before .before .before .before .before .before .before .before .before .before .before .if1 .left) _ (c .before .before .before .before .before .before .before .before .before .before .before .log-length .ensures .0) (bytes-known (c .before .before .before .before .before .before .before .before .before .before .before .before .before .before .before .before .before .before .before .before .before .before .args .message .now) (λ i. (c .before .before .before .before .before .before .before .before .before .before .before .before .before .before .before .before .before .before .before .before .shared-slice-known .given) i .fits)) _ (c .before .before .before .before .before .before .before .before .before .before .length-for .ensures) (c .before .before .before .before .before .before .before .before .before .if2 .left) _ (c .before .before .before .before .before .before .before .enter2 .ensures) _ _ (c .before .before .tell-vote .ensures .0) (c .before .before .tell-vote .ensures .1)
 
 pub on-change-view-spec : {M : Type 1} → statement M
 on-change-view-spec =
@@ -65,7 +65,7 @@ on-change-view-spec =
     enter-requires
     same-length
     returns-2
-    log-count-requires
+    log-length-requires
     length-for-requires
     same-length-2
     returns-3

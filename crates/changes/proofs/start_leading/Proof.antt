@@ -21,7 +21,7 @@ begin-requires : tie.Need-begin-requires
 begin-requires c κs = search needs
 
 tell-start-requires : tie.Need-tell-start-requires
-tell-start-requires c κs = let v : (c .before .before .before .before .before .before .before .before .before .before .before .before .before .args .view) < 256 ^ 4 = omega arith in let t = lead-tells (c .before .before .before .before .before .before .before .before .before .before .before .before .before .pre .0) (c .before .before .before .before .before .before .before .before .before .before .before .before .before .args .view) v (c .before .before .before .before .before .before .before .before .before .before .before .before .before .args .message .now) (bytes-known (c .before .before .before .before .before .before .before .before .before .before .before .before .before .args .message .now) (λ i. (c .before .before .before .before .before .before .before .before .before .before .before .shared-slice-known .given) i .fits)) (c .before .before .before .before .before .before .before .before .before .before .before .before .before .pre .1) (c .before .before .before .before .before .before .before .before .before .before .before .before .before .args .draft .now) (c .before .before .before .before .before .before .before .before .before .before .before .before .before .pre .2) (c .before .before .before .before .before .before .before .before .before .before .before .before .before .args .out .now) _ (c .before .before .before .before .before .before .before .before .count .ensures) _ (c .before .before .before .before .before .before .before .length-for .ensures) (c .before .before .before .before .before .before .if1 .left) _ (c .before .before .before .before .begin .ensures) in (search needs, t .0, t .1, t .2)
+tell-start-requires c κs = let v : (c .before .before .before .before .before .before .before .before .before .before .before .before .before .args .view) < 256 ^ 4 = omega arith in let t = lead-tells (c .before .before .before .before .before .before .before .before .before .before .before .before .before .pre .0) (c .before .before .before .before .before .before .before .before .before .before .before .before .before .args .view) v (c .before .before .before .before .before .before .before .before .before .before .before .before .before .args .message .now) (bytes-known (c .before .before .before .before .before .before .before .before .before .before .before .before .before .args .message .now) (λ i. (c .before .before .before .before .before .before .before .before .before .before .before .shared-slice-known .given) i .fits)) (c .before .before .before .before .before .before .before .before .before .before .before .before .before .pre .1) (c .before .before .before .before .before .before .before .before .before .before .before .before .before .args .draft .now) (c .before .before .before .before .before .before .before .before .before .before .before .before .before .pre .2) (c .before .before .before .before .before .before .before .before .before .before .before .before .before .args .out .now) _ (c .before .before .before .before .before .before .before .before .count .ensures) _ (c .before .before .before .before .before .before .before .length-for .ensures) (c .before .before .before .before .before .before .if1 .left) _ (c .before .before .before .before .begin .ensures) in (search needs, t .0, t .1)
 
 same-length : tie.Need-same-length
 same-length c = search needs

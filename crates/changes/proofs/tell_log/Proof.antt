@@ -11,14 +11,11 @@ use borrow.Author.Needs.{needs}
 use Rattle.changes.proofs.tell_log.Statement.{statement}
 use Rattle.changes.proofs.tell_log.Tie as tie
 
-places-of-requires : tie.Need-places-of-requires
-places-of-requires c κs = search needs
+log-place-requires : tie.Need-log-place-requires
+log-place-requires c κs = search needs
 
-add-start : tie.Need-add-start
-add-start c = search needs
-
-log-count-requires : tie.Need-log-count-requires
-log-count-requires c κs = search needs
+log-length-requires : tie.Need-log-length-requires
+log-length-requires c κs = search needs
 
 mul-end : tie.Need-mul-end
 mul-end c = search needs
@@ -42,15 +39,14 @@ same-length : tie.Need-same-length
 same-length c = search needs
 
 returns : tie.Need-returns
-returns c = let a = c .before .before .before .before .before .before .before .before .before .before .args in let p = c .before .before .before .before .before .before .before .places-of in let k = c .before .before .before .before .before .log-count in let q : p .result .log + 4 ≡ startOf (a .shape) atLog + 4 = omega (arith, p .ensures .log) in let e = log-lent (a .shape) (a .state .now) (p .result .log + 4) (k .result) (p .result .log + 4 + 24 * k .result) q (k .ensures) refl in rw (e, zero-add) at (c .before .before .tell .ensures)
+returns c = let a = c .before .before .before .before .before .before .before .before .before .args in let p = c .before .before .before .before .before .before .log-place in let k = c .before .before .before .before .before .log-length in let q : p .result ≡ startOf (a .shape) atLog + 4 = omega (arith, p .ensures .0) in let e = log-lent (a .shape) (a .state .now) (p .result) (k .result) (p .result + 24 * k .result) q (k .ensures .0) refl in rw (e, zero-add) at (c .before .before .tell .ensures)
 
 pub tell-log-spec : {M : Type 1} → statement M
 tell-log-spec =
     tie.close
     (tie.spec
-    places-of-requires
-    add-start
-    log-count-requires
+    log-place-requires
+    log-length-requires
     mul-end
     add-end
     sub-tell

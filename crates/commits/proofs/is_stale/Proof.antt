@@ -1,10 +1,6 @@
 -- `commits::is_stale` meets its contract. Assumes nothing.
 -- Made by tools/answers from the file `answers` beside it: change that one.
 use Rattle.commits.proofs.StatusWays.{stale-read}
-use Rattle.commits.proofs.is_stale.Reads as reads
-use Rattle.commits.proofs.is_stale.Lts as lts
-use Rattle.places.proofs.heard_flag.Reads as heard-flag-reads
-use Rattle.places.proofs.heard_point.Reads as heard-point-reads
 use borrow.Author.Needs.{needs}
 use Rattle.commits.proofs.is_stale.Statement.{statement}
 use Rattle.commits.proofs.is_stale.Tie as tie

@@ -6,13 +6,6 @@ use Rattle.rules.specs.Step.{onSyncStatus}
 use Rattle.handler.proofs.Closes.{handled-other}
 use Rattle.handler.proofs.OtherKind.{not-tag}
 use Rattle.commits.proofs.StatusWays.{from-below, not-news, past-log, no-room, kept}
-use Rattle.commits.proofs.on_sync_status.Reads as reads
-use Rattle.commits.proofs.on_sync_status.Lts as lts
-use Rattle.commits.proofs.is_stale.Reads as is-stale-reads
-use Rattle.commits.proofs.keep_status.Reads as keep-status-reads
-use Rattle.commits.proofs.log_length.Reads as log-length-reads
-use Rattle.commits.proofs.tell_commit.Reads as tell-commit-reads
-use Rattle.kinds.proofs.length_for.Reads as length-for-reads
 use borrow.Author.Needs.{needs}
 use Rattle.commits.proofs.on_sync_status.Statement.{statement}
 use Rattle.commits.proofs.on_sync_status.Tie as tie
@@ -42,7 +35,7 @@ same-length-2 : tie.Need-same-length-2
 same-length-2 c = search needs
 
 returns-3 : tie.Need-returns-3
-returns-3 c = past-log _ _ _ _ _ _ _ (c .before .before .before .before .before .before .before .before .before .before .before .before .before .pre) (c .before .before .before .before .before .before .before .before .m .given .1) _ (c .before .before .before .before .is-stale .ensures) (c .before .before .before .if1 .left) _ (c .before .log-length .ensures) (c .if2 .taken)
+returns-3 c = past-log _ _ _ _ _ _ _ (c .before .before .before .before .before .before .before .before .before .before .before .before .before .pre) (c .before .before .before .before .before .before .before .before .m .given .1) _ (c .before .before .before .before .is-stale .ensures) (c .before .before .before .if1 .left) _ (c .before .log-length .ensures .0) (c .if2 .taken)
 
 length-for-requires : tie.Need-length-for-requires
 length-for-requires c κs = search needs
@@ -51,7 +44,7 @@ same-length-3 : tie.Need-same-length-3
 same-length-3 c = search needs
 
 returns-4 : tie.Need-returns-4
-returns-4 c = no-room _ _ _ _ _ _ _ (c .before .before .before .before .before .before .before .before .before .before .before .before .before .before .before .pre) (c .before .before .before .before .before .before .before .before .before .before .m .given .1) _ (c .before .before .before .before .before .before .is-stale .ensures) (c .before .before .before .before .before .if1 .left) _ (c .before .before .before .log-length .ensures) (c .before .before .if2 .left) _ (c .before .length-for .ensures) (c .if3 .taken)
+returns-4 c = no-room _ _ _ _ _ _ _ (c .before .before .before .before .before .before .before .before .before .before .before .before .before .before .before .pre) (c .before .before .before .before .before .before .before .before .before .before .m .given .1) _ (c .before .before .before .before .before .before .is-stale .ensures) (c .before .before .before .before .before .if1 .left) _ (c .before .before .before .log-length .ensures .0) (c .before .before .if2 .left) _ (c .before .length-for .ensures) (c .if3 .taken)
 
 keep-status-requires : tie.Need-keep-status-requires
 keep-status-requires c κs = (search needs, from-below _ _ _ (c .before .before .before .before .before .before .before .before .before .before .before .before .before .before .before .before .args .out .now) _ _ _ (c .before .before .before .before .before .before .before .before .before .before .before .before .before .before .before .before .pre) (c .before .before .before .before .before .before .before .before .before .before .before .m .given .1))
@@ -66,7 +59,7 @@ same-length-5 : tie.Need-same-length-5
 same-length-5 c = search needs
 
 returns-5 : tie.Need-returns-5
-returns-5 c = kept _ _ _ _ _ _ _ (c .before .before .before .before .before .before .before .before .before .before .before .before .before .before .before .before .before .before .before .before .before .before .before .before .pre) (c .before .before .before .before .before .before .before .before .before .before .before .before .before .before .before .before .before .before .before .m .given .1) _ (c .before .before .before .before .before .before .before .before .before .before .before .before .before .before .before .is-stale .ensures) (c .before .before .before .before .before .before .before .before .before .before .before .before .before .before .if1 .left) _ (c .before .before .before .before .before .before .before .before .before .before .before .before .log-length .ensures) (c .before .before .before .before .before .before .before .before .before .before .before .if2 .left) _ _ _ _ _ (c .before .before .before .before .before .before .before .before .before .before .length-for .ensures) (c .before .before .before .before .before .before .before .before .before .if3 .left) (c .before .before .before .before .before .before .before .keep-status .ensures .0) (c .before .before .before .before .before .before .before .keep-status .ensures .1) (c .before .before .tell-commit .ensures .0) (c .before .before .tell-commit .ensures .1)
+returns-5 c = kept _ _ _ _ _ _ _ (c .before .before .before .before .before .before .before .before .before .before .before .before .before .before .before .before .before .before .before .before .before .before .before .before .pre) (c .before .before .before .before .before .before .before .before .before .before .before .before .before .before .before .before .before .before .before .m .given .1) _ (c .before .before .before .before .before .before .before .before .before .before .before .before .before .before .before .is-stale .ensures) (c .before .before .before .before .before .before .before .before .before .before .before .before .before .before .if1 .left) _ (c .before .before .before .before .before .before .before .before .before .before .before .before .log-length .ensures .0) (c .before .before .before .before .before .before .before .before .before .before .before .if2 .left) _ _ _ _ _ (c .before .before .before .before .before .before .before .before .before .before .length-for .ensures) (c .before .before .before .before .before .before .before .before .before .if3 .left) (c .before .before .before .before .before .before .before .keep-status .ensures .0) (c .before .before .before .before .before .before .before .keep-status .ensures .1) (c .before .before .tell-commit .ensures .0) (c .before .before .tell-commit .ensures .1)
 
 pub on-sync-status-spec : {M : Type 1} → statement M
 on-sync-status-spec =

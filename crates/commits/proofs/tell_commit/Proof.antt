@@ -8,12 +8,6 @@ use Rattle.rules.specs.Kind.{rowOf}
 use Rattle.rules.specs.Choice.{pick}
 use Rattle.rules.specs.Group.{only}
 use Rattle.handler.specs.Sending.{headedIn}
-use Rattle.commits.proofs.tell_commit.Reads as reads
-use Rattle.commits.proofs.tell_commit.Lts as lts
-use Rattle.group.proofs.only.Reads as only-reads
-use Rattle.handler.proofs.headed.Reads as headed-reads
-use Rattle.handler.proofs.tell.Reads as tell-reads
-use Rattle.octets.proofs.get8.Reads as get8-reads
 use borrow.Author.Needs.{needs}
 use Rattle.commits.proofs.tell_commit.Statement.{statement}
 use Rattle.commits.proofs.tell_commit.Tie as tie

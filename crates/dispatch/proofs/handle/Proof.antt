@@ -87,16 +87,16 @@ on-tick-requires : tie.Need-on-tick-requires
 on-tick-requires c κs = search needs
 
 returns : tie.Need-returns
-returns c = by-none 0 no-message _ (c .before .before .before .before .before .args .m) _ (c .before .before .before .before .before .args .message .now) _ (ap tagOf (c .enum-told .given .1))
+returns c = by-none 0 no-message _ (c .before .before .before .before .before .before .args .m) _ (c .before .before .before .before .before .before .args .message .now) _ (ap tagOf (c .enum-told .given .1))
 
 returns-2 : tie.Need-returns-2
-returns-2 c = by-none 0 no-message _ (c .before .before .before .before .before .args .m) _ (c .before .before .before .before .before .args .message .now) _ (ap tagOf (c .enum-told2 .given .1))
+returns-2 c = by-none 0 no-message _ (c .before .before .before .before .before .before .args .m) _ (c .before .before .before .before .before .before .args .message .now) _ (ap tagOf (c .enum-told2 .given .1))
 
 returns-3 : tie.Need-returns-3
-returns-3 c = by-none 5 fast-reply _ (c .before .before .before .before .before .args .m) _ (c .before .before .before .before .before .args .message .now) _ (ap tagOf (c .enum-told3 .given .1))
+returns-3 c = by-none 5 fast-reply _ (c .before .before .before .before .before .before .args .m) _ (c .before .before .before .before .before .before .args .message .now) _ (ap tagOf (c .enum-told3 .given .1))
 
 returns-4 : tie.Need-returns-4
-returns-4 c = by-none 6 slow-reply _ (c .before .before .before .before .before .args .m) _ (c .before .before .before .before .before .args .message .now) _ (ap tagOf (c .enum-told4 .given .1))
+returns-4 c = by-none 6 slow-reply _ (c .before .before .before .before .before .before .args .m) _ (c .before .before .before .before .before .before .args .message .now) _ (ap tagOf (c .enum-told4 .given .1))
 
 same-length : tie.Need-same-length
 same-length c = search needs
@@ -122,26 +122,23 @@ same-length-5 c = search needs
 same-length-6 : tie.Need-same-length-6
 same-length-6 c = search needs
 
-returns-7 : tie.Need-returns-7
-returns-7 c = by-kind 4 onReplicaSync syncs _ _ _ _ _ _ (ap tagOf (c .before .before .before .before .before .before .before .enum-told7 .given .1)) (c .before .before .before .before .on-replica-sync .ensures)
-
 same-length-7 : tie.Need-same-length-7
 same-length-7 c = search needs
+
+returns-7 : tie.Need-returns-7
+returns-7 c = by-kind 4 onReplicaSync syncs _ _ _ _ _ _ (ap tagOf (c .before .before .before .before .before .before .before .before .before .before .enum-told7 .given .1)) (c .before .before .before .before .before .before .on-replica-sync .ensures)
 
 same-length-8 : tie.Need-same-length-8
 same-length-8 c = search needs
 
-returns-8 : tie.Need-returns-8
-returns-8 c = by-kind 7 onChangeView changes _ _ _ _ _ _ (ap tagOf (c .before .before .before .before .before .before .before .enum-told8 .given .1)) (c .before .before .before .before .on-change-view .ensures)
-
 same-length-9 : tie.Need-same-length-9
 same-length-9 c = search needs
 
+returns-8 : tie.Need-returns-8
+returns-8 c = by-kind 7 onChangeView changes _ _ _ _ _ _ (ap tagOf (c .before .before .before .before .before .before .before .enum-told8 .given .1)) (c .before .before .before .before .on-change-view .ensures)
+
 same-length-10 : tie.Need-same-length-10
 same-length-10 c = search needs
-
-returns-9 : tie.Need-returns-9
-returns-9 c = by-vote _ (c .before .before .before .before .before .before .before .before .before .before .before .before .args .m) _ (c .before .before .before .before .before .before .before .before .before .before .before .before .args .message .now) _ _ (ap tagOf (c .before .before .before .before .before .before .before .enum-told9 .given .1)) (c .before .before .before .before .concluding .ensures)
 
 same-length-11 : tie.Need-same-length-11
 same-length-11 c = search needs
@@ -149,8 +146,8 @@ same-length-11 c = search needs
 same-length-12 : tie.Need-same-length-12
 same-length-12 c = search needs
 
-returns-10 : tie.Need-returns-10
-returns-10 c = by-kind 9 onStartView starts _ _ _ _ _ _ (ap tagOf (c .before .before .before .before .before .before .before .enum-told10 .given .1)) (c .before .before .before .before .on-start-view .ensures)
+returns-9 : tie.Need-returns-9
+returns-9 c = by-vote _ (c .before .before .before .before .before .before .before .before .before .before .before .before .before .before .before .before .args .m) _ (c .before .before .before .before .before .before .before .before .before .before .before .before .before .before .before .before .args .message .now) _ _ (ap tagOf (c .before .before .before .before .before .before .before .before .before .before .enum-told9 .given .1)) (c .before .before .before .before .before .before .concluding .ensures)
 
 same-length-13 : tie.Need-same-length-13
 same-length-13 c = search needs
@@ -158,8 +155,8 @@ same-length-13 c = search needs
 same-length-14 : tie.Need-same-length-14
 same-length-14 c = search needs
 
-returns-11 : tie.Need-returns-11
-returns-11 c = by-kind 10 onSyncStatus statuses _ _ _ _ _ _ (ap tagOf (c .before .before .before .before .before .before .before .enum-told11 .given .1)) (c .before .before .before .before .on-sync-status .ensures)
+returns-10 : tie.Need-returns-10
+returns-10 c = by-kind 9 onStartView starts _ _ _ _ _ _ (ap tagOf (c .before .before .before .before .before .before .before .enum-told10 .given .1)) (c .before .before .before .before .on-start-view .ensures)
 
 same-length-15 : tie.Need-same-length-15
 same-length-15 c = search needs
@@ -167,8 +164,8 @@ same-length-15 c = search needs
 same-length-16 : tie.Need-same-length-16
 same-length-16 c = search needs
 
-returns-12 : tie.Need-returns-12
-returns-12 c = by-kind 11 onCommit commits _ _ _ _ _ _ (ap tagOf (c .before .before .before .before .before .before .before .enum-told12 .given .1)) (c .before .before .before .before .on-commit .ensures)
+returns-11 : tie.Need-returns-11
+returns-11 c = by-kind 10 onSyncStatus statuses _ _ _ _ _ _ (ap tagOf (c .before .before .before .before .before .before .before .enum-told11 .given .1)) (c .before .before .before .before .on-sync-status .ensures)
 
 same-length-17 : tie.Need-same-length-17
 same-length-17 c = search needs
@@ -176,8 +173,8 @@ same-length-17 c = search needs
 same-length-18 : tie.Need-same-length-18
 same-length-18 c = search needs
 
-returns-13 : tie.Need-returns-13
-returns-13 c = by-kind 18 onVerifyRequest requests _ _ _ _ _ _ (ap tagOf (c .before .before .before .before .before .enum-told13 .given .1)) (c .before .before .on-verify-request .ensures)
+returns-12 : tie.Need-returns-12
+returns-12 c = by-kind 11 onCommit commits _ _ _ _ _ _ (ap tagOf (c .before .before .before .before .before .before .before .enum-told12 .given .1)) (c .before .before .before .before .on-commit .ensures)
 
 same-length-19 : tie.Need-same-length-19
 same-length-19 c = search needs
@@ -185,8 +182,8 @@ same-length-19 c = search needs
 same-length-20 : tie.Need-same-length-20
 same-length-20 c = search needs
 
-returns-14 : tie.Need-returns-14
-returns-14 c = by-reply _ (c .before .before .before .before .before .before .before .before .before .before .before .before .args .m) _ (c .before .before .before .before .before .before .before .before .before .before .before .before .args .message .now) _ _ (ap tagOf (c .before .before .before .before .before .before .before .enum-told14 .given .1)) (c .before .before .before .before .concluding2 .ensures)
+returns-13 : tie.Need-returns-13
+returns-13 c = by-kind 18 onVerifyRequest requests _ _ _ _ _ _ (ap tagOf (c .before .before .before .before .before .enum-told13 .given .1)) (c .before .before .on-verify-request .ensures)
 
 same-length-21 : tie.Need-same-length-21
 same-length-21 c = search needs
@@ -194,8 +191,23 @@ same-length-21 c = search needs
 same-length-22 : tie.Need-same-length-22
 same-length-22 c = search needs
 
+same-length-23 : tie.Need-same-length-23
+same-length-23 c = search needs
+
+returns-14 : tie.Need-returns-14
+returns-14 c = by-reply _ (c .before .before .before .before .before .before .before .before .before .before .before .before .before .before .before .before .args .m) _ (c .before .before .before .before .before .before .before .before .before .before .before .before .before .before .before .before .args .message .now) _ _ (ap tagOf (c .before .before .before .before .before .before .before .before .before .before .enum-told14 .given .1)) (c .before .before .before .before .before .before .concluding2 .ensures)
+
+same-length-24 : tie.Need-same-length-24
+same-length-24 c = search needs
+
+same-length-25 : tie.Need-same-length-25
+same-length-25 c = search needs
+
+same-length-26 : tie.Need-same-length-26
+same-length-26 c = search needs
+
 returns-15 : tie.Need-returns-15
-returns-15 c = by-kind 23 onTick ticks _ _ _ _ _ _ (ap tagOf (c .before .before .before .before .before .before .before .enum-told15 .given .1)) (c .before .before .before .before .on-tick .ensures)
+returns-15 c = by-kind 23 onTick ticks _ _ _ _ _ _ (ap tagOf (c .before .before .before .before .before .before .before .before .before .before .enum-told15 .given .1)) (c .before .before .before .before .before .before .on-tick .ensures)
 
 pub handle-spec : {M : Type 1} → statement M
 handle-spec =
@@ -239,28 +251,32 @@ handle-spec =
     returns-6
     same-length-5
     same-length-6
-    returns-7
     same-length-7
+    returns-7
     same-length-8
-    returns-8
     same-length-9
+    returns-8
     same-length-10
-    returns-9
     same-length-11
     same-length-12
-    returns-10
+    returns-9
     same-length-13
     same-length-14
-    returns-11
+    returns-10
     same-length-15
     same-length-16
-    returns-12
+    returns-11
     same-length-17
     same-length-18
-    returns-13
+    returns-12
     same-length-19
     same-length-20
-    returns-14
+    returns-13
     same-length-21
     same-length-22
+    same-length-23
+    returns-14
+    same-length-24
+    same-length-25
+    same-length-26
     returns-15)

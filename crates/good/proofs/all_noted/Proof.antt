@@ -16,10 +16,10 @@ use Rattle.good.proofs.all_noted.Statement.{statement}
 use Rattle.good.proofs.all_noted.Tie as tie
 
 abbrev Inv-loop : tie.InvT-loop
-Inv-loop b at t c s k rows filled n i₀ i = (i ≤ n) × (n ≡ min (num b at 4) c) × (every (notedRight s (notesAt c s t) k) (items (entryAt b) 24 (at + 4) i) ≡ true)
+Inv-loop b at t c s k slots n i₀ i = (i ≤ n) × (n ≡ min (num b at 4) c) × (every (notedRight s (notesAt c s t) k) (items (entryAt b) 24 (at + 4) i) ≡ true)
 
 abbrev μ-loop : tie.MeasureT-loop
-μ-loop b at t c s k rows filled n i₀ i = n - i
+μ-loop b at t c s k slots n i₀ i = n - i
 
 count-at-requires : tie.Need-count-at-requires Inv-loop μ-loop
 count-at-requires c κs = search needs

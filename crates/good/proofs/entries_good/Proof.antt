@@ -24,10 +24,13 @@ all-fit-requires-2 : tie.Need-all-fit-requires-2
 all-fit-requires-2 c κs = search needs
 
 distinct3-requires : tie.Need-distinct3-requires
-distinct3-requires c κs = (within-at _ _ _ _ (c .before .before .before .before .before .places-of .ensures .log) (c .before .before .before .before .before .before .before .pre .log), within-at _ _ _ _ (c .before .before .before .before .before .places-of .ensures .early) (c .before .before .before .before .before .before .before .pre .early), within-at _ _ _ _ (c .before .before .before .before .before .places-of .ensures .late) (c .before .before .before .before .before .before .before .pre .late))
+distinct3-requires c κs = (within-at _ _ _ _ (c .before .before .before .before .before .before .places-of .ensures .log) (c .before .before .before .before .before .before .before .before .before .pre .log), within-at _ _ _ _ (c .before .before .before .before .before .before .places-of .ensures .early) (c .before .before .before .before .before .before .before .before .before .pre .early), within-at _ _ _ _ (c .before .before .before .before .before .before .places-of .ensures .late) (c .before .before .before .before .before .before .before .before .before .pre .late))
+
+same-length : tie.Need-same-length
+same-length c = search needs
 
 returns : tie.Need-returns
-returns c = entries-are _ _ (c .before .before .before .before .before .before .before .before .pre .known .sized .size) _ _ _ _ _ (c .before .before .before .rows-fit .result) _ _ _ (c .before .before .before .before .before .before .places-of .ensures .log) (c .before .before .before .before .before .before .places-of .ensures .early) (c .before .before .before .before .before .before .places-of .ensures .late) (c .before .before .before .before .before .get-group .ensures) (c .before .before .before .before .last-stamp .ensures) (c .before .before .before .rows-fit .ensures) (c .before .before .all-fit .ensures) (c .before .all-fit2 .ensures) (c .distinct3 .ensures)
+returns c = entries-are _ _ (c .before .before .before .before .before .before .before .before .before .before .before .before .pre .known .sized .size) _ _ _ _ _ (c .before .before .before .before .before .before .rows-fit .result) _ _ _ (c .before .before .before .before .before .before .before .before .before .places-of .ensures .log) (c .before .before .before .before .before .before .before .before .before .places-of .ensures .early) (c .before .before .before .before .before .before .before .before .before .places-of .ensures .late) (c .before .before .before .before .before .before .before .before .get-group .ensures) (c .before .before .before .before .before .before .before .last-stamp .ensures) (c .before .before .before .before .before .before .rows-fit .ensures) (c .before .before .before .before .before .all-fit .ensures) (c .before .before .before .before .all-fit2 .ensures) (c .before .before .distinct3 .ensures)
 
 pub entries-good-spec : {M : Type 1} → statement M
 entries-good-spec =
@@ -40,4 +43,5 @@ entries-good-spec =
     all-fit-requires
     all-fit-requires-2
     distinct3-requires
+    same-length
     returns)

@@ -31,19 +31,22 @@ head-fits-requires : tie.Need-head-fits-requires
 head-fits-requires c κs = record { fits = (fits _ (sym (c .before .before .before .before .before .before .shape-fits .ensures) ∙ unless-not _ (c .before .before .before .before .before .if1 .left))); size = (c .before .before .if2 .left ∙ c .before .before .before .before .places-of .ensures .end) }
 
 returns-4 : tie.Need-returns-4
-returns-4 c = head-unfit _ _ (c .before .before .before .before .if2 .left ∙ c .before .before .before .before .before .before .places-of .ensures .end) (bytes-known (c .before .before .before .before .before .before .before .before .before .before .args .state .now) (λ i. (c .before .before .before .before .before .before .before .before .before .shared-slice-known .given) i .fits)) _ (c .before .head-fits .ensures) (c .if4 .taken)
+returns-4 c = head-unfit _ _ (c .before .before .before .before .if2 .left ∙ c .before .before .before .before .before .before .places-of .ensures .end) (bytes-known (c .before .before .before .before .before .before .before .before .before .before .before .args .state .now) (λ i. (c .before .before .before .before .before .before .before .before .before .before .shared-slice-known .given) i .fits)) _ (c .before .head-fits .ensures) (c .if4 .taken)
 
 notes-fit-requires : tie.Need-notes-fit-requires
 notes-fit-requires c κs = record { fits = (fits _ (sym (c .before .before .before .before .before .before .before .before .shape-fits .ensures) ∙ unless-not _ (c .before .before .before .before .before .before .before .if1 .left))); size = (c .before .before .before .before .if2 .left ∙ c .before .before .before .before .before .before .places-of .ensures .end) }
 
 returns-5 : tie.Need-returns-5
-returns-5 c = notes-unfit _ _ (c .before .before .before .before .before .before .if2 .left ∙ c .before .before .before .before .before .before .before .before .places-of .ensures .end) (bytes-known (c .before .before .before .before .before .before .before .before .before .before .before .before .args .state .now) (λ i. (c .before .before .before .before .before .before .before .before .before .before .before .shared-slice-known .given) i .fits)) _ (c .before .notes-fit .ensures) (c .if5 .taken)
+returns-5 c = notes-unfit _ _ (c .before .before .before .before .before .before .if2 .left ∙ c .before .before .before .before .before .before .before .before .places-of .ensures .end) (bytes-known (c .before .before .before .before .before .before .before .before .before .before .before .before .before .args .state .now) (λ i. (c .before .before .before .before .before .before .before .before .before .before .before .before .shared-slice-known .given) i .fits)) _ (c .before .notes-fit .ensures) (c .if5 .taken)
 
 rest-good-requires : tie.Need-rest-good-requires
-rest-good-requires c κs = formed _ _ (record { fits = (fits _ (sym (c .before .before .before .before .before .before .before .before .before .before .shape-fits .ensures) ∙ unless-not _ (c .before .before .before .before .before .before .before .before .before .if1 .left))); size = (c .before .before .before .before .before .before .if2 .left ∙ c .before .before .before .before .before .before .before .before .places-of .ensures .end) }) (bytes-known (c .before .before .before .before .before .before .before .before .before .before .before .before .args .state .now) (λ i. (c .before .before .before .before .before .before .before .before .before .before .before .shared-slice-known .given) i .fits)) (sym (c .before .before .before .before .before .tables-form .ensures) ∙ unless-not _ (c .before .before .before .before .if3 .left)) (notes-formed _ _ _ (c .before .notes-fit .ensures) (c .if5 .left)) (sym (c .before .before .before .head-fits .ensures) ∙ unless-not _ (c .before .before .if4 .left))
+rest-good-requires c κs = formed _ _ (record { fits = (fits _ (sym (c .before .before .before .before .before .before .before .before .before .before .before .shape-fits .ensures) ∙ unless-not _ (c .before .before .before .before .before .before .before .before .before .before .if1 .left))); size = (c .before .before .before .before .before .before .before .if2 .left ∙ c .before .before .before .before .before .before .before .before .before .places-of .ensures .end) }) (bytes-known (c .before .before .before .before .before .before .before .before .before .before .before .before .before .before .args .state .now) (λ i. (c .before .before .before .before .before .before .before .before .before .before .before .before .before .shared-slice-known .given) i .fits)) (sym (c .before .before .before .before .before .before .tables-form .ensures) ∙ unless-not _ (c .before .before .before .before .before .if3 .left)) (notes-formed _ _ _ (c .before .before .notes-fit .ensures) (c .before .if5 .left)) (sym (c .before .before .before .before .head-fits .ensures) ∙ unless-not _ (c .before .before .before .if4 .left))
+
+same-length : tie.Need-same-length
+same-length c = search needs
 
 returns-6 : tie.Need-returns-6
-returns-6 c = all-good _ _ (c .before .before .before .before .before .before .before .if2 .left ∙ c .before .before .before .before .before .before .before .before .before .places-of .ensures .end) (bytes-known (c .before .before .before .before .before .before .before .before .before .before .before .before .before .args .state .now) (λ i. (c .before .before .before .before .before .before .before .before .before .before .before .before .shared-slice-known .given) i .fits)) _ _ _ _ _ (c .before .before .before .before .before .before .before .before .before .before .before .shape-fits .ensures) (c .before .before .before .before .before .before .before .before .before .before .if1 .left) (c .before .before .before .before .before .before .tables-form .ensures) (c .before .before .before .before .before .if3 .left) (c .before .before .before .before .head-fits .ensures) (c .before .before .before .if4 .left) (c .before .before .notes-fit .ensures) (c .before .if5 .left) (c .rest-good .ensures)
+returns-6 c = all-good _ _ (c .before .before .before .before .before .before .before .before .before .before .if2 .left ∙ c .before .before .before .before .before .before .before .before .before .before .before .before .places-of .ensures .end) (bytes-known (c .before .before .before .before .before .before .before .before .before .before .before .before .before .before .before .before .before .args .state .now) (λ i. (c .before .before .before .before .before .before .before .before .before .before .before .before .before .before .before .before .shared-slice-known .given) i .fits)) _ _ _ _ _ (c .before .before .before .before .before .before .before .before .before .before .before .before .before .before .shape-fits .ensures) (c .before .before .before .before .before .before .before .before .before .before .before .before .before .if1 .left) (c .before .before .before .before .before .before .before .before .before .tables-form .ensures) (c .before .before .before .before .before .before .before .before .if3 .left) (c .before .before .before .before .before .before .before .head-fits .ensures) (c .before .before .before .before .before .before .if4 .left) (c .before .before .before .before .before .notes-fit .ensures) (c .before .before .before .before .if5 .left) (c .before .before .rest-good .ensures)
 
 pub good-spec : {M : Type 1} → statement M
 good-spec =
@@ -60,4 +63,5 @@ good-spec =
     notes-fit-requires
     returns-5
     rest-good-requires
+    same-length
     returns-6)

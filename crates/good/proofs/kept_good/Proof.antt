@@ -26,8 +26,11 @@ majority-requires c κs = search needs
 sub-few-replies : tie.Need-sub-few-replies
 sub-few-replies c = search needs
 
+same-length : tie.Need-same-length
+same-length c = search needs
+
 returns : tie.Need-returns
-returns c = kept-is _ _ (c .before .before .before .before .before .before .before .before .pre .size) _ _ _ _ _ _ (c .before .before .before .before .before .before .get-status .ensures) (c .before .before .before .before .before .held-votes .ensures) (c .before .before .before .before .held-replies .ensures) (c .before .before .before .votes-good .ensures) (c .before .before .replies-good .ensures) (c .before .majority .ensures)
+returns c = kept-is _ _ (c .before .before .before .before .before .before .before .before .before .before .before .before .before .before .before .pre .size) _ _ _ _ _ _ (c .before .before .before .before .before .before .before .before .before .before .before .before .get-status .ensures) (c .before .before .before .before .before .before .before .before .before .before .before .held-votes .ensures) (c .before .before .before .before .before .before .before .before .before .before .held-replies .ensures) (c .before .before .before .before .before .before .before .before .votes-good .ensures) (c .before .before .before .before .replies-good .ensures) (c .before .majority .ensures)
 
 pub kept-good-spec : {M : Type 1} → statement M
 kept-good-spec =
@@ -40,4 +43,5 @@ kept-good-spec =
     replies-good-requires
     majority-requires
     sub-few-replies
+    same-length
     returns)

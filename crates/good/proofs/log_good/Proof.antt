@@ -14,8 +14,18 @@ add-good-place c = search needs
 good-place-requires : tie.Need-good-place-requires
 good-place-requires c κs = search needs
 
+same-length : tie.Need-same-length
+same-length c = search needs
+
 returns : tie.Need-returns
-returns c = good-is _ _ _ _ (c .before .count-at .ensures) _ _ _ (c .good-place .ensures)
+returns c = good-is _ _ _ _ (c .before .before .before .before .count-at .ensures) _ _ _ (c .before .before .good-place .ensures)
 
 pub log-good-spec : {M : Type 1} → statement M
-log-good-spec = tie.close (tie.spec count-at-requires add-good-place good-place-requires returns)
+log-good-spec =
+    tie.close
+    (tie.spec
+    count-at-requires
+    add-good-place
+    good-place-requires
+    same-length
+    returns)

@@ -9,7 +9,7 @@ reply-flag-requires : tie.Need-reply-flag-requires
 reply-flag-requires c κs = search needs
 
 returns : tie.Need-returns
-returns c = reply-unset _ _ (c .before .before .before .pre .0 .size) _ _ (c .before .reply-flag .ensures) (c .if1 .taken)
+returns c = reply-unset _ _ (c .before .before .before .before .pre .0 .size) _ _ (c .before .reply-flag .ensures) (c .if1 .taken)
 
 reply-place-requires : tie.Need-reply-place-requires
 reply-place-requires c κs = search needs
@@ -29,8 +29,11 @@ add-good-for c = search needs
 good-for-requires : tie.Need-good-for-requires
 good-for-requires c κs = search needs
 
+same-length : tie.Need-same-length
+same-length c = search needs
+
 returns-2 : tie.Need-returns-2
-returns-2 c = reply-is _ _ (c .before .before .before .before .before .before .before .pre .0 .size) _ _ (c .before .before .before .before .before .reply-flag .ensures) (c .before .before .before .before .if1 .left) _ _ _ _ (c .before .before .before .reply-place .ensures) (c .before .before .get-group .ensures) (c .before .count-at .ensures) (c .good-for .ensures)
+returns-2 c = reply-is _ _ (c .before .before .before .before .before .before .before .before .before .before .before .pre .0 .size) _ _ (c .before .before .before .before .before .before .before .before .reply-flag .ensures) (c .before .before .before .before .before .before .before .if1 .left) _ _ _ _ (c .before .before .before .before .before .before .reply-place .ensures) (c .before .before .before .before .before .get-group .ensures) (c .before .before .before .before .count-at .ensures) (c .before .before .good-for .ensures)
 
 pub reply-good-spec : {M : Type 1} → statement M
 reply-good-spec =
@@ -44,4 +47,5 @@ reply-good-spec =
     count-at-requires
     add-good-for
     good-for-requires
+    same-length
     returns-2)

@@ -29,20 +29,23 @@ kept-good-requires c κs = search needs
 entries-good-requires : tie.Need-entries-good-requires
 entries-good-requires c κs = search needs
 
-sub-noting-good : tie.Need-sub-noting-good
-sub-noting-good c = search needs
+sub-notes-right : tie.Need-sub-notes-right
+sub-notes-right c = search needs
 
-part-noting-good-start : tie.Need-part-noting-good-start
-part-noting-good-start c = search needs
+part-notes-right-start : tie.Need-part-notes-right-start
+part-notes-right-start c = search needs
 
-part-noting-good-end : tie.Need-part-noting-good-end
-part-noting-good-end c = search needs
+part-notes-right-end : tie.Need-part-notes-right-end
+part-notes-right-end c = search needs
 
-noting-good-requires : tie.Need-noting-good-requires
-noting-good-requires c κs = (c .before .before .before .before .before .before .before .before .before .before .pre .known, lent-notes _ _ _ _ (c .before .before .before .before .before .before .before .before .before .before .pre .notes) (c .before .before .before .before .before .before .before .before .places-of .ensures .notes) (c .before .before .before .before .before .before .before .before .places-of .ensures .votes))
+notes-right-requires : tie.Need-notes-right-requires
+notes-right-requires c κs = (c .before .before .before .before .before .before .before .before .before .before .before .before .before .before .before .before .before .before .before .before .before .pre .known, lent-notes _ _ _ _ (c .before .before .before .before .before .before .before .before .before .before .before .before .before .before .before .before .before .before .before .before .before .pre .notes) (c .before .before .before .before .before .before .before .before .before .before .before .before .before .before .before .before .before .before .places-of .ensures .notes) (c .before .before .before .before .before .before .before .before .before .before .before .before .before .before .before .before .before .before .places-of .ensures .votes))
+
+same-length : tie.Need-same-length
+same-length c = search needs
 
 returns : tie.Need-returns
-returns c = rest-is _ _ (c .before .before .before .before .before .before .before .before .before .before .before .pre .known .sized .size) _ _ _ _ _ _ _ _ _ (c .before .before .before .before .before .before .before .before .get-group .ensures) (c .before .before .before .before .before .before .before .before .before .places-of .ensures .draft) (c .before .before .before .before .before .before .before .heard-good .ensures) (c .before .before .before .before .before .before .log-good .ensures) (c .before .before .before .before .before .points-good .ensures) (c .before .before .before .before .view-good .ensures) (c .before .before .before .kept-good .ensures) (c .before .before .entries-good .ensures) (c .noting-good .ensures)
+returns c = rest-is _ _ (c .before .before .before .before .before .before .before .before .before .before .before .before .before .before .before .before .before .before .before .before .before .before .before .before .pre .known .sized .size) _ _ _ _ _ _ _ _ _ (c .before .before .before .before .before .before .before .before .before .before .before .before .before .before .before .before .before .before .before .before .get-group .ensures) (c .before .before .before .before .before .before .before .before .before .before .before .before .before .before .before .before .before .before .before .before .before .places-of .ensures .draft) (c .before .before .before .before .before .before .before .before .before .before .before .before .before .before .before .before .before .before .before .heard-good .ensures) (c .before .before .before .before .before .before .before .before .before .before .before .before .before .before .before .before .before .log-good .ensures) (c .before .before .before .before .before .before .before .before .before .before .before .before .before .before .points-good .ensures) (c .before .before .before .before .before .before .before .before .before .before .before .before .before .view-good .ensures) (c .before .before .before .before .before .before .before .before .before .before .before .kept-good .ensures) (c .before .before .before .before .before .before .before .entries-good .ensures) (c .before .before .notes-right .ensures)
 
 pub rest-good-spec : {M : Type 1} → statement M
 rest-good-spec =
@@ -56,8 +59,9 @@ rest-good-spec =
     view-good-requires
     kept-good-requires
     entries-good-requires
-    sub-noting-good
-    part-noting-good-start
-    part-noting-good-end
-    noting-good-requires
+    sub-notes-right
+    part-notes-right-start
+    part-notes-right-end
+    notes-right-requires
+    same-length
     returns)

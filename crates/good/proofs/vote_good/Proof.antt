@@ -9,7 +9,7 @@ vote-flag-requires : tie.Need-vote-flag-requires
 vote-flag-requires c κs = search needs
 
 returns : tie.Need-returns
-returns c = vote-unset _ _ (c .before .before .before .pre .0 .size) _ _ (c .before .vote-flag .ensures) (c .if1 .taken)
+returns c = vote-unset _ _ (c .before .before .before .before .pre .0 .size) _ _ (c .before .vote-flag .ensures) (c .if1 .taken)
 
 vote-place-requires : tie.Need-vote-place-requires
 vote-place-requires c κs = search needs
@@ -35,8 +35,11 @@ get-group-requires c κs = search needs
 log-good-requires : tie.Need-log-good-requires
 log-good-requires c κs = search needs
 
+same-length : tie.Need-same-length
+same-length c = search needs
+
 returns-2 : tie.Need-returns-2
-returns-2 c = vote-is _ _ (c .before .before .before .before .before .before .before .before .before .before .pre .0 .size) _ _ (c .before .before .before .before .before .before .before .before .vote-flag .ensures) (c .before .before .before .before .before .before .before .if1 .left) _ _ _ _ _ _ _ (c .before .before .before .before .before .before .vote-place .ensures) (c .before .before .before .before .before .count-at .ensures) (c .before .before .before .before .vote-sync .ensures) (c .before .before .before .vote-normal .ensures) (c .before .before .get-view .ensures) (c .before .get-group .ensures) (c .log-good .ensures)
+returns-2 c = vote-is _ _ (c .before .before .before .before .before .before .before .before .before .before .before .before .before .before .pre .0 .size) _ _ (c .before .before .before .before .before .before .before .before .before .before .before .vote-flag .ensures) (c .before .before .before .before .before .before .before .before .before .before .if1 .left) _ _ _ _ _ _ _ (c .before .before .before .before .before .before .before .before .before .vote-place .ensures) (c .before .before .before .before .before .before .before .before .count-at .ensures) (c .before .before .before .before .before .before .before .vote-sync .ensures) (c .before .before .before .before .before .before .vote-normal .ensures) (c .before .before .before .before .before .get-view .ensures) (c .before .before .before .before .get-group .ensures) (c .before .before .log-good .ensures)
 
 pub vote-good-spec : {M : Type 1} → statement M
 vote-good-spec =
@@ -52,4 +55,5 @@ vote-good-spec =
     get-view-requires
     get-group-requires
     log-good-requires
+    same-length
     returns-2)

@@ -1,7 +1,8 @@
 -- `good::votes_good` meets its contract. The invariant: `fine` says so of the votes passed. Assumes nothing.
 -- Made by tools/answers from the file `answers` beside it: change that one.
 use Prim.Native.Nat.{_-_, _≤_}
-use mathlib.Core.Path.{_≡_}
+use mathlib.Core.Path.{_≡_, refl}
+use lib.ListN.{length}
 use native.Mathlib.Omega.{arith}
 use Rattle.octets.specs.Bytes.{items}
 use Rattle.rules.specs.Choice.{every, passes}
@@ -14,13 +15,13 @@ use Rattle.good.proofs.votes_good.Statement.{statement}
 use Rattle.good.proofs.votes_good.Tie as tie
 
 abbrev Inv-loop : tie.InvT-loop
-Inv-loop shape state fine₀ r₀ fine r = (r ≤ shape .n) × (fine ≡ every (passes (voteGood shape (stateOf shape state))) (items (voteAt (shape .c) state) (voteLength (shape .c)) (startOf shape atVotes) r))
+Inv-loop shape state slots₀ fine₀ r₀ slots fine r = (r ≤ shape .n) × (fine ≡ every (passes (voteGood shape (stateOf shape state))) (items (voteAt (shape .c) state) (voteLength (shape .c)) (startOf shape atVotes) r)) × (length slots ≡ length slots₀)
 
 abbrev μ-loop : tie.MeasureT-loop
-μ-loop shape state fine₀ r₀ fine r = shape .n - r
+μ-loop shape state slots₀ fine₀ r₀ slots fine r = shape .n - r
 
 loop-holds : tie.Need-loop-holds Inv-loop μ-loop
-loop-holds c = (omega arith, row-none _ _ _ _)
+loop-holds c = (omega arith, row-none _ _ _ _, refl)
 
 vote-good-requires : tie.Need-vote-good-requires Inv-loop μ-loop
 vote-good-requires c κs = search needs
@@ -32,7 +33,10 @@ loop-less : tie.Need-loop-less Inv-loop μ-loop
 loop-less c = search needs
 
 loop-again : tie.Need-loop-again Inv-loop μ-loop
-loop-again c = (omega arith, row-next _ _ _ _ (c .before .before .before .loop .r) _ _ (c .before .before .before .loop .inv .1) (c .vote-good .ensures))
+loop-again c = (omega arith, row-next _ _ _ _ (c .before .before .before .before .before .before .loop .r) _ _ (c .before .before .before .before .before .before .loop .inv .1) (c .before .before .vote-good .ensures), search needs)
+
+same-length : tie.Need-same-length Inv-loop μ-loop
+same-length c = search needs
 
 returns : tie.Need-returns Inv-loop μ-loop
 returns c = row-end _ _ _ _ (c .before .before .loop .r) _ _ (c .before .before .loop .inv .1) (c .before .before .loop .inv .0) (c .if1 .left)
@@ -48,4 +52,5 @@ votes-good-spec =
     add-r
     loop-less
     loop-again
+    same-length
     returns)

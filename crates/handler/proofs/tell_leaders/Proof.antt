@@ -16,10 +16,10 @@ use Rattle.handler.proofs.tell_leaders.Statement.{statement}
 use Rattle.handler.proofs.tell_leaders.Tie as tie
 
 abbrev Inv-loop : tie.InvT-loop
-Inv-loop shape state out₀ kind number mask entries own at₀ j₀ out at j = (own ≡ num state 0 1) × Written shape state kind number mask entries out₀ out at j
+Inv-loop shape state out₀ asking mask entries own at₀ j₀ out at j = (own ≡ num state 0 1) × Written shape state (asking .kind) (asking .number) mask entries out₀ out at j
 
 abbrev μ-loop : tie.MeasureT-loop
-μ-loop shape state out₀ kind number mask entries own at₀ j₀ out at j = shape .s - j
+μ-loop shape state out₀ asking mask entries own at₀ j₀ out at j = shape .s - j
 
 get-group-requires : tie.Need-get-group-requires Inv-loop μ-loop
 get-group-requires c κs = search needs

@@ -1,6 +1,5 @@
 -- `logs::distinct3` meets its contract: the three runs of keys are those of the three tables. Assumes nothing.
 -- Made by tools/answers from the file `answers` beside it: change that one.
-use mathlib.Core.Path.{_∙_, refl}
 use Rattle.logs.proofs.Apart.{three-distinct}
 use borrow.Author.Needs.{needs}
 use Rattle.logs.proofs.distinct3.Statement.{statement}
@@ -24,20 +23,29 @@ get32-requires-3 c κs = search needs
 cast-n : tie.Need-cast-n
 cast-n c = search needs
 
-add-t11 : tie.Need-add-t11
-add-t11 c = search needs
+add-all : tie.Need-add-all
+add-all c = search needs
 
-add-t12 : tie.Need-add-t12
-add-t12 c = search needs
+add-t14 : tie.Need-add-t14
+add-t14 c = search needs
 
-add-t13 : tie.Need-add-t13
-add-t13 c = search needs
+add-result : tie.Need-add-result
+add-result c = search needs
 
-none-repeats-requires : tie.Need-none-repeats-requires
-none-repeats-requires c κs = search needs
+add-all-2 : tie.Need-add-all-2
+add-all-2 c = search needs
+
+add-all-3 : tie.Need-add-all-3
+add-all-3 c = search needs
+
+index-requires : tie.Need-index-requires
+index-requires c κs = search needs
+
+same-length : tie.Need-same-length
+same-length c = search needs
 
 returns : tie.Need-returns
-returns c = c .none-repeats .ensures ∙ three-distinct (c .before .before .before .before .before .args .b .now) (c .before .before .before .before .before .args .c) (λ i. (c .before .before .before .before .shared-slice-known .given) i .fits) _ _ _ _ _ _ (c .before .before .before .before .before .pre .0) (c .before .before .before .before .before .pre .1) (c .before .before .before .before .before .pre .2) (c .before .before .before .get32 .ensures) (c .before .before .get322 .ensures) (c .before .get323 .ensures) _ refl
+returns c = three-distinct (c .before .before .before .before .before .before .before .before .before .args .b .now) (c .before .before .before .before .before .before .before .before .before .args .c) (λ i. (c .before .before .before .before .before .before .before .before .shared-slice-known .given) i .fits) _ _ _ _ _ _ (c .before .before .before .before .before .before .before .before .before .pre .0) (c .before .before .before .before .before .before .before .before .before .pre .1) (c .before .before .before .before .before .before .before .before .before .pre .2) (c .before .before .before .before .before .before .get32 .ensures) (c .before .before .before .before .before .get322 .ensures) (c .before .before .before .before .get323 .ensures) _ (c .before .before .index .ensures .0)
 
 pub distinct3-spec : {M : Type 1} → statement M
 distinct3-spec =
@@ -49,8 +57,11 @@ distinct3-spec =
     cast-m
     get32-requires-3
     cast-n
-    add-t11
-    add-t12
-    add-t13
-    none-repeats-requires
+    add-all
+    add-t14
+    add-result
+    add-all-2
+    add-all-3
+    index-requires
+    same-length
     returns)

@@ -11,16 +11,19 @@ rows-fit-requires : tie.Need-rows-fit-requires
 rows-fit-requires c κs = search needs
 
 returns : tie.Need-returns
-returns c = unfit-for (c .before .before .before .args .b .now) (c .before .before .before .args .at) _ (λ i. (c .before .before .shared-slice-known .given) i .fits) (c .before .before .before .pre) _ _ _ _ (c .before .rows-fit .ensures) (c .if1 .taken)
+returns c = unfit-for (c .before .before .before .before .args .b .now) (c .before .before .before .before .args .at) _ (λ i. (c .before .before .before .shared-slice-known .given) i .fits) (c .before .before .before .before .pre) _ _ _ _ (c .before .rows-fit .ensures) (c .if1 .taken)
 
 run-of-requires : tie.Need-run-of-requires
 run-of-requires c κs = search needs
 
-first-repeat-requires : tie.Need-first-repeat-requires
-first-repeat-requires c κs = run-inside _ _ _ _ _ (omega arith) (c .before .before .before .before .pre) (omega arith) (c .run-of .ensures)
+index-requires : tie.Need-index-requires
+index-requires c κs = run-inside _ _ _ _ _ (omega arith) (c .before .before .before .before .before .before .pre) (omega arith) (c .before .run-of .ensures)
+
+same-length : tie.Need-same-length
+same-length c = search needs
 
 returns-2 : tie.Need-returns-2
-returns-2 c = fit-for (c .before .before .before .before .before .args .b .now) (c .before .before .before .before .before .args .at) _ (λ i. (c .before .before .before .before .shared-slice-known .given) i .fits) (c .before .before .before .before .before .pre) _ _ _ _ _ _ (c .before .before .before .rows-fit .ensures) (c .before .before .if1 .left) (c .before .run-of .ensures) (c .first-repeat .ensures)
+returns-2 c = fit-for (c .before .before .before .before .before .before .before .before .before .args .b .now) (c .before .before .before .before .before .before .before .before .before .args .at) _ (λ i. (c .before .before .before .before .before .before .before .before .shared-slice-known .given) i .fits) (c .before .before .before .before .before .before .before .before .before .pre) _ _ _ _ _ _ (c .before .before .before .before .before .before .rows-fit .ensures) (c .before .before .before .before .before .if1 .left) (c .before .before .before .before .run-of .ensures) (c .before .before .index .ensures .0)
 
 pub good-for-spec : {M : Type 1} → statement M
 good-for-spec =
@@ -29,5 +32,6 @@ good-for-spec =
     rows-fit-requires
     returns
     run-of-requires
-    first-repeat-requires
+    index-requires
+    same-length
     returns-2)

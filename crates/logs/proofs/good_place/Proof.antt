@@ -13,11 +13,21 @@ first-unfit-requires c κs = search needs
 run-of-requires : tie.Need-run-of-requires
 run-of-requires c κs = search needs
 
-first-repeat-requires : tie.Need-first-repeat-requires
-first-repeat-requires c κs = run-inside _ _ _ _ _ (omega arith) (c .before .before .before .pre) (fit-low _ _ _ _ _ _ (c .before .first-unfit .ensures)) (c .run-of .ensures)
+index-requires : tie.Need-index-requires
+index-requires c κs = run-inside _ _ _ _ _ (omega arith) (c .before .before .before .before .before .pre) (fit-low _ _ _ _ _ _ (c .before .before .first-unfit .ensures)) (c .before .run-of .ensures)
+
+same-length : tie.Need-same-length
+same-length c = search needs
 
 returns : tie.Need-returns
-returns c = good-run _ _ (c .before .before .before .before .args .b .now) (c .before .before .before .before .args .at) _ _ _ _ (λ i. (c .before .before .before .shared-slice-known .given) i .fits) (c .before .before .before .before .pre) (c .before .before .first-unfit .ensures) (c .before .run-of .ensures) (c .first-repeat .ensures)
+returns c = good-run _ _ (c .before .before .before .before .before .before .before .before .args .b .now) (c .before .before .before .before .before .before .before .before .args .at) _ _ _ _ (λ i. (c .before .before .before .before .before .before .before .shared-slice-known .given) i .fits) (c .before .before .before .before .before .before .before .before .pre) (c .before .before .before .before .before .first-unfit .ensures) (c .before .before .before .before .run-of .ensures) (c .before .before .index .ensures .0)
 
 pub good-place-spec : {M : Type 1} → statement M
-good-place-spec = tie.close (tie.spec first-unfit-requires run-of-requires first-repeat-requires returns)
+good-place-spec =
+    tie.close
+    (tie.spec
+    first-unfit-requires
+    run-of-requires
+    index-requires
+    same-length
+    returns)

@@ -1,4 +1,4 @@
--- `lookups::note_row` meets its contract, by the table where it is filled and else by the search. Assumes nothing.
+-- `lookups::note_row` meets its contract: the row of the key is that of the transaction. Assumes nothing.
 -- Made by tools/answers from the file `answers` beside it: change that one.
 use native.Mathlib.Omega.{arith}
 use Rattle.lookups.proofs.Keys.{rows-asked, row-by-key}
@@ -19,16 +19,10 @@ note-spots-requires : tie.Need-note-spots-requires
 note-spots-requires c κs = search needs
 
 find-requires : tie.Need-find-requires
-find-requires c κs = rows-asked _ _ _ (c .before .before .before .before .before .pre .0) _ _ _ (c .before .count .ensures) (c .note-spots .ensures) (c .before .before .before .before .before .pre .1 (c .before .before .if1 .taken))
+find-requires c κs = rows-asked _ _ _ (c .before .before .before .before .pre .0) _ _ _ (c .before .count .ensures) (c .note-spots .ensures) (c .before .before .before .before .pre .1)
 
 returns : tie.Need-returns
-returns c = row-by-key _ _ _ (c .before .before .before .before .before .before .pre .0) _ _ _ _ _ (c .before .before .count .ensures) (c .before .note-spots .ensures) (omega arith) (c .find .ensures)
-
-find-requires-2 : tie.Need-find-requires-2
-find-requires-2 c κs = search needs
-
-returns-2 : tie.Need-returns-2
-returns-2 c = search needs
+returns c = row-by-key _ _ _ (c .before .before .before .before .before .pre .0) _ _ _ _ _ (c .before .before .count .ensures) (c .before .note-spots .ensures) (omega arith) (c .find .ensures)
 
 pub note-row-spec : {M : Type 1} → statement M
 note-row-spec =
@@ -39,6 +33,4 @@ note-row-spec =
     count-requires
     note-spots-requires
     find-requires
-    returns
-    find-requires-2
-    returns-2)
+    returns)

@@ -1,6 +1,11 @@
 -- `merge::take_draft` meets its contract: the draft is copied, and its rows are put in. Assumes nothing.
 -- Made by tools/answers from the file `answers` beside it: change that one.
-use Rattle.merge.proofs.Rows.{fill-asked, fill-found}
+use mathlib.Core.Path.{subst}
+use mathlib.Core.List.{List}
+use native.Mathlib.Omega.{arith}
+use Rattle.rules.specs.declared.Entry.{Entry}
+use Rattle.entries.specs.Rows.{Found}
+use Rattle.entries.proofs.Table.{rows-read}
 use Rattle.merge.proofs.Turns.{draft-copied}
 use borrow.Author.Needs.{needs}
 use Rattle.merge.proofs.take_draft.Statement.{statement}
@@ -27,11 +32,8 @@ copy-in-requires c κs = search needs
 count-requires : tie.Need-count-requires
 count-requires c κs = search needs
 
-spots-of-requires : tie.Need-spots-of-requires
-spots-of-requires c κs = search needs
-
-fill-requires : tie.Need-fill-requires
-fill-requires c κs = fill-asked _ _ _ (draft-copied (c .before .before .before .before .before .before .before .before .before .before .before .before .before .before .before .pre .0) _ _ _ _ (c .before .before .before .before .before .before .before .before .before .before .before .places-of .ensures .draft) (c .before .before .before .before .before .before .before .before .before .before .before .places-of .ensures .table) (c .before .before .before .before .before .before .before .before .before .before .before .before .before .before .before .pre .1) (c .before .before .before .before .before .before .before .copy-in .ensures)) _ _ (c .before .before .before .count .ensures) (c .before .spots-of .ensures)
+index-rows-requires : tie.Need-index-rows-requires
+index-rows-requires c κs = let k = draft-copied (c .before .before .before .before .before .before .before .before .before .before .before .before .before .before .pre .0) _ _ _ _ (c .before .before .before .before .before .before .before .before .before .before .places-of .ensures .draft) (c .before .before .before .before .before .before .before .before .before .before .places-of .ensures .table) (c .before .before .before .before .before .before .before .before .before .before .before .before .before .before .pre .1) (c .before .before .before .before .before .before .copy-in .ensures) in (omega (arith, k .count, k .size, k .room), omega (arith, k .count, k .room, k .small))
 
 same-length : tie.Need-same-length
 same-length c = search needs
@@ -40,7 +42,7 @@ same-length-2 : tie.Need-same-length-2
 same-length-2 c = search needs
 
 returns : tie.Need-returns
-returns c = let k = draft-copied (c .before .before .before .before .before .before .before .before .before .before .before .before .before .before .before .before .before .before .pre .0) _ _ _ _ (c .before .before .before .before .before .before .before .before .before .before .before .before .before .before .places-of .ensures .draft) (c .before .before .before .before .before .before .before .before .before .before .before .before .before .before .places-of .ensures .table) (c .before .before .before .before .before .before .before .before .before .before .before .before .before .before .before .before .before .before .pre .1) (c .before .before .before .before .before .before .before .before .before .before .copy-in .ensures) in (k, fill-found _ _ _ k _ _ _ _ (c .before .before .before .before .before .before .count .ensures) (c .before .before .before .before .spots-of .ensures) (c .before .before .fill .ensures))
+returns c = let k = draft-copied (c .before .before .before .before .before .before .before .before .before .before .before .before .before .before .before .before .before .pre .0) _ _ _ _ (c .before .before .before .before .before .before .before .before .before .before .before .before .before .places-of .ensures .draft) (c .before .before .before .before .before .before .before .before .before .before .before .before .before .places-of .ensures .table) (c .before .before .before .before .before .before .before .before .before .before .before .before .before .before .before .before .before .pre .1) (c .before .before .before .before .before .before .before .before .before .copy-in .ensures) in (k, subst (λ (es : List Entry). Found es (c .before .before .index-rows .last .1 .1 .1 .1 .0)) (rows-read _ _ _ k _ (c .before .before .before .before .before .count .ensures)) (c .before .before .index-rows .ensures))
 
 pub take-draft-spec : {M : Type 1} → statement M
 take-draft-spec =
@@ -53,8 +55,7 @@ take-draft-spec =
     part-copy-in-end
     copy-in-requires
     count-requires
-    spots-of-requires
-    fill-requires
+    index-rows-requires
     same-length
     same-length-2
     returns)

@@ -1,9 +1,8 @@
 -- `merge::take_in` meets its contract: one law for each way out. Assumes nothing.
 -- Made by tools/answers from the file `answers` beside it: change that one.
 use native.Mathlib.Omega.{arith}
-use mathlib.Core.Path.{_∙_}
 use Rattle.merge.proofs.Taking.{stays, replaces, no-place}
-use Rattle.merge.proofs.Rows.{rows-in, took-row, row-asked, took-new, took-full}
+use Rattle.merge.proofs.Rows.{find-asked, took-row, row-asked, took-new, took-full}
 use borrow.Author.Needs.{needs}
 use Rattle.merge.proofs.take_in.Statement.{statement}
 use Rattle.merge.proofs.take_in.Tie as tie
@@ -11,8 +10,8 @@ use Rattle.merge.proofs.take_in.Tie as tie
 count-requires : tie.Need-count-requires
 count-requires c κs = search needs
 
-row-of-requires : tie.Need-row-of-requires
-row-of-requires c κs = (omega arith, omega arith, λ q. rows-in _ _ _ (c .before .before .before .before .before .before .pre .0) _ _ (c .before .before .count .ensures ∙ c .before .before .before .before .before .before .pre .0 .count) (c .before .before .before .before .before .before .pre .1 q))
+find-row-requires : tie.Need-find-row-requires
+find-row-requires c κs = find-asked _ _ _ _ (c .before .before .before .before .before .before .pre .0) (c .before .before .count .ensures) (c .before .before .before .before .before .before .pre .1)
 
 entry-of-requires : tie.Need-entry-of-requires
 entry-of-requires c κs = search needs
@@ -24,7 +23,7 @@ same-length-2 : tie.Need-same-length-2
 same-length-2 c = search needs
 
 returns : tie.Need-returns
-returns c = took-row _ _ _ _ _ (c .before .before .before .before .before .before .before .before .before .before .before .before .before .pre .0) (c .before .before .before .before .before .before .before .before .before .count .ensures) (c .before .before .before .before .before .before .row-of .ensures) _ _ (c .before .before .before .before .before .before .before .before .before .before .before .before .before .pre .1) _ (c .before .before .before .before .before .if1 .taken) (stays _ _ _ _ _ (c .before .before .before .before .before .before .before .before .before .before .before .before .before .pre .0) (c .before .before .before .before .before .before .before .before .before .count .ensures) (c .before .before .before .before .before .before .row-of .ensures) _ (c .before .before .before .entry-of .ensures) (c .before .before .before .before .before .if1 .taken) (c .if2 .taken))
+returns c = took-row _ _ _ _ _ (c .before .before .before .before .before .before .before .before .before .before .before .before .before .pre .0) (c .before .before .before .before .before .before .before .before .before .count .ensures) (c .before .before .before .before .before .before .find-row .ensures) _ (c .before .before .before .before .before .before .before .before .before .before .before .before .before .pre .1) _ (c .before .before .before .before .before .if1 .taken) (stays _ _ _ _ _ (c .before .before .before .before .before .before .before .before .before .before .before .before .before .pre .0) (c .before .before .before .before .before .before .before .before .before .count .ensures) (c .before .before .before .before .before .before .find-row .ensures) _ (c .before .before .before .entry-of .ensures) (c .before .before .before .before .before .if1 .taken) (c .if2 .taken))
 
 replace-at-requires : tie.Need-replace-at-requires
 replace-at-requires c κs = (c .before .before .before .before .before .before .before .before .before .before .before .before .before .before .pre .0, omega arith)
@@ -36,13 +35,7 @@ same-length-4 : tie.Need-same-length-4
 same-length-4 c = search needs
 
 returns-2 : tie.Need-returns-2
-returns-2 c = took-row _ _ _ _ _ (c .before .before .before .before .before .before .before .before .before .before .before .before .before .before .before .before .before .pre .0) (c .before .before .before .before .before .before .before .before .before .before .before .before .before .count .ensures) (c .before .before .before .before .before .before .before .before .before .before .row-of .ensures) _ _ (c .before .before .before .before .before .before .before .before .before .before .before .before .before .before .before .before .before .pre .1) _ (c .before .before .before .before .before .before .before .before .before .if1 .taken) (replaces _ _ _ _ _ (c .before .before .before .before .before .before .before .before .before .before .before .before .before .before .before .before .before .pre .0) (c .before .before .before .before .before .before .before .before .before .before .before .before .before .count .ensures) (c .before .before .before .before .before .before .before .before .before .before .row-of .ensures) _ _ (c .before .before .before .before .before .before .before .entry-of .ensures) (c .before .before .before .before .before .before .before .before .before .if1 .taken) (c .before .before .before .before .if2 .left) (c .before .before .replace-at .ensures))
-
-append-requires : tie.Need-append-requires
-append-requires c κs = search needs
-
-add-row-requires : tie.Need-add-row-requires
-add-row-requires c κs = (omega arith, omega arith, row-asked _ _ _ _ _ (c .before .before .before .before .before .before .before .before .before .before .before .before .before .before .before .pre .0) (c .before .before .before .before .before .before .before .before .before .before .before .count .ensures) (c .before .before .before .before .before .before .before .before .row-of .ensures) _ _ (c .before .before .before .before .before .before .before .before .before .before .before .before .before .before .before .pre .1) _ (c .before .before .before .before .before .before .before .if1 .left) (c .before .before .before .before .append .ensures))
+returns-2 c = took-row _ _ _ _ _ (c .before .before .before .before .before .before .before .before .before .before .before .before .before .before .before .before .before .pre .0) (c .before .before .before .before .before .before .before .before .before .before .before .before .before .count .ensures) (c .before .before .before .before .before .before .before .before .before .before .find-row .ensures) _ (c .before .before .before .before .before .before .before .before .before .before .before .before .before .before .before .before .before .pre .1) _ (c .before .before .before .before .before .before .before .before .before .if1 .taken) (replaces _ _ _ _ _ (c .before .before .before .before .before .before .before .before .before .before .before .before .before .before .before .before .before .pre .0) (c .before .before .before .before .before .before .before .before .before .before .before .before .before .count .ensures) (c .before .before .before .before .before .before .before .before .before .before .find-row .ensures) _ _ (c .before .before .before .before .before .before .before .entry-of .ensures) (c .before .before .before .before .before .before .before .before .before .if1 .taken) (c .before .before .before .before .if2 .left) (c .before .before .replace-at .ensures))
 
 same-length-5 : tie.Need-same-length-5
 same-length-5 c = search needs
@@ -51,7 +44,16 @@ same-length-6 : tie.Need-same-length-6
 same-length-6 c = search needs
 
 returns-3 : tie.Need-returns-3
-returns-3 c = took-new _ _ _ _ _ (c .before .before .before .before .before .before .before .before .before .before .before .before .before .before .before .before .before .before .pre .0) (c .before .before .before .before .before .before .before .before .before .before .before .before .before .before .count .ensures) (c .before .before .before .before .before .before .before .before .before .before .before .row-of .ensures) _ _ (c .before .before .before .before .before .before .before .before .before .before .before .before .before .before .before .before .before .before .pre .1) _ (c .before .before .before .before .before .before .before .before .before .before .if1 .left) (c .before .before .before .before .before .before .before .append .ensures) _ _ (c .before .before .add-row .ensures)
+returns-3 c = took-full _ _ _ _ (no-place _ _ _ _ _ (c .before .before .before .before .before .before .before .before .before .pre .0) (c .before .before .before .before .before .count .ensures) (c .before .before .find-row .ensures) _ (c .before .if1 .left) (c .if3 .taken))
+
+append-requires : tie.Need-append-requires
+append-requires c κs = search needs
+
+add-add-row : tie.Need-add-add-row
+add-add-row c = search needs
+
+add-row-requires : tie.Need-add-row-requires
+add-row-requires c κs = row-asked _ _ _ _ _ (c .before .before .before .before .before .before .before .before .before .before .before .before .before .before .before .pre .0) (c .before .before .before .before .before .before .before .before .before .before .before .count .ensures) (c .before .before .before .before .before .before .before .before .find-row .ensures) _ (c .before .before .before .before .before .before .before .before .before .before .before .before .before .before .before .pre .1) _ (c .before .before .before .before .before .before .before .if1 .left) (c .before .before .before .before .append .ensures)
 
 same-length-7 : tie.Need-same-length-7
 same-length-7 c = search needs
@@ -60,14 +62,14 @@ same-length-8 : tie.Need-same-length-8
 same-length-8 c = search needs
 
 returns-4 : tie.Need-returns-4
-returns-4 c = took-full _ _ _ _ (no-place _ _ _ _ _ (c .before .before .before .before .before .before .before .before .before .pre .0) (c .before .before .before .before .before .count .ensures) (c .before .before .row-of .ensures) _ (c .before .if1 .left) (c .if3 .left))
+returns-4 c = took-new _ _ _ _ _ (c .before .before .before .before .before .before .before .before .before .before .before .before .before .before .before .before .before .before .pre .0) (c .before .before .before .before .before .before .before .before .before .before .before .before .before .before .count .ensures) (c .before .before .before .before .before .before .before .before .before .before .before .find-row .ensures) _ (c .before .before .before .before .before .before .before .before .before .before .before .before .before .before .before .before .before .before .pre .1) _ (c .before .before .before .before .before .before .before .before .before .before .if1 .left) (c .before .before .before .before .before .before .before .append .ensures) _ (c .before .before .add-row .ensures)
 
 pub take-in-spec : {M : Type 1} → statement M
 take-in-spec =
     tie.close
     (tie.spec
     count-requires
-    row-of-requires
+    find-row-requires
     entry-of-requires
     same-length
     same-length-2
@@ -76,11 +78,12 @@ take-in-spec =
     same-length-3
     same-length-4
     returns-2
-    append-requires
-    add-row-requires
     same-length-5
     same-length-6
     returns-3
+    append-requires
+    add-add-row
+    add-row-requires
     same-length-7
     same-length-8
     returns-4)

@@ -5,7 +5,7 @@ use borrow.Author.Tests.{ne-eqb}
 use Rattle.rules.specs.Choice.{pick}
 use Prim.Native.Nat.{ℕ}
 use Rattle.rules.specs.Image.{stateOf}
-use Rattle.good.proofs.Fields.{Fields, fields}
+use Rattle.places.proofs.Fields.{Fields, fields}
 use Rattle.readers.specs.Said.{fieldOf}
 use Rattle.readers.proofs.Fields.{asked}
 use borrow.Author.Needs.{needs}
@@ -91,7 +91,7 @@ returns-8 c = said (c .before .before .before) 8 _ (c .before .match .keys8) (c 
 
 returns-9 : tie.Need-returns-9
 unfolding fieldOf pick
-returns-9 c = said (c .before .before .before) 9 _ (c .before .match .keys9) (c .log-length .ensures)
+returns-9 c = said (c .before .before .before) 9 _ (c .before .match .keys9) (c .log-length .ensures .0)
 
 returns-10 : tie.Need-returns-10
 unfolding fieldOf pick

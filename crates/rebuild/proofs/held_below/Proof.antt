@@ -15,19 +15,19 @@ lt-le : (a b c : ℕ) → a < b → b ≤ c → a < c
 lt-le a b c h k = omega arith
 
 abbrev Inv-loop : tie.InvT-loop
-Inv-loop shape state message cast top index rows end e r₀ r = (r ≤ end) × (0 ≡ holders (lower top (votesIn shape state message cast) r) e)
+Inv-loop shape state message count slots end e r₀ r = (r ≤ end) × (0 ≡ holders (lower (count .top) (votesIn shape state message (count .cast)) r) e)
 
 abbrev μ-loop : tie.MeasureT-loop
-μ-loop shape state message cast top index rows end e r₀ r = end - r
+μ-loop shape state message count slots end e r₀ r = end - r
 
 loop-holds : tie.Need-loop-holds Inv-loop μ-loop
-loop-holds c = (omega arith, holders-start (c .before .before .before .args .top) (votesIn (c .before .before .before .args .shape) (c .before .before .before .args .state .now) (c .before .before .before .args .message .now) (c .before .before .before .args .cast)) (c .before .before .before .args .e))
+loop-holds c = (omega arith, holders-start (c .before .before .before .args .count .top) (votesIn (c .before .before .before .args .shape) (c .before .before .before .args .state .now) (c .before .before .before .args .message .now) (c .before .before .before .args .count .cast)) (c .before .before .before .args .e))
 
 holds-at-requires : tie.Need-holds-at-requires Inv-loop μ-loop
-holds-at-requires c κs = (c .before .before .before .before .before .pre .0, omega arith, c .before .before .before .before .before .pre .2)
+holds-at-requires c κs = (c .before .before .before .before .before .pre .0, omega arith)
 
 returns : tie.Need-returns Inv-loop μ-loop
-returns c = held-here _ _ (c .before .before .before .before .before .before .before .args .e) _ _ _ (votes-long _ _ _ _ (c .before .before .before .before .before .before .before .pre .0 .sent)) (c .before .before .loop-test .taken) (c .before .before .before .before .before .before .before .pre .1) (c .before .before .before .loop .inv .1) _ (c .before .holds-at .ensures) (c .if1 .taken)
+returns c = held-here _ _ (c .before .before .before .before .before .before .before .args .e) _ _ _ (votes-long _ _ _ _ (c .before .before .before .before .before .before .before .pre .0 .given .sent)) (c .before .before .loop-test .taken) (c .before .before .before .before .before .before .before .pre .1) (c .before .before .before .loop .inv .1) _ (c .before .holds-at .ensures) (c .if1 .taken)
 
 add-r : tie.Need-add-r Inv-loop μ-loop
 add-r c = omega arith
@@ -36,7 +36,7 @@ loop-less : tie.Need-loop-less Inv-loop μ-loop
 loop-less c = omega arith
 
 loop-again : tie.Need-loop-again Inv-loop μ-loop
-loop-again c = (omega arith, holders-same _ _ (c .before .before .before .before .before .before .before .args .e) _ 0 0 0 _ (votes-long _ _ _ _ (c .before .before .before .before .before .before .before .pre .0 .sent)) (lt-le _ _ _ (c .before .before .loop-test .taken) (c .before .before .before .before .before .before .before .pre .1)) (c .before .before .before .loop .inv .1) _ (c .before .holds-at .ensures) (c .if1 .left) refl)
+loop-again c = (omega arith, holders-same _ _ (c .before .before .before .before .before .before .before .args .e) _ 0 0 0 _ (votes-long _ _ _ _ (c .before .before .before .before .before .before .before .pre .0 .given .sent)) (lt-le _ _ _ (c .before .before .loop-test .taken) (c .before .before .before .before .before .before .before .pre .1)) (c .before .before .before .loop .inv .1) _ (c .before .holds-at .ensures) (c .if1 .left) refl)
 
 returns-2 : tie.Need-returns-2 Inv-loop μ-loop
 returns-2 c = held-nowhere _ _ (c .before .before .before .before .before .args .e) _ _ (c .before .loop .inv .0) (c .loop-test .left) (c .before .loop .inv .1)

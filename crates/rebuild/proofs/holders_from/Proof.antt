@@ -13,16 +13,16 @@ use Rattle.rebuild.proofs.holders_from.Statement.{statement}
 use Rattle.rebuild.proofs.holders_from.Tie as tie
 
 abbrev Inv-loop : tie.InvT-loop
-Inv-loop shape state message cast top index rows start e sum₀ r₀ sum r = (r ≤ shape .n) × (sum ≤ r) × (holders (lower top (votesIn shape state message cast) start) e + sum ≡ holders (lower top (votesIn shape state message cast) r) e)
+Inv-loop shape state message count slots start e sum₀ r₀ sum r = (r ≤ shape .n) × (sum ≤ r) × (holders (lower (count .top) (votesIn shape state message (count .cast)) start) e + sum ≡ holders (lower (count .top) (votesIn shape state message (count .cast)) r) e)
 
 abbrev μ-loop : tie.MeasureT-loop
-μ-loop shape state message cast top index rows start e sum₀ r₀ sum r = shape .n - r
+μ-loop shape state message count slots start e sum₀ r₀ sum r = shape .n - r
 
 loop-holds : tie.Need-loop-holds Inv-loop μ-loop
 loop-holds c = (omega arith, omega arith, omega arith)
 
 holds-at-requires : tie.Need-holds-at-requires Inv-loop μ-loop
-holds-at-requires c κs = (c .before .before .before .before .before .before .pre .0, c .if1 .taken, c .before .before .before .before .before .before .pre .2)
+holds-at-requires c κs = (c .before .before .before .before .before .before .pre .0, c .if1 .taken)
 
 add-sum : tie.Need-add-sum Inv-loop μ-loop
 add-sum c = omega arith
@@ -34,7 +34,7 @@ loop-less : tie.Need-loop-less Inv-loop μ-loop
 loop-less c = omega arith
 
 loop-again : tie.Need-loop-again Inv-loop μ-loop
-loop-again c = ⊎-elim (λ w. (omega arith, omega arith, holders-more _ _ (c .before .before .before .before .before .before .before .before .args .e) _ _ _ _ (c .before .before .before .before .before .before .before .before .args .shape .n) (votes-long _ _ _ _ (c .before .before .before .before .before .before .before .before .pre .0 .sent)) (c .before .before .if1 .taken) (c .before .before .before .before .loop .inv .2) _ (c .before .holds-at .ensures) (w .0 .taken) (w .1))) (λ w. (omega arith, omega arith, holders-same _ _ (c .before .before .before .before .before .before .before .before .args .e) _ _ _ _ (c .before .before .before .before .before .before .before .before .args .shape .n) (votes-long _ _ _ _ (c .before .before .before .before .before .before .before .before .pre .0 .sent)) (c .before .before .if1 .taken) (c .before .before .before .before .loop .inv .2) _ (c .before .holds-at .ensures) (w .0 .left) (w .1))) (c .if2 .came)
+loop-again c = ⊎-elim (λ w. (omega arith, omega arith, holders-more _ _ (c .before .before .before .before .before .before .before .before .args .e) _ _ _ _ (c .before .before .before .before .before .before .before .before .args .shape .n) (votes-long _ _ _ _ (c .before .before .before .before .before .before .before .before .pre .0 .given .sent)) (c .before .before .if1 .taken) (c .before .before .before .before .loop .inv .2) _ (c .before .holds-at .ensures) (w .0 .taken) (w .1))) (λ w. (omega arith, omega arith, holders-same _ _ (c .before .before .before .before .before .before .before .before .args .e) _ _ _ _ (c .before .before .before .before .before .before .before .before .args .shape .n) (votes-long _ _ _ _ (c .before .before .before .before .before .before .before .before .pre .0 .given .sent)) (c .before .before .if1 .taken) (c .before .before .before .before .loop .inv .2) _ (c .before .holds-at .ensures) (w .0 .left) (w .1))) (c .if2 .came)
 
 returns : tie.Need-returns Inv-loop μ-loop
 returns c = holders-end _ _ (c .before .before .before .before .before .before .args .e) _ _ _ (c .before .before .loop .inv .0) (c .if1 .left) (c .before .before .loop .inv .2)

@@ -1,26 +1,33 @@
--- `rebuild::index_votes` meets its contract. The invariant: each table whose flag is set has every row. Assumes nothing.
+-- `rebuild::index_votes` meets its contract. The invariant: each log that has slots is found by them. Assumes nothing.
 -- Made by tools/answers from the file `answers` beside it: change that one.
 use native.Mathlib.Omega.{arith}
-use mathlib.Core.Path.{_≡_}
+use mathlib.Core.Path.{_≡_, refl}
 use Prim.Native.Nat.{_≤_, _-_}
 use lib.ListN.{length}
 use Rattle.ballots.specs.Ballots.{votesIn}
 use Rattle.rebuild.specs.Tables.{Indexed}
-use Rattle.rebuild.proofs.Tables.{index-start}
+use Rattle.rebuild.proofs.Tables.{index-start, index-among}
+use borrow.Author.Needs.{needs}
 use Rattle.rebuild.proofs.index_votes.Statement.{statement}
 use Rattle.rebuild.proofs.index_votes.Tie as tie
 
 abbrev Inv-loop : tie.InvT-loop
-Inv-loop shape state message cast top size rows₀ index₀ r₀ rows index r = (r ≤ shape .n) × (length rows ≡ length rows₀) × Indexed (votesIn shape state message cast) index rows
+Inv-loop shape state message cast top slots₀ index₀ r₀ slots index r = (r ≤ shape .n) × (length slots ≡ length slots₀) × Indexed (votesIn shape state message cast) r index slots
 
 abbrev μ-loop : tie.MeasureT-loop
-μ-loop shape state message cast top size rows₀ index₀ r₀ rows index r = shape .n - r
+μ-loop shape state message cast top slots₀ index₀ r₀ slots index r = shape .n - r
+
+mul-t11 : tie.Need-mul-t11 Inv-loop μ-loop
+mul-t11 c = search needs
+
+add-t12 : tie.Need-add-t12 Inv-loop μ-loop
+add-t12 c = search needs
 
 loop-holds : tie.Need-loop-holds Inv-loop μ-loop
-loop-holds c = (omega arith, omega arith, index-start _ _ _ (c .before .before .before .pre .1) (c .before .before .before .pre .2))
+loop-holds c = (omega arith, omega arith, index-start _ _ _ (omega (arith, c .before .before .before .pre .sent .stands .fits .small)))
 
 index-vote-requires : tie.Need-index-vote-requires Inv-loop μ-loop
-index-vote-requires c κs = (c .before .before .before .before .before .before .before .pre .0, c .before .if1 .taken, c .before .before .before .loop .inv .2)
+index-vote-requires c κs = (c .before .before .before .before .before .before .before .pre, c .before .if1 .taken, c .before .before .before .loop .inv .2)
 
 add-r : tie.Need-add-r Inv-loop μ-loop
 add-r c = omega arith
@@ -35,7 +42,7 @@ same-length : tie.Need-same-length Inv-loop μ-loop
 same-length c = omega arith
 
 returns : tie.Need-returns Inv-loop μ-loop
-returns c = c .before .before .loop .inv .2
+returns c = (refl, refl, record { given = c .before .before .before .before .before .before .pre; indexed = index-among _ _ _ _ _ (c .before .before .loop .inv .0) (c .before .before .loop .inv .2) })
 
 pub index-votes-spec : {M : Type 1} → statement M
 index-votes-spec =
@@ -43,6 +50,8 @@ index-votes-spec =
     (tie.spec
     Inv-loop
     μ-loop
+    mul-t11
+    add-t12
     loop-holds
     index-vote-requires
     add-r

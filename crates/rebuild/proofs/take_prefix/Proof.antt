@@ -9,9 +9,6 @@ use borrow.Author.Needs.{needs}
 use Rattle.rebuild.proofs.take_prefix.Statement.{statement}
 use Rattle.rebuild.proofs.take_prefix.Tie as tie
 
-top-normal-requires : tie.Need-top-normal-requires
-top-normal-requires c κs = search needs
-
 best-vote-requires : tie.Need-best-vote-requires
 best-vote-requires c κs = search needs
 
@@ -22,37 +19,36 @@ same-length : tie.Need-same-length
 same-length c = search needs
 
 returns : tie.Need-returns
-returns c = let l = votes-long _ _ (c .before .before .before .before .before .before .before .before .before .before .before .before .args .message .now) _ (c .before .before .before .before .before .before .before .before .before .before .before .before .pre .0 .sent) in let t = c .before .before .before .before .before .before .before .before .top-normal .ensures (c .before .before .before .before .before .before .before .before .before .before .before .before .args .message .now) in let k = c .before .before .before .before .before .before .before .best-vote .ensures (c .before .before .before .before .before .before .before .before .before .before .before .before .args .message .now) in (based-none _ _ _ _ l t k (c .before .before .before .before .if1 .taken), takes-none _ _ _ _ l t k _ _ (c .before .before .before .before .if1 .taken) (c .before .before .before .before .before .before .before .before .before .before .before .before .pre .0 .sent .stands .fits .small) (c .before .before .clear .ensures))
+returns c = let l = votes-long _ _ (c .before .before .before .before .before .before .before .before .before .before .before .args .message .now) _ (c .before .before .before .before .before .before .before .before .before .before .before .pre .0 .sent) in let t = c .before .before .before .before .before .before .before .before .before .before .before .pre .2 in let k = c .before .before .before .before .before .before .before .best-vote .ensures (c .before .before .before .before .before .before .before .before .before .before .before .args .message .now) in (refl, based-none _ _ (c .before .before .before .before .before .before .before .before .before .before .before .args .count) _ l t k (c .before .before .before .before .if1 .taken), takes-none _ _ (c .before .before .before .before .before .before .before .before .before .before .before .args .count) _ l t k _ _ (c .before .before .before .before .if1 .taken) (c .before .before .before .before .before .before .before .before .before .before .before .pre .0 .sent .stands .fits .small) (c .before .before .clear .ensures))
 
 log-of-requires : tie.Need-log-of-requires
-log-of-requires c κs = (c .before .before .before .before .before .before .before .before .pre .0, c .if1 .left, c .before .before .before .best-vote .ensures (c .before .before .before .before .before .before .before .before .args .message .now) .held (c .if1 .left))
+log-of-requires c κs = (c .before .before .before .before .before .before .before .pre .0, c .if1 .left, c .before .before .before .best-vote .ensures (c .before .before .before .before .before .before .before .args .message .now) .held (c .if1 .left))
 
 take-over-requires : tie.Need-take-over-requires
-take-over-requires c κs = let w = cut _ _ _ _ (c .before .before .before .before .before .before .before .before .before .before .pre .0) _ _ (c .before .before .before .before .before .best-vote .ensures (c .before .before .before .before .before .before .before .before .before .before .args .message .now)) (c .before .before .if1 .left) _ (c .before .log-of .ensures) in (c .before .before .before .before .before .before .before .before .before .before .pre .1, w .room, c .before .before .before .before .before .before .before .before .before .before .pre .0 .sent .stands .fits .small, w .long)
+take-over-requires c κs = let w = cut _ _ _ _ (c .before .before .before .before .before .before .before .before .before .pre .0) _ _ (c .before .before .before .before .before .best-vote .ensures (c .before .before .before .before .before .before .before .before .before .args .message .now)) (c .before .before .if1 .left) _ (c .before .log-of .ensures) in (c .before .before .before .before .before .before .before .before .before .pre .1, w .room, c .before .before .before .before .before .before .before .before .before .pre .0 .sent .stands .fits .small, w .long)
 
 sub-entry-at : tie.Need-sub-entry-at
-sub-entry-at c = omega (arith, cut _ _ _ _ (c .before .before .before .before .before .before .before .before .before .before .before .before .before .pre .0) _ _ (c .before .before .before .before .before .before .before .before .best-vote .ensures (c .before .before .before .before .before .before .before .before .before .before .before .before .before .args .message .now)) (c .before .before .before .before .before .if1 .left) _ (c .before .before .before .before .log-of .ensures) .some)
+sub-entry-at c = omega (arith, cut _ _ _ _ (c .before .before .before .before .before .before .before .before .before .before .before .before .pre .0) _ _ (c .before .before .before .before .before .before .before .before .best-vote .ensures (c .before .before .before .before .before .before .before .before .before .before .before .before .args .message .now)) (c .before .before .before .before .before .if1 .left) _ (c .before .before .before .before .log-of .ensures) .some)
 
 mul-entry-at : tie.Need-mul-entry-at
-mul-entry-at c = omega (arith, c .before .before .before .before .before .before .before .before .before .before .before .before .before .pre .0 .sent .stands .fits .small, cut _ _ _ _ (c .before .before .before .before .before .before .before .before .before .before .before .before .before .pre .0) _ _ (c .before .before .before .before .before .before .before .before .best-vote .ensures (c .before .before .before .before .before .before .before .before .before .before .before .before .before .args .message .now)) (c .before .before .before .before .before .if1 .left) _ (c .before .before .before .before .log-of .ensures) .room)
+mul-entry-at c = omega (arith, c .before .before .before .before .before .before .before .before .before .before .before .before .pre .0 .sent .stands .fits .small, cut _ _ _ _ (c .before .before .before .before .before .before .before .before .before .before .before .before .pre .0) _ _ (c .before .before .before .before .before .before .before .before .best-vote .ensures (c .before .before .before .before .before .before .before .before .before .before .before .before .args .message .now)) (c .before .before .before .before .before .if1 .left) _ (c .before .before .before .before .log-of .ensures) .room)
 
 add-entry-at : tie.Need-add-entry-at
-add-entry-at c = omega (arith, c .before .before .before .before .before .before .before .before .before .before .before .before .before .pre .0 .sent .stands .fits .small, cut _ _ _ _ (c .before .before .before .before .before .before .before .before .before .before .before .before .before .pre .0) _ _ (c .before .before .before .before .before .before .before .before .best-vote .ensures (c .before .before .before .before .before .before .before .before .before .before .before .before .before .args .message .now)) (c .before .before .before .before .before .if1 .left) _ (c .before .before .before .before .log-of .ensures) .room)
+add-entry-at c = omega (arith, c .before .before .before .before .before .before .before .before .before .before .before .before .pre .0 .sent .stands .fits .small, cut _ _ _ _ (c .before .before .before .before .before .before .before .before .before .before .before .before .pre .0) _ _ (c .before .before .before .before .before .before .before .before .best-vote .ensures (c .before .before .before .before .before .before .before .before .before .before .before .before .args .message .now)) (c .before .before .before .before .before .if1 .left) _ (c .before .before .before .before .log-of .ensures) .room)
 
 entry-at-requires : tie.Need-entry-at-requires
-entry-at-requires c κs = let w = cut _ _ _ _ (c .before .before .before .before .before .before .before .before .before .before .before .before .before .pre .0) _ _ (c .before .before .before .before .before .before .before .before .best-vote .ensures (c .before .before .before .before .before .before .before .before .before .before .before .before .before .args .message .now)) (c .before .before .before .before .before .if1 .left) _ (c .before .before .before .before .log-of .ensures) in omega (arith, w .some, w .long)
+entry-at-requires c κs = let w = cut _ _ _ _ (c .before .before .before .before .before .before .before .before .before .before .before .before .pre .0) _ _ (c .before .before .before .before .before .before .before .before .best-vote .ensures (c .before .before .before .before .before .before .before .before .before .before .before .before .args .message .now)) (c .before .before .before .before .before .if1 .left) _ (c .before .before .before .before .log-of .ensures) in omega (arith, w .some, w .long)
 
 same-length-2 : tie.Need-same-length-2
 same-length-2 c = search needs
 
 returns-2 : tie.Need-returns-2
-returns-2 c = let l = votes-long _ _ (c .before .before .before .before .before .before .before .before .before .before .before .before .before .before .args .message .now) _ (c .before .before .before .before .before .before .before .before .before .before .before .before .before .before .pre .0 .sent) in let t = c .before .before .before .before .before .before .before .before .before .before .top-normal .ensures (c .before .before .before .before .before .before .before .before .before .before .before .before .before .before .args .message .now) in let k = c .before .before .before .before .before .before .before .before .before .best-vote .ensures (c .before .before .before .before .before .before .before .before .before .before .before .before .before .before .args .message .now) in let w = cut _ _ _ _ (c .before .before .before .before .before .before .before .before .before .before .before .before .before .before .pre .0) _ _ k (c .before .before .before .before .before .before .if1 .left) _ (c .before .before .before .before .before .log-of .ensures) in (based-some _ _ _ _ l t k _ _ (c .before .before .before .before .before .before .if1 .left) refl (w .within) (c .entry-at .ensures ∙ listed-at _ _ _ (c .before .before .before .before .before .log-of .ensures) _ (omega (arith, w .some, w .within))), takes-some _ _ _ _ l t k _ _ _ (c .before .before .before .before .before .log-of .ensures) (w .within) (c .before .before .before .take-over .ensures))
+returns-2 c = let l = votes-long _ _ (c .before .before .before .before .before .before .before .before .before .before .before .before .before .args .message .now) _ (c .before .before .before .before .before .before .before .before .before .before .before .before .before .pre .0 .sent) in let t = c .before .before .before .before .before .before .before .before .before .before .before .before .before .pre .2 in let k = c .before .before .before .before .before .before .before .before .before .best-vote .ensures (c .before .before .before .before .before .before .before .before .before .before .before .before .before .args .message .now) in let w = cut _ _ _ _ (c .before .before .before .before .before .before .before .before .before .before .before .before .before .pre .0) _ _ k (c .before .before .before .before .before .before .if1 .left) _ (c .before .before .before .before .before .log-of .ensures) in (refl, based-some _ _ (c .before .before .before .before .before .before .before .before .before .before .before .before .before .args .count) _ l t k _ _ (c .before .before .before .before .before .before .if1 .left) refl (w .within) (c .entry-at .ensures ∙ listed-at _ _ _ (c .before .before .before .before .before .log-of .ensures) _ (omega (arith, w .some, w .within))), takes-some _ _ (c .before .before .before .before .before .before .before .before .before .before .before .before .before .args .count) _ l t k _ _ _ (c .before .before .before .before .before .log-of .ensures) (w .within) (c .before .before .before .take-over .ensures))
 
 pub take-prefix-spec : {M : Type 1} → statement M
 take-prefix-spec =
     tie.close
     (tie.spec
-    top-normal-requires
     best-vote-requires
     clear-requires
     same-length

@@ -4,36 +4,17 @@ use mathlib.Core.Path.{ap, _∙_}
 use mathlib.Core.List.{List}
 use Rattle.rules.specs.Entry.{entryOf}
 use Rattle.rules.specs.declared.Entry.{Entry}
-use Rattle.releases.proofs.Way.{early-open, early-read}
-use borrow.Author.Needs.{needs}
 use Rattle.releases.proofs.early_entry.Statement.{statement}
 use Rattle.releases.proofs.early_entry.Tie as tie
 
-places-of-requires : tie.Need-places-of-requires
-places-of-requires c κs = search needs
-
-sub-entry-of : tie.Need-sub-entry-of
-sub-entry-of c = search needs
-
-part-entry-of-start : tie.Need-part-entry-of-start
-part-entry-of-start c = search needs
-
-part-entry-of-end : tie.Need-part-entry-of-end
-part-entry-of-end c = search needs
+early-requires : tie.Need-early-requires
+early-requires c κs = c .before .pre .0 .midway
 
 entry-of-requires : tie.Need-entry-of-requires
-entry-of-requires c κs = early-open (c .before .before .before .pre .0) (c .before .places-of .result) (c .before .places-of .ensures) _ (c .before .before .before .pre .1)
+entry-of-requires c κs = (c .early .ensures .0, rw (c .early .ensures .1) (c .before .before .pre .1))
 
 returns : tie.Need-returns
-returns c = c .entry-of .ensures ∙ ap (λ (es : List Entry). entryOf es (c .before .before .before .before .args .i)) (early-read (c .before .before .before .before .pre .0) (c .before .before .places-of .result) (c .before .before .places-of .ensures))
+returns c = c .entry-of .ensures ∙ ap (λ (es : List Entry). entryOf es (c .before .before .before .args .i)) (c .before .early .ensures .1)
 
 pub early-entry-spec : {M : Type 1} → statement M
-early-entry-spec =
-    tie.close
-    (tie.spec
-    places-of-requires
-    sub-entry-of
-    part-entry-of-start
-    part-entry-of-end
-    entry-of-requires
-    returns)
+early-entry-spec = tie.close (tie.spec early-requires entry-of-requires returns)

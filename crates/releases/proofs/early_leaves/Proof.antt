@@ -1,7 +1,9 @@
 -- `releases::early_leaves` meets its contract: early without the entries comes home. Assumes nothing.
 -- Made by tools/answers from the file `answers` beside it: change that one.
 use mathlib.Core.Path.{refl}
-use Rattle.releases.proofs.Way.{early-once-in, early-left}
+use Rattle.entries.proofs.Table.{is-table}
+use Rattle.places.proofs.Midway.{early-here}
+use Rattle.releases.proofs.Way.{early-left}
 use borrow.Author.Needs.{needs}
 use Rattle.releases.proofs.early_leaves.Statement.{statement}
 use Rattle.releases.proofs.early_leaves.Tie as tie
@@ -19,13 +21,13 @@ part-leave-end : tie.Need-part-leave-end
 part-leave-end c = search needs
 
 leave-requires : tie.Need-leave-requires
-leave-requires c κs = (early-once-in (c .before .before .before .before .before .pre .0) (c .before .places-of .result) (c .before .places-of .ensures) .0, c .before .before .before .before .before .pre .1)
+leave-requires c κs = (is-table _ _ _ (early-here (c .before .before .before .before .before .pre .0 .midway) _ _ (c .before .places-of .ensures .early) (c .before .places-of .ensures .late)), c .before .before .before .before .before .pre .1)
 
 same-length : tie.Need-same-length
 same-length c = search needs
 
 returns : tie.Need-returns
-returns c = early-left (c .before .before .before .before .before .before .before .before .pre .0) (c .before .before .before .before .places-of .result) (c .before .before .before .before .places-of .ensures) _ (c .before .before .leave .ensures) refl
+returns c = early-left (c .before .before .before .before .before .before .before .before .pre .0) _ _ _ (c .before .before .before .before .places-of .ensures .early) (c .before .before .before .before .places-of .ensures .late) (c .before .before .leave .ensures) refl
 
 pub early-leaves-spec : {M : Type 1} → statement M
 early-leaves-spec =

@@ -1,6 +1,6 @@
 -- `releases::first_due` meets its contract: none is found before the first. Assumes nothing.
 -- Made by tools/answers from the file `answers` beside it: change that one.
-use Rattle.due.proofs.Search.{reached-none}
+use Rattle.early.proofs.Search.{reached-none}
 use borrow.Author.Needs.{needs}
 use Rattle.releases.proofs.first_due.Statement.{statement}
 use Rattle.releases.proofs.first_due.Tie as tie

@@ -8,14 +8,14 @@ use Rattle.releases.proofs.leave_many.Tie as tie
 slice-aggregate-leave-by : tie.Need-slice-aggregate-leave-by
 slice-aggregate-leave-by c = search needs
 
-slice-aggregate-leave-by-2 : tie.Need-slice-aggregate-leave-by-2
-slice-aggregate-leave-by-2 c = search needs
-
 leave-by-requires : tie.Need-leave-by-requires
-leave-by-requires c κs = (c .before .before .before .before .pre .0, c .before .before .before .before .pre .1, omega (arith, c .before .before .before .before .pre .2))
+leave-by-requires c κs = (c .before .before .before .before .before .pre .0, c .before .before .before .before .before .pre .1, omega (arith, c .before .before .before .before .before .pre .2))
 
 same-length : tie.Need-same-length
 same-length c = search needs
+
+same-length-2 : tie.Need-same-length-2
+same-length-2 c = search needs
 
 returns : tie.Need-returns
 returns c = search needs
@@ -25,7 +25,7 @@ leave-many-spec =
     tie.close
     (tie.spec
     slice-aggregate-leave-by
-    slice-aggregate-leave-by-2
     leave-by-requires
     same-length
+    same-length-2
     returns)

@@ -1,7 +1,9 @@
 -- `releases::log_takes` meets its contract: the log with the entry comes home. Assumes nothing.
 -- Made by tools/answers from the file `answers` beside it: change that one.
 use mathlib.Core.Path.{refl}
-use Rattle.releases.proofs.Way.{log-open, log-taken}
+use Rattle.entries.proofs.Table.{is-table, decoded}
+use Rattle.places.proofs.Midway.{log-here}
+use Rattle.releases.proofs.Way.{log-taken}
 use borrow.Author.Needs.{needs}
 use Rattle.releases.proofs.log_takes.Statement.{statement}
 use Rattle.releases.proofs.log_takes.Tie as tie
@@ -19,13 +21,13 @@ part-append-end : tie.Need-part-append-end
 part-append-end c = search needs
 
 append-requires : tie.Need-append-requires
-append-requires c κs = log-open (c .before .before .before .pre .0) (c .before .places-of .result) (c .before .places-of .ensures) (c .before .before .before .pre .1)
+append-requires c κs = let h = log-here (c .before .before .before .pre .0 .midway) _ _ (c .before .places-of .ensures .log) (c .before .places-of .ensures .early) in (is-table _ _ _ h, rw (decoded _ _ _ h) (c .before .before .before .pre .1))
 
 same-length : tie.Need-same-length
 same-length c = search needs
 
 returns : tie.Need-returns
-returns c = log-taken (c .before .before .before .before .before .before .pre .0) (c .before .before .before .before .places-of .result) (c .before .before .before .before .places-of .ensures) _ (c .before .before .append .ensures) refl
+returns c = log-taken (c .before .before .before .before .before .before .pre .0) _ _ _ (c .before .before .before .before .places-of .ensures .log) (c .before .before .before .before .places-of .ensures .early) (c .before .before .append .ensures) refl
 
 pub log-takes-spec : {M : Type 1} → statement M
 log-takes-spec =

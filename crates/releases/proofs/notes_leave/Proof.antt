@@ -1,7 +1,9 @@
 -- `releases::notes_leave` meets its contract: the notes without those of the entries come home. Assumes nothing.
 -- Made by tools/answers from the file `answers` beside it: change that one.
 use mathlib.Core.Path.{refl}
-use Rattle.releases.proofs.Way.{notes-open, notes-left}
+use Rattle.notes.proofs.Notes.{is-notes}
+use Rattle.places.proofs.Midway.{notes-here}
+use Rattle.releases.proofs.Way.{notes-left}
 use borrow.Author.Needs.{needs}
 use Rattle.releases.proofs.notes_leave.Statement.{statement}
 use Rattle.releases.proofs.notes_leave.Tie as tie
@@ -19,13 +21,13 @@ part-leave-notes-end : tie.Need-part-leave-notes-end
 part-leave-notes-end c = search needs
 
 leave-notes-requires : tie.Need-leave-notes-requires
-leave-notes-requires c κs = (notes-open (c .before .before .before .before .before .pre .0) (c .before .places-of .result) (c .before .places-of .ensures), c .before .before .before .before .before .pre .1)
+leave-notes-requires c κs = (is-notes _ _ _ _ (notes-here (c .before .before .before .before .before .pre .0 .midway) _ _ (c .before .places-of .ensures .notes) (c .before .places-of .ensures .votes)), c .before .before .before .before .before .pre .1)
 
 same-length : tie.Need-same-length
 same-length c = search needs
 
 returns : tie.Need-returns
-returns c = notes-left (c .before .before .before .before .before .before .before .before .pre .0) (c .before .before .before .before .places-of .result) (c .before .before .before .before .places-of .ensures) _ (c .before .before .leave-notes .ensures) refl
+returns c = notes-left (c .before .before .before .before .before .before .before .before .pre .0) _ _ _ (c .before .before .before .before .places-of .ensures .notes) (c .before .before .before .before .places-of .ensures .votes) (c .before .before .leave-notes .ensures) refl
 
 pub notes-leave-spec : {M : Type 1} → statement M
 notes-leave-spec =

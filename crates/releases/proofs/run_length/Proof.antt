@@ -5,43 +5,31 @@ use borrow.Author.Needs.{needs}
 use Rattle.releases.proofs.run_length.Statement.{statement}
 use Rattle.releases.proofs.run_length.Tie as tie
 
-places-of-requires : tie.Need-places-of-requires
-places-of-requires c κs = search needs
+notes-requires : tie.Need-notes-requires
+notes-requires c κs = c .before .before .pre .0 .midway
 
-sub-run-sized : tie.Need-sub-run-sized
-sub-run-sized c = search needs
+index-notes-requires : tie.Need-index-notes-requires
+index-notes-requires c κs = c .before .notes .ensures .0
 
-part-run-sized-start : tie.Need-part-run-sized-start
-part-run-sized-start c = search needs
+early-requires : tie.Need-early-requires
+early-requires c κs = c .before .before .before .before .before .before .before .pre .0 .midway
 
-part-run-sized-end : tie.Need-part-run-sized-end
-part-run-sized-end c = search needs
+run-of-requires : tie.Need-run-of-requires
+run-of-requires c κs = (run-open _ _ (c .before .before .before .before .before .before .before .before .before .pre .0) _ _ _ (c .before .early .ensures) (c .before .before .before .before .before .before .notes .ensures) _ (c .before .before .before .before .before .before .before .before .before .pre .1), c .before .before .before .before .index-notes .ensures)
 
-sub-run-sized-2 : tie.Need-sub-run-sized-2
-sub-run-sized-2 c = search needs
-
-part-run-sized-start-2 : tie.Need-part-run-sized-start-2
-part-run-sized-start-2 c = search needs
-
-part-run-sized-end-2 : tie.Need-part-run-sized-end-2
-part-run-sized-end-2 c = search needs
-
-run-sized-requires : tie.Need-run-sized-requires
-run-sized-requires c κs = run-open (c .before .before .before .before .pre .0) (c .before .before .places-of .result) (c .before .before .places-of .ensures) _ _ (c .before .before .before .before .pre .1)
+same-length : tie.Need-same-length
+same-length c = search needs
 
 returns : tie.Need-returns
-returns c = run-read (c .before .before .before .before .before .pre .0) (c .before .before .before .places-of .result) (c .before .before .before .places-of .ensures) _ _ (c .run-sized .ensures)
+returns c = run-read _ _ (c .before .before .before .before .before .before .before .before .before .before .pre .0) _ _ _ (c .before .before .early .ensures) (c .before .before .before .before .before .before .before .notes .ensures) _ (c .run-of .ensures)
 
 pub run-length-spec : {M : Type 1} → statement M
 run-length-spec =
     tie.close
     (tie.spec
-    places-of-requires
-    sub-run-sized
-    part-run-sized-start
-    part-run-sized-end
-    sub-run-sized-2
-    part-run-sized-start-2
-    part-run-sized-end-2
-    run-sized-requires
+    notes-requires
+    index-notes-requires
+    early-requires
+    run-of-requires
+    same-length
     returns)

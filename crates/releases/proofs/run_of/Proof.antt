@@ -6,18 +6,18 @@ use Rattle.rules.specs.State.{agreed}
 use Rattle.rules.specs.Image.{tableAt}
 use Rattle.repeats.proofs.Laws.{first-start}
 use Rattle.notes.specs.Notes.{sized, notesAt}
-use Rattle.due.specs.Due.{Reached}
-use Rattle.due.proofs.Search.{reached-none, reached-next}
+use Rattle.early.specs.Due.{Reached}
+use Rattle.early.proofs.Search.{reached-none, reached-next}
 use Rattle.releases.proofs.Run.{Passed, run-stops, run-goes, run-ends}
 use borrow.Author.Needs.{needs}
 use Rattle.releases.proofs.run_of.Statement.{statement}
 use Rattle.releases.proofs.run_of.Tie as tie
 
 abbrev Inv-loop : tie.InvT-loop
-Inv-loop early notes c s time due table filled last₀ i₀ last i = (i ≤ due) × Reached time (tableAt c early 0) i last × Passed (agreed (sized c s) (notesAt c s notes)) time (tableAt c early 0) i
+Inv-loop early notes c s time due slots last₀ i₀ last i = (i ≤ due) × Reached time (tableAt c early 0) i last × Passed (agreed (sized c s) (notesAt c s notes)) time (tableAt c early 0) i
 
 abbrev μ-loop : tie.MeasureT-loop
-μ-loop early notes c s time due table filled last₀ i₀ last i = due - i
+μ-loop early notes c s time due slots last₀ i₀ last i = due - i
 
 loop-holds : tie.Need-loop-holds Inv-loop μ-loop
 loop-holds c = (omega arith, reached-none _ _ _, first-start _)

@@ -43,6 +43,9 @@ add-get16 c = omega (arith, spot-in (c .before .before .before .before .before .
 get16-requires : tie.Need-get16-requires Inv-loop μ-loop Inv-search μ-search
 get16-requires c κs = omega (arith, spot-in (c .before .before .before .before .before .before .args .b .now) (c .before .before .before .before .before .before .args .sp) (c .before .before .before .search .i) (c .before .before .before .before .before .before .pre) (omega arith))
 
+cast-high : tie.Need-cast-high Inv-loop μ-loop Inv-search μ-search
+cast-high c = search needs
+
 loop-holds : tie.Need-loop-holds Inv-loop μ-loop Inv-search μ-search
 loop-holds c = (search needs, search needs, key-parts (c .before .before .before .before .before .before .before .args .b .now) (c .before .before .before .before .before .before .before .args .sp) (c .before .before .before .before .search .i) (c .before .before .spot .result) (c .before .get32 .result) (c .get16 .result) (c .before .before .spot .ensures) (c .before .get32 .ensures) (c .get16 .ensures), seen-start (keyOf (c .before .before .before .before .before .before .before .args .b .now) (c .before .before .before .before .before .before .before .args .sp)) (keyOf (c .before .before .before .before .before .before .before .args .b .now) (c .before .before .before .before .before .before .before .args .sp) (c .before .before .before .before .search .i)))
 
@@ -87,6 +90,7 @@ nested-spec =
     get32-requires
     add-get16
     get16-requires
+    cast-high
     loop-holds
     same-requires
     add-j

@@ -2,6 +2,7 @@
 -- Made by tools/answers from the file `answers` beside it: change that one.
 use native.Mathlib.Omega.{arith}
 use Rattle.repeats.proofs.Places.{spot-in, same-not, same-when}
+use borrow.Author.Needs.{needs}
 use Rattle.repeats.proofs.same.Statement.{statement}
 use Rattle.repeats.proofs.same.Tie as tie
 
@@ -20,6 +21,9 @@ add-get16 c = omega (arith, spot-in (c .before .before .before .before .args .b 
 get16-requires : tie.Need-get16-requires
 get16-requires c κs = omega (arith, spot-in (c .before .before .before .before .args .b .now) (c .before .before .before .before .args .sp) (c .before .before .before .before .args .j) (c .before .before .before .before .pre .0) (c .before .before .before .before .pre .1))
 
+cast-result : tie.Need-cast-result
+cast-result c = search needs
+
 returns-2 : tie.Need-returns-2
 returns-2 c = same-when (c .before .before .before .before .before .args .b .now) (c .before .before .before .before .before .args .sp) (c .before .before .before .before .before .args .j) (c .before .before .before .spot .result) (c .before .before .get32 .result) (c .before .before .before .before .before .args .low) (c .before .before .before .before .before .args .high) (c .before .before .before .spot .ensures) (c .before .before .get32 .ensures) (c .get16 .result) (c .get16 .ensures) (c .before .if1 .left)
 
@@ -32,4 +36,5 @@ same-spec =
     returns
     add-get16
     get16-requires
+    cast-result
     returns-2)

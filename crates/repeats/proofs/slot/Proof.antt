@@ -22,7 +22,7 @@ sub-result : tie.Need-sub-result
 sub-result c = search needs
 
 mul-result : tie.Need-mul-result
-mul-result c = let k : (c .before .args .size) - 64 ≤ 65536 = omega arith in omega (arith, mul-le-mul-left (c .hash .result) k)
+mul-result c = let k : (c .before .args .size) - 64 ≤ 65535 = omega arith in omega (arith, mul-le-mul-left (c .hash .result) k)
 
 returns : tie.Need-returns
 unfolding slotOf

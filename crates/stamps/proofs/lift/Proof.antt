@@ -1,83 +1,67 @@
 -- `stamps::lift` meets its contract. Assumes nothing.
 -- Made by tools/answers from the file `answers` beside it: change that one.
 use native.Mathlib.Omega.{arith}
-use Rattle.stamps.proofs.Midway.{early-count, early-room, lift-absent, lift-waits, lift-here}
+use Rattle.stamps.proofs.Lifts.{lift-within, lift-absent, lift-waits, lift-here}
 use borrow.Author.Needs.{needs}
 use Rattle.stamps.proofs.lift.Statement.{statement}
 use Rattle.stamps.proofs.lift.Tie as tie
 
-places-of-requires : tie.Need-places-of-requires
-places-of-requires c κs = c .before .pre .0 .fits
+early-requires : tie.Need-early-requires
+early-requires c κs = c .before .before .pre .0
 
-get32-requires : tie.Need-get32-requires
-get32-requires c κs = search needs
-
-cast-count : tie.Need-cast-count
-cast-count c = omega arith
-
-add-find : tie.Need-add-find
-add-find c = omega arith
+count-requires : tie.Need-count-requires
+count-requires c κs = omega (arith, c .early .ensures .0 .size)
 
 find-requires : tie.Need-find-requires
-find-requires c κs = omega (arith, early-room (c .before .before .before .before .before .pre .0) _ (c .before .before .before .places-of .ensures .early), c .before .get32 .ensures)
+find-requires c κs = omega (arith, c .before .early .ensures .0 .size, c .before .early .ensures .0 .count, c .before .early .ensures .0 .room, c .count .ensures)
 
 same-length : tie.Need-same-length
 same-length c = search needs
 
 returns : tie.Need-returns
-returns c = lift-absent (c .before .before .before .before .before .before .before .pre .0) _ (c .before .before .before .before .before .places-of .ensures .early) (c .before .before .before .before .before .before .before .pre .1) _ _ _ (c .before .before .before .get32 .ensures) (c .before .find .ensures) (c .if1 .taken)
+returns c = lift-absent (c .before .before .before .before .before .before .pre .0) (c .before .before .before .before .before .before .pre .1) _ (c .before .before .before .early .ensures .0) (c .before .before .before .early .ensures .1) (c .before .before .before .before .before .before .args .e) _ _ (c .before .before .count .ensures) (c .before .find .ensures) (c .if1 .taken)
 
-add-entry-at : tie.Need-add-entry-at
-add-entry-at c = omega arith
+entry-of-requires : tie.Need-entry-of-requires
+entry-of-requires c κs = (c .before .before .before .early .ensures .0, lift-within (c .before .before .before .before .before .before .pre .0) (c .before .before .before .before .before .before .pre .1) _ (c .before .before .before .early .ensures .0) (c .before .before .before .early .ensures .1) (c .before .before .before .before .before .before .args .e) _ _ (c .before .before .count .ensures) (c .before .find .ensures) (c .if1 .left))
 
-mul-entry-at : tie.Need-mul-entry-at
-mul-entry-at c = omega arith
-
-add-entry-at-2 : tie.Need-add-entry-at-2
-add-entry-at-2 c = omega arith
-
-entry-at-requires : tie.Need-entry-at-requires
-entry-at-requires c κs = omega (arith, early-room (c .before .before .before .before .before .before .before .before .pre .0) _ (c .before .before .before .before .before .before .places-of .ensures .early), c .before .before .before .before .get32 .ensures)
+notes-requires : tie.Need-notes-requires
+notes-requires c κs = c .before .before .before .before .before .before .before .before .pre .0
 
 agreed-requires : tie.Need-agreed-requires
-agreed-requires c κs = search needs
+agreed-requires c κs = c .notes .ensures .0
 
 same-length-2 : tie.Need-same-length-2
 same-length-2 c = search needs
 
 returns-2 : tie.Need-returns-2
-returns-2 c = lift-waits (c .before .before .before .before .before .before .before .before .before .before .before .before .pre .0) _ (c .before .before .before .before .before .before .before .before .before .before .places-of .ensures .early) (c .before .before .before .before .before .before .before .before .before .before .before .before .pre .1) _ _ _ (c .before .before .before .before .before .before .before .before .get32 .ensures) (c .before .before .before .before .before .before .find .ensures) (c .before .before .before .before .before .if1 .left) _ (c .before .before .before .entry-at .ensures) _ (c .before .agreed .ensures) (c .if2 .taken)
+returns-2 c = lift-waits (c .before .before .before .before .before .before .before .before .before .before .before .pre .0) (c .before .before .before .before .before .before .before .before .before .before .before .pre .1) _ (c .before .before .before .before .before .before .before .before .early .ensures .0) (c .before .before .before .before .before .before .before .before .early .ensures .1) (c .before .before .before .before .before .before .before .before .before .before .before .args .e) _ _ (c .before .before .before .before .before .before .before .count .ensures) (c .before .before .before .before .before .before .find .ensures) (c .before .before .before .before .before .if1 .left) _ (c .before .before .before .before .entry-of .ensures) _ (c .before .before .notes .ensures .1) _ (c .before .agreed .ensures) (c .if2 .taken)
 
 greatest-requires : tie.Need-greatest-requires
-greatest-requires c κs = search needs
+greatest-requires c κs = c .before .before .notes .ensures .0
 
 stamped-requires : tie.Need-stamped-requires
 stamped-requires c κs = search needs
 
 put-early-requires : tie.Need-put-early-requires
-put-early-requires c κs = (c .before .before .before .before .before .before .before .before .before .before .before .before .before .before .before .before .pre .0, omega (arith, early-count (c .before .before .before .before .before .before .before .before .before .before .before .before .before .before .before .before .pre .0) _ (c .before .before .before .before .before .before .before .before .before .before .before .before .before .before .places-of .ensures .early), c .before .before .before .before .before .before .before .before .before .before .before .before .get32 .ensures))
+put-early-requires c κs = (c .before .before .before .before .before .before .before .before .before .before .before .before .before .before .pre .0, rw (c .before .before .before .before .before .before .before .before .before .before .before .early .ensures .1) at (lift-within (c .before .before .before .before .before .before .before .before .before .before .before .before .before .before .pre .0) (c .before .before .before .before .before .before .before .before .before .before .before .before .before .before .pre .1) _ (c .before .before .before .before .before .before .before .before .before .before .before .early .ensures .0) (c .before .before .before .before .before .before .before .before .before .before .before .early .ensures .1) (c .before .before .before .before .before .before .before .before .before .before .before .before .before .before .args .e) _ _ (c .before .before .before .before .before .before .before .before .before .before .count .ensures) (c .before .before .before .before .before .before .before .before .before .find .ensures) (c .before .before .before .before .before .before .before .before .if1 .left)))
 
 same-length-3 : tie.Need-same-length-3
 same-length-3 c = search needs
 
 returns-3 : tie.Need-returns-3
-returns-3 c = lift-here (c .before .before .before .before .before .before .before .before .before .before .before .before .before .before .before .before .before .before .before .pre .0) _ (c .before .before .before .before .before .before .before .before .before .before .before .before .before .before .before .before .before .places-of .ensures .early) (c .before .before .before .before .before .before .before .before .before .before .before .before .before .before .before .before .before .before .before .pre .1) _ _ _ (c .before .before .before .before .before .before .before .before .before .before .before .before .before .before .before .get32 .ensures) (c .before .before .before .before .before .before .before .before .before .before .before .before .before .find .ensures) (c .before .before .before .before .before .before .before .before .before .before .before .before .if1 .left) _ (c .before .before .before .before .before .before .before .before .before .before .entry-at .ensures) _ _ _ (c .before .before .before .before .before .before .before .before .agreed .ensures) (c .before .before .before .before .before .before .before .if2 .left) (c .before .before .before .before .before .greatest .ensures) _ (c .before .before .before .stamped .ensures) (c .before .before .put-early .ensures)
+returns-3 c = lift-here (c .before .before .before .before .before .before .before .before .before .before .before .before .before .before .before .before .before .pre .0) (c .before .before .before .before .before .before .before .before .before .before .before .before .before .before .before .before .before .pre .1) _ (c .before .before .before .before .before .before .before .before .before .before .before .before .before .before .early .ensures .0) (c .before .before .before .before .before .before .before .before .before .before .before .before .before .before .early .ensures .1) (c .before .before .before .before .before .before .before .before .before .before .before .before .before .before .before .before .before .args .e) _ _ (c .before .before .before .before .before .before .before .before .before .before .before .before .before .count .ensures) (c .before .before .before .before .before .before .before .before .before .before .before .before .find .ensures) (c .before .before .before .before .before .before .before .before .before .before .before .if1 .left) _ (c .before .before .before .before .before .before .before .before .before .before .entry-of .ensures) _ (c .before .before .before .before .before .before .before .before .notes .ensures .1) _ _ _ (c .before .before .before .before .before .before .before .agreed .ensures) (c .before .before .before .before .before .before .if2 .left) (c .before .before .before .before .before .greatest .ensures) _ (c .before .before .before .stamped .ensures) (c .before .before .put-early .ensures)
 
 pub lift-spec : {M : Type 1} → statement M
 lift-spec =
     tie.close
     (tie.spec
-    places-of-requires
-    get32-requires
-    cast-count
-    add-find
+    early-requires
+    count-requires
     find-requires
     same-length
     returns
-    add-entry-at
-    mul-entry-at
-    add-entry-at-2
-    entry-at-requires
+    entry-of-requires
+    notes-requires
     agreed-requires
     same-length-2
     returns-2

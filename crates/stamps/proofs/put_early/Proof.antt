@@ -6,7 +6,7 @@ use mathlib.Core.List.{List}
 use lib.ListN.{set}
 use Rattle.rules.specs.declared.Entry.{Entry}
 use Rattle.entries.proofs.Table.{decoded, is-table, and-then}
-use Rattle.stamps.proofs.Midway.{early-here, early-comes}
+use Rattle.places.proofs.Midway.{early-here, early-comes}
 use borrow.Author.Needs.{needs}
 use Rattle.stamps.proofs.put_early.Statement.{statement}
 use Rattle.stamps.proofs.put_early.Tie as tie
@@ -14,32 +14,32 @@ use Rattle.stamps.proofs.put_early.Tie as tie
 places-of-requires : tie.Need-places-of-requires
 places-of-requires c κs = c .before .pre .0 .fits
 
-sub-replace-at : tie.Need-sub-replace-at
-sub-replace-at c = omega arith
+sub-lift : tie.Need-sub-lift
+sub-lift c = omega arith
 
-part-replace-at-start : tie.Need-part-replace-at-start
-part-replace-at-start c = omega arith
+part-lift-start : tie.Need-part-lift-start
+part-lift-start c = omega arith
 
-part-replace-at-end : tie.Need-part-replace-at-end
-part-replace-at-end c = omega arith
+part-lift-end : tie.Need-part-lift-end
+part-lift-end c = omega arith
 
-replace-at-requires : tie.Need-replace-at-requires
-replace-at-requires c κs = let h = early-here (c .before .before .before .pre .0) _ _ (c .before .places-of .ensures .early) (c .before .places-of .ensures .late) in (is-table _ _ _ h, rw (decoded _ _ _ h) (c .before .before .before .pre .1))
+lift-requires : tie.Need-lift-requires
+lift-requires c κs = let h = early-here (c .before .before .before .pre .0) _ _ (c .before .places-of .ensures .early) (c .before .places-of .ensures .late) in (is-table _ _ _ h, rw (decoded _ _ _ h) (c .before .before .before .pre .1))
 
 same-length : tie.Need-same-length
 same-length c = search needs
 
 returns : tie.Need-returns
-returns c = let h = early-here (c .before .before .before .before .before .before .pre .0) _ _ (c .before .before .before .before .places-of .ensures .early) (c .before .before .before .before .places-of .ensures .late) in early-comes (c .before .before .before .before .before .before .pre .0) _ _ _ (and-then _ _ _ h (λ (es : List Entry). set es (c .before .before .before .before .before .before .args .i) (c .before .before .before .before .before .before .args .d)) _ (c .before .before .replace-at .ensures)) (c .before .before .before .before .places-of .ensures .early) (c .before .before .before .before .places-of .ensures .late) refl
+returns c = let h = early-here (c .before .before .before .before .before .before .pre .0) _ _ (c .before .before .before .before .places-of .ensures .early) (c .before .before .before .before .places-of .ensures .late) in early-comes (c .before .before .before .before .before .before .pre .0) _ _ _ (and-then _ _ _ h (λ (es : List Entry). set es (c .before .before .before .before .before .before .args .i) (c .before .before .before .before .before .before .args .d)) _ (c .before .before .lift .ensures)) (c .before .before .before .before .places-of .ensures .early) (c .before .before .before .before .places-of .ensures .late) refl
 
 pub put-early-spec : {M : Type 1} → statement M
 put-early-spec =
     tie.close
     (tie.spec
     places-of-requires
-    sub-replace-at
-    part-replace-at-start
-    part-replace-at-end
-    replace-at-requires
+    sub-lift
+    part-lift-start
+    part-lift-end
+    lift-requires
     same-length
     returns)

@@ -3,7 +3,7 @@
 use Prim.Native.Nat.{_+_, _*_, _-_}
 use mathlib.Core.Path.{_≡_}
 use native.Mathlib.Omega.{arith}
-use Rattle.leaving.specs.Listed.{listedIn}
+use Rattle.early.specs.Listed.{listedIn}
 use Rattle.syncs.proofs.Home.{is-both, late-said}
 use borrow.Author.Needs.{needs}
 use Rattle.syncs.proofs.late_length.Statement.{statement}

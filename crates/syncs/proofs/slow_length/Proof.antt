@@ -2,6 +2,7 @@
 -- Made by tools/answers from the file `answers` beside it: change that one.
 use Prim.Native.Nat.{_-_}
 use native.Mathlib.Omega.{arith}
+use Rattle.places.proofs.Sections.{stands-midway}
 use Rattle.places.proofs.Head.{sync-of}
 use Rattle.syncs.proofs.Slow.{product}
 use borrow.Author.Needs.{needs}
@@ -15,7 +16,7 @@ length-for-requires : tie.Need-length-for-requires
 length-for-requires c κs = search needs
 
 sub-result : tie.Need-sub-result
-sub-result c = omega (arith, c .before .before .before .before .before .pre .past, sync-of (c .before .before .before .before .before .pre .stands), c .before .before .get-sync .ensures)
+sub-result c = omega (arith, c .before .before .before .before .before .pre .past, sync-of (stands-midway (c .before .before .before .before .before .pre .stands)), c .before .before .get-sync .ensures)
 
 mul-result : tie.Need-mul-result
 mul-result c = omega (arith, product (c .before .before .before .before .before .pre) _ _ (c .before .before .get-sync .ensures) (c .before .length-for .ensures) .0)

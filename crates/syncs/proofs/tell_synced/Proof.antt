@@ -7,8 +7,9 @@ use lib.ListN.{length}
 use Rattle.octets.specs.Bytes.{splice}
 use Rattle.rules.specs.Image.{stateOf}
 use Rattle.rules.specs.Read.{lengthFor}
+use Rattle.places.proofs.Sections.{stands-midway}
 use Rattle.places.proofs.Head.{sync-of}
-use Rattle.leaving.specs.Listed.{listedIn}
+use Rattle.early.specs.Listed.{listedIn}
 use Rattle.syncs.proofs.Slow.{toldBytes, told-start, told-room, told-turn, told-all}
 use borrow.Author.Needs.{needs}
 use Rattle.syncs.proofs.tell_synced.Statement.{statement}
@@ -24,10 +25,10 @@ get-sync-requires : tie.Need-get-sync-requires Inv-loop μ-loop
 get-sync-requires c κs = search needs
 
 sub-n : tie.Need-sub-n Inv-loop μ-loop
-sub-n c = omega (arith, c .before .before .before .before .before .pre .0 .past, sync-of (c .before .before .before .before .before .pre .0 .stands), c .before .get-sync .ensures)
+sub-n c = omega (arith, c .before .before .before .before .before .pre .0 .past, sync-of (stands-midway (c .before .before .before .before .before .pre .0 .stands)), c .before .get-sync .ensures)
 
 loop-holds : tie.Need-loop-holds Inv-loop μ-loop
-loop-holds c = let z = c .before .get-sync .ensures ∙ sync-of (c .before .before .before .before .before .pre .0 .stands) in (omega arith, refl, z, omega (arith, c .before .before .before .before .before .pre .0 .past), refl, omega arith, told-start (c .before .before .before .before .before .pre .0) _)
+loop-holds c = let z = c .before .get-sync .ensures ∙ sync-of (stands-midway (c .before .before .before .before .before .pre .0 .stands)) in (omega arith, refl, z, omega (arith, c .before .before .before .before .before .pre .0 .past), refl, omega arith, told-start (c .before .before .before .before .before .pre .0) _)
 
 add-tell-slow : tie.Need-add-tell-slow Inv-loop μ-loop
 add-tell-slow c = omega arith

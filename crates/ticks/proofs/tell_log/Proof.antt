@@ -1,5 +1,6 @@
 -- `ticks::tell_log` meets its contract: the bytes lent are those of the log's entries. Assumes nothing.
 -- Made by tools/answers from the file `answers` beside it: change that one.
+use Rattle.places.proofs.Sections.{midway-laid}
 use Prim.Native.Nat.{_+_, _*_}
 use native.Mathlib.Omega.{arith}
 use Rattle.handler.proofs.Sends.{sender, own-replica}
@@ -27,7 +28,7 @@ get-replica-requires : tie.Need-get-replica-requires
 get-replica-requires c κs = search needs
 
 others-requires : tie.Need-others-requires
-others-requires c κs = (omega (arith, c .get-replica .ensures, own-replica (c .before .before .before .before .before .before .pre .0 .laid) (sender (c .before .before .before .before .before .before .pre .0 .state)), c .before .before .before .before .before .before .pre .0 .replica), c .before .before .before .before .before .before .pre .0 .fits .most)
+others-requires c κs = (omega (arith, c .get-replica .ensures, own-replica (midway-laid (c .before .before .before .before .before .before .pre .0 .midway)) (sender (c .before .before .before .before .before .before .pre .0 .midway .holds)), c .before .before .before .before .before .before .pre .0 .own .replica), c .before .before .before .before .before .before .pre .0 .midway .fits .most)
 
 get8-requires : tie.Need-get8-requires
 get8-requires c κs = search needs

@@ -9,7 +9,7 @@ use Rattle.ticks.proofs.tell_placed.Statement.{statement}
 use Rattle.ticks.proofs.tell_placed.Tie as tie
 
 log-place-requires : tie.Need-log-place-requires
-log-place-requires c κs = (c .before .before .pre .0 .fits, omega (arith, c .before .before .pre .1, c .before .before .pre .0 .state .log .room))
+log-place-requires c κs = (c .before .before .pre .0 .midway .fits, omega (arith, c .before .before .pre .1, c .before .before .pre .0 .midway .holds .log .room))
 
 add-end : tie.Need-add-end
 add-end c = search needs

@@ -1,5 +1,6 @@
 -- `ticks::tell_status` meets its contract: no entries are lent. Assumes nothing.
 -- Made by tools/answers from the file `answers` beside it: change that one.
+use Rattle.places.proofs.Sections.{midway-laid}
 use native.Mathlib.Omega.{arith}
 use native.Mathlib.Nat.{mod-lt}
 use Prim.Native.Nat.{_%_, _<_}
@@ -13,7 +14,7 @@ get-group-requires : tie.Need-get-group-requires
 get-group-requires c κs = search needs
 
 view-at-requires : tie.Need-view-at-requires
-view-at-requires c κs = (sized (c .before .before .before .pre .0), omega (arith, c .get-group .ensures, own-group (c .before .before .before .pre .0 .laid) (sender (c .before .before .before .pre .0 .state)), c .before .before .before .pre .0 .group))
+view-at-requires c κs = (sized (c .before .before .before .pre .0), omega (arith, c .get-group .ensures, own-group (midway-laid (c .before .before .before .pre .0 .midway)) (sender (c .before .before .before .pre .0 .midway .holds)), c .before .before .before .pre .0 .own .group))
 
 cast-only : tie.Need-cast-only
 cast-only c = search needs
@@ -22,7 +23,7 @@ rem-only : tie.Need-rem-only
 rem-only c = search needs
 
 only-requires : tie.Need-only-requires
-only-requires c κs = let h : 0 < (c .before .before .before .before .before .args .shape .n) = omega (arith, c .before .before .before .before .before .pre .0 .fits .least) in let m : (c .before .view-at .result) % (c .before .before .before .before .before .args .shape .n) < (c .before .before .before .before .before .args .shape .n) = mod-lt (c .before .view-at .result) h in omega (arith, c .before .before .before .before .before .pre .0 .fits .most)
+only-requires c κs = let h : 0 < (c .before .before .before .before .before .args .shape .n) = omega (arith, c .before .before .before .before .before .pre .0 .midway .fits .least) in let m : (c .before .view-at .result) % (c .before .before .before .before .before .args .shape .n) < (c .before .before .before .before .before .args .shape .n) = mod-lt (c .before .view-at .result) h in omega (arith, c .before .before .before .before .before .pre .0 .midway .fits .most)
 
 get8-requires : tie.Need-get8-requires
 get8-requires c κs = search needs

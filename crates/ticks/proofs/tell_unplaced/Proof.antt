@@ -12,7 +12,7 @@ first-due-requires : tie.Need-first-due-requires
 first-due-requires c κs = search needs
 
 early-place-requires : tie.Need-early-place-requires
-early-place-requires c κs = (c .before .before .before .pre .0 .fits, omega (arith, c .first-due .ensures .0, c .before .before .before .pre .0 .state .early .room))
+early-place-requires c κs = (c .before .before .before .pre .0 .midway .fits, omega (arith, c .first-due .ensures .0, c .before .before .before .pre .0 .midway .holds .early .room))
 
 add-end : tie.Need-add-end
 add-end c = search needs

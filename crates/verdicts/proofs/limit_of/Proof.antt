@@ -9,22 +9,28 @@ use Rattle.verdicts.proofs.limit_of.Statement.{statement}
 use Rattle.verdicts.proofs.limit_of.Tie as tie
 
 returns : tie.Need-returns
-returns c = limit-off (c .before .before .args .log) (rowIn (c .before .before .args .b .now) (c .before .before .args .look .at)) (c .before .before .args .look .whole) (c .before .before .args .look .seen) (not-true _ (c .if1 .taken))
+returns c = limit-off (c .before .before .before .args .log) (rowIn (c .before .before .before .args .b .now) (c .before .before .before .args .look .at)) (c .before .before .before .args .look .whole) (c .before .before .before .args .look .seen) (not-true _ (c .if1 .taken))
 
 smaller-requires : tie.Need-smaller-requires
 smaller-requires c κs = search needs
 
 returns-2 : tie.Need-returns-2
-returns-2 c = limit-none (c .before .before .before .before .args .log) (rowIn (c .before .before .before .before .args .b .now) (c .before .before .before .before .args .look .at)) (c .before .before .before .before .args .look .whole) (c .before .before .before .before .args .look .seen) (c .before .smaller .result) (c .before .smaller .ensures) (omega arith)
+returns-2 c = limit-none (c .before .before .before .before .before .args .log) (rowIn (c .before .before .before .before .before .args .b .now) (c .before .before .before .before .before .args .look .at)) (c .before .before .before .before .before .args .look .whole) (c .before .before .before .before .before .args .look .seen) (c .before .smaller .result) (c .before .smaller .ensures) (omega arith)
 
 repeat-of-requires : tie.Need-repeat-of-requires
 repeat-of-requires c κs = search needs
 
+same-length : tie.Need-same-length
+same-length c = search needs
+
 returns-3 : tie.Need-returns-3
-returns-3 c = limit-here (c .before .before .before .before .before .before .args .log) (rowIn (c .before .before .before .before .before .before .args .b .now) (c .before .before .before .before .before .before .args .look .at)) (c .before .before .before .before .before .before .args .look .whole) (c .before .before .before .before .before .before .args .look .seen) (c .before .before .before .smaller .result) (c .before .before .before .smaller .ensures) (c .before .repeat-of .result) (c .before .repeat-of .ensures) (c .if3 .taken) (not-false _ (c .before .before .before .before .if1 .left))
+returns-3 c = limit-here (c .before .before .before .before .before .before .before .before .before .before .args .log) (rowIn (c .before .before .before .before .before .before .before .before .before .before .args .b .now) (c .before .before .before .before .before .before .before .before .before .before .args .look .at)) (c .before .before .before .before .before .before .before .before .before .before .args .look .whole) (c .before .before .before .before .before .before .before .before .before .before .args .look .seen) (c .before .before .before .before .before .before .smaller .result) (c .before .before .before .before .before .before .smaller .ensures) (c .before .before .before .repeat-of .result) (c .before .before .before .repeat-of .ensures) (c .if3 .taken) (not-false _ (c .before .before .before .before .before .before .before .if1 .left))
+
+same-length-2 : tie.Need-same-length-2
+same-length-2 c = search needs
 
 returns-4 : tie.Need-returns-4
-returns-4 c = limit-past (c .before .before .before .before .before .before .args .log) (rowIn (c .before .before .before .before .before .before .args .b .now) (c .before .before .before .before .before .before .args .look .at)) (c .before .before .before .before .before .before .args .look .whole) (c .before .before .before .before .before .before .args .look .seen) (c .before .before .before .smaller .result) (c .before .before .before .smaller .ensures) (c .before .repeat-of .result) (c .before .repeat-of .ensures) (c .if3 .left)
+returns-4 c = limit-past (c .before .before .before .before .before .before .before .before .before .before .args .log) (rowIn (c .before .before .before .before .before .before .before .before .before .before .args .b .now) (c .before .before .before .before .before .before .before .before .before .before .args .look .at)) (c .before .before .before .before .before .before .before .before .before .before .args .look .whole) (c .before .before .before .before .before .before .before .before .before .before .args .look .seen) (c .before .before .before .before .before .before .smaller .result) (c .before .before .before .before .before .before .smaller .ensures) (c .before .before .before .repeat-of .result) (c .before .before .before .repeat-of .ensures) (c .if3 .left)
 
 pub limit-of-spec : {M : Type 1} → statement M
 limit-of-spec =
@@ -34,5 +40,7 @@ limit-of-spec =
     smaller-requires
     returns-2
     repeat-of-requires
+    same-length
     returns-3
+    same-length-2
     returns-4)

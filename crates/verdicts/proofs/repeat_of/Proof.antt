@@ -11,11 +11,14 @@ use Rattle.verdicts.proofs.repeat_of.Tie as tie
 add-first : tie.Need-add-first
 add-first c = search needs
 
-first-repeat-requires : tie.Need-first-repeat-requires
-first-repeat-requires c κs = record { one = omega arith; two = omega arith; three = omega arith; few = omega arith }
+index-requires : tie.Need-index-requires
+index-requires c κs = record { one = omega arith; two = omega arith; three = omega arith; few = omega arith }
+
+same-length : tie.Need-same-length
+same-length c = search needs
 
 returns : tie.Need-returns
-returns c = c .first-repeat .ensures ∙ keys-repeat (c .before .before .args .b .now) (c .before .before .args .at) (c .before .before .args .count) (bytes-known (c .before .before .args .b .now) (λ i. (c .before .shared-slice-known .given) i .fits)) (omega arith) _ (omega arith)
+returns c = c .before .before .index .ensures .0 ∙ keys-repeat (c .before .before .before .before .before .before .args .b .now) (c .before .before .before .before .before .before .args .at) (c .before .before .before .before .before .before .args .count) (bytes-known (c .before .before .before .before .before .before .args .b .now) (λ i. (c .before .before .before .before .before .shared-slice-known .given) i .fits)) (omega arith) _ (omega arith)
 
 pub repeat-of-spec : {M : Type 1} → statement M
-repeat-of-spec = tie.close (tie.spec add-first first-repeat-requires returns)
+repeat-of-spec = tie.close (tie.spec add-first index-requires same-length returns)

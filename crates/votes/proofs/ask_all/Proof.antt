@@ -25,7 +25,7 @@ same-length : tie.Need-same-length
 same-length c = search needs
 
 returns : tie.Need-returns
-returns c = let v : (c .before .before .before .before .before .before .before .before .before .args .view) < 256 ^ 4 = omega arith in ask-short _ _ (c .before .before .before .before .before .before .before .before .before .args .message .now) (c .before .before .before .before .before .before .before .before .before .args .view) (c .before .before .before .before .before .before .before .before .before .args .cast) (c .before .before .before .before .before .before .before .before .before .pre .0) (bytes-known (c .before .before .before .before .before .before .before .before .before .args .message .now) (λ i. (c .before .before .before .before .before .before .before .shared-slice-known .given) i .fits)) v _ (c .before .before .before .before .before .before .before .before .before .args .table .now) (c .before .before .before .before .before .before .before .before .before .pre .1) _ _ _ (c .before .before .before .before .all-groups .ensures) (c .before .before .count-others .ensures .0) _ (c .before .length-for .ensures) (c .if1 .taken)
+returns c = let v : (c .before .before .before .before .before .before .before .before .before .args .cast .view) < 256 ^ 4 = c .before .before .before .before .before .before .before .before .before .pre .0 .wide in ask-short _ _ (c .before .before .before .before .before .before .before .before .before .args .message .now) (c .before .before .before .before .before .before .before .before .before .args .cast .view) (c .before .before .before .before .before .before .before .before .before .args .cast) (c .before .before .before .before .before .before .before .before .before .pre .0) (bytes-known (c .before .before .before .before .before .before .before .before .before .args .message .now) (λ i. (c .before .before .before .before .before .before .before .shared-slice-known .given) i .fits)) v _ (c .before .before .before .before .before .before .before .before .before .args .table .now) (c .before .before .before .before .before .before .before .before .before .pre .1) _ _ _ (c .before .before .before .before .all-groups .ensures) (c .before .before .count-others .ensures .0) _ (c .before .length-for .ensures) (c .if1 .taken)
 
 keep-vote-requires : tie.Need-keep-vote-requires
 keep-vote-requires c κs = search needs
@@ -34,7 +34,7 @@ take-draft-requires : tie.Need-take-draft-requires
 take-draft-requires c κs = search needs
 
 tell-all-requires : tie.Need-tell-all-requires
-tell-all-requires c κs = let v : (c .before .before .before .before .before .before .before .before .before .before .before .before .before .before .before .before .before .before .before .args .view) < 256 ^ 4 = omega arith in (search needs, ask-tells _ _ (c .before .before .before .before .before .before .before .before .before .before .before .before .before .before .before .before .before .before .before .args .message .now) (c .before .before .before .before .before .before .before .before .before .before .before .before .before .before .before .before .before .before .before .args .view) (c .before .before .before .before .before .before .before .before .before .before .before .before .before .before .before .before .before .before .before .args .cast) (c .before .before .before .before .before .before .before .before .before .before .before .before .before .before .before .before .before .before .before .pre .0) (bytes-known (c .before .before .before .before .before .before .before .before .before .before .before .before .before .before .before .before .before .before .before .args .message .now) (λ i. (c .before .before .before .before .before .before .before .before .before .before .before .before .before .before .before .before .before .shared-slice-known .given) i .fits)) v (c .before .before .before .before .before .before .before .before .before .before .before .before .before .before .before .before .before .before .before .args .out .now) (c .before .before .before .before .before .before .before .before .before .before .before .before .before .before .before .before .before .before .before .args .table .now) (c .before .before .before .before .before .before .before .before .before .before .before .before .before .before .before .before .before .before .before .pre .1) _ _ _ (c .before .before .before .before .before .before .before .before .before .before .before .before .before .before .all-groups .ensures) (c .before .before .before .before .before .before .before .before .before .before .before .before .count-others .ensures .0) _ (c .before .before .before .before .before .before .before .before .before .before .before .length-for .ensures) (c .before .before .before .before .before .before .before .before .before .before .if1 .left) _ _ (c .before .before .before .before .before .before .before .before .keep-vote .ensures) (c .before .before .before .before .take-draft .ensures))
+tell-all-requires c κs = let v : (c .before .before .before .before .before .before .before .before .before .before .before .before .before .before .before .before .before .before .before .args .cast .view) < 256 ^ 4 = c .before .before .before .before .before .before .before .before .before .before .before .before .before .before .before .before .before .before .before .pre .0 .wide in (search needs, ask-tells _ _ (c .before .before .before .before .before .before .before .before .before .before .before .before .before .before .before .before .before .before .before .args .message .now) (c .before .before .before .before .before .before .before .before .before .before .before .before .before .before .before .before .before .before .before .args .cast .view) (c .before .before .before .before .before .before .before .before .before .before .before .before .before .before .before .before .before .before .before .args .cast) (c .before .before .before .before .before .before .before .before .before .before .before .before .before .before .before .before .before .before .before .pre .0) (bytes-known (c .before .before .before .before .before .before .before .before .before .before .before .before .before .before .before .before .before .before .before .args .message .now) (λ i. (c .before .before .before .before .before .before .before .before .before .before .before .before .before .before .before .before .before .shared-slice-known .given) i .fits)) v (c .before .before .before .before .before .before .before .before .before .before .before .before .before .before .before .before .before .before .before .args .out .now) (c .before .before .before .before .before .before .before .before .before .before .before .before .before .before .before .before .before .before .before .args .table .now) (c .before .before .before .before .before .before .before .before .before .before .before .before .before .before .before .before .before .before .before .pre .1) _ _ _ (c .before .before .before .before .before .before .before .before .before .before .before .before .before .before .all-groups .ensures) (c .before .before .before .before .before .before .before .before .before .before .before .before .count-others .ensures .0) _ (c .before .before .before .before .before .before .before .before .before .before .before .length-for .ensures) (c .before .before .before .before .before .before .before .before .before .before .if1 .left) _ _ (c .before .before .before .before .before .before .before .before .keep-vote .ensures) (c .before .before .before .before .take-draft .ensures))
 
 same-length-2 : tie.Need-same-length-2
 same-length-2 c = search needs
@@ -43,7 +43,7 @@ same-length-3 : tie.Need-same-length-3
 same-length-3 c = search needs
 
 returns-2 : tie.Need-returns-2
-returns-2 c = let v : (c .before .before .before .before .before .before .before .before .before .before .before .before .before .before .before .before .before .before .before .before .before .before .args .view) < 256 ^ 4 = omega arith in ask-sent _ _ (c .before .before .before .before .before .before .before .before .before .before .before .before .before .before .before .before .before .before .before .before .before .before .args .message .now) (c .before .before .before .before .before .before .before .before .before .before .before .before .before .before .before .before .before .before .before .before .before .before .args .view) (c .before .before .before .before .before .before .before .before .before .before .before .before .before .before .before .before .before .before .before .before .before .before .args .cast) (c .before .before .before .before .before .before .before .before .before .before .before .before .before .before .before .before .before .before .before .before .before .before .pre .0) (bytes-known (c .before .before .before .before .before .before .before .before .before .before .before .before .before .before .before .before .before .before .before .before .before .before .args .message .now) (λ i. (c .before .before .before .before .before .before .before .before .before .before .before .before .before .before .before .before .before .before .before .before .shared-slice-known .given) i .fits)) v _ (c .before .before .before .before .before .before .before .before .before .before .before .before .before .before .before .before .before .before .before .before .before .before .args .table .now) (c .before .before .before .before .before .before .before .before .before .before .before .before .before .before .before .before .before .before .before .before .before .before .pre .1) _ _ _ (c .before .before .before .before .before .before .before .before .before .before .before .before .before .before .before .before .before .all-groups .ensures) (c .before .before .before .before .before .before .before .before .before .before .before .before .before .before .before .count-others .ensures .0) _ (c .before .before .before .before .before .before .before .before .before .before .before .before .before .before .length-for .ensures) (c .before .before .before .before .before .before .before .before .before .before .before .before .before .if1 .left) _ _ (c .before .before .before .before .before .before .before .before .before .before .before .keep-vote .ensures) (c .before .before .before .before .before .before .before .take-draft .ensures) _ _ (c .before .before .tell-all .ensures .0) (c .before .before .tell-all .ensures .1)
+returns-2 c = let v : (c .before .before .before .before .before .before .before .before .before .before .before .before .before .before .before .before .before .before .before .before .before .before .args .cast .view) < 256 ^ 4 = c .before .before .before .before .before .before .before .before .before .before .before .before .before .before .before .before .before .before .before .before .before .before .pre .0 .wide in ask-sent _ _ (c .before .before .before .before .before .before .before .before .before .before .before .before .before .before .before .before .before .before .before .before .before .before .args .message .now) (c .before .before .before .before .before .before .before .before .before .before .before .before .before .before .before .before .before .before .before .before .before .before .args .cast .view) (c .before .before .before .before .before .before .before .before .before .before .before .before .before .before .before .before .before .before .before .before .before .before .args .cast) (c .before .before .before .before .before .before .before .before .before .before .before .before .before .before .before .before .before .before .before .before .before .before .pre .0) (bytes-known (c .before .before .before .before .before .before .before .before .before .before .before .before .before .before .before .before .before .before .before .before .before .before .args .message .now) (λ i. (c .before .before .before .before .before .before .before .before .before .before .before .before .before .before .before .before .before .before .before .before .shared-slice-known .given) i .fits)) v _ (c .before .before .before .before .before .before .before .before .before .before .before .before .before .before .before .before .before .before .before .before .before .before .args .table .now) (c .before .before .before .before .before .before .before .before .before .before .before .before .before .before .before .before .before .before .before .before .before .before .pre .1) _ _ _ (c .before .before .before .before .before .before .before .before .before .before .before .before .before .before .before .before .before .all-groups .ensures) (c .before .before .before .before .before .before .before .before .before .before .before .before .before .before .before .count-others .ensures .0) _ (c .before .before .before .before .before .before .before .before .before .before .before .before .before .before .length-for .ensures) (c .before .before .before .before .before .before .before .before .before .before .before .before .before .if1 .left) _ _ (c .before .before .before .before .before .before .before .before .before .before .before .keep-vote .ensures) (c .before .before .before .before .before .before .before .take-draft .ensures) _ _ (c .before .before .tell-all .ensures .0) (c .before .before .tell-all .ensures .1)
 
 pub ask-all-spec : {M : Type 1} → statement M
 ask-all-spec =

@@ -31,7 +31,7 @@ same-length : tie.Need-same-length
 same-length c = search needs
 
 returns : tie.Need-returns
-returns c = let v : (c .before .before .before .before .before .before .before .before .before .before .before .before .args .view) < 256 ^ 4 = omega arith in kept _ _ (c .before .before .before .before .before .before .before .before .before .before .before .before .args .message .now) (c .before .before .before .before .before .before .before .before .before .before .before .before .args .view) (c .before .before .before .before .before .before .before .before .before .before .before .before .args .cast) (c .before .before .before .before .before .before .before .before .before .before .before .before .pre) (bytes-known (c .before .before .before .before .before .before .before .before .before .before .before .before .args .message .now) (λ i. (c .before .before .before .before .before .before .before .before .before .before .shared-slice-known .given) i .fits)) v _ _ _ _ _ (c .before .before .before .before .before .before .come-to .ensures) refl (c .before .before .before .before .before .before .before .before .before .get32 .ensures) refl (c .before .before .keep-vote .ensures)
+returns c = let v : (c .before .before .before .before .before .before .before .before .before .before .before .before .args .cast .view) < 256 ^ 4 = c .before .before .before .before .before .before .before .before .before .before .before .before .pre .wide in kept _ _ (c .before .before .before .before .before .before .before .before .before .before .before .before .args .message .now) (c .before .before .before .before .before .before .before .before .before .before .before .before .args .cast .view) (c .before .before .before .before .before .before .before .before .before .before .before .before .args .cast) (c .before .before .before .before .before .before .before .before .before .before .before .before .pre) (bytes-known (c .before .before .before .before .before .before .before .before .before .before .before .before .args .message .now) (λ i. (c .before .before .before .before .before .before .before .before .before .before .shared-slice-known .given) i .fits)) v _ _ _ _ _ (c .before .before .before .before .before .before .come-to .ensures) refl (c .before .before .before .before .before .before .before .before .before .get32 .ensures) refl (c .before .before .keep-vote .ensures)
 
 pub keep-vote-spec : {M : Type 1} → statement M
 keep-vote-spec =

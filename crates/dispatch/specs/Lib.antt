@@ -1,0 +1,2 @@
+-- What the choice of a handler cites.
+pub mod Concluded

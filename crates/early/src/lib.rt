@@ -1,0 +1,371 @@
+// The early buffer: an entry put in or lifted, those due by a time, those that leave because their transactions are listed, and those
+// that fall to late. The notes of listed transactions leave in the same way. All of it on lent tables: where they stand is the caller's.
+use rules::Entry;
+ghost use mathlib.Core.Path.{_≡_};
+ghost use mathlib.Core.Bool.{true, false};
+ghost use mathlib.Core.List.{[], _∷_, _++_};
+ghost use Prim.Native.Nat.{_+_, _*_, _<_, _≤_};
+ghost use lib.ListN.{length, take, set};
+ghost use Rattle.rules.specs.Choice.{pick, any, keep};
+ghost use Rattle.rules.specs.Entry.{noEntry, entryOf};
+ghost use Rattle.rules.specs.Log.{distinct};
+ghost use Rattle.rules.specs.State.{noteOf};
+ghost use Rattle.rules.specs.Early.{dueOf, notesWithout};
+ghost use Rattle.rules.specs.Image.{noteLength, tableAt};
+ghost use Rattle.entries.specs.First.{isOf};
+ghost use Rattle.entries.specs.Table.{Holds, Table};
+ghost use Rattle.notes.specs.Notes.{notesAt, noNote, noteIn, NotesHold, Notes};
+ghost use Rattle.early.specs.Due.{isNext, Reached, DueAt};
+ghost use Rattle.early.specs.Due as search;
+ghost use Rattle.early.specs.Listed as listing;
+ghost use Rattle.early.specs.Listed.{listedIn, Lookup, stays};
+ghost use Rattle.early.specs.Moved.{moved, movedTo};
+ghost use Rattle.early.specs.Buffers.{BothHold, earlyIn, lateIn, Both};
+
+// What is looked for among the entries due by a time: the one after the last of the i that were found.
+struct Next {
+    time: u64,
+    i: usize,
+    last: Entry,
+}
+
+// A turn of a pass that moves what stays to the front: what is looked at next, and how many stayed so far.
+struct Turn {
+    next: usize,
+    kept: usize,
+}
+
+// Entries that stand in bytes and list transactions: where, and how many there are.
+pub struct Listed {
+    pub at: usize,
+    pub count: usize,
+}
+
+// ---- an entry comes
+
+// Puts e into the buffer.
+pub fn put(t: &mut [u8], c: usize, e: Entry)
+    requires { ⌜ Table c (now t) × (length (tableAt c (now t) 0) < c) ⌝ }
+    ensures { λ _. ⌜ Holds c (tableAt c (now (t .entry)) 0 ++ (e ∷ [])) (now (t .exit)) ⌝ }
+{
+    entries::append(t, c, e);
+}
+
+// Puts e, which is entry i at another timestamp, in its place.
+pub fn lift(t: &mut [u8], c: usize, i: usize, e: Entry)
+    requires { ⌜ Table c (now t) × (i < length (tableAt c (now t) 0)) ⌝ }
+    ensures { λ _. ⌜ Holds c (set (tableAt c (now (t .entry)) 0) i e) (now (t .exit)) ⌝ }
+{
+    entries::replace_at(t, c, i, e);
+}
+
+// ---- those that are due
+
+// How many entries are due by a time.
+pub fn count_due(t: &[u8], c: usize, time: u64) -> usize
+    requires { ⌜ Table c (now t) ⌝ }
+    ensures { λ r. ⌜ r ≡ length (dueOf time (tableAt c (now (t .entry)) 0)) ⌝ }
+{
+    let n = entries::count(t);
+    let mut due = 0;
+    let mut k = 0;
+    while k < n {
+        let e = entries::entry_of(t, c, k);
+        if e.stamp <= time {
+            due += 1;
+        }
+        k += 1;
+    }
+    due
+}
+
+// Whether e is due by the time and comes after the last that was found; where none was, all come after it.
+fn is_next(next: Next, e: Entry) -> bool
+    ensures { λ r. ⌜ r ≡ isNext (next .time) (next .i) (next .last) e ⌝ }
+{
+    let last = next.last;
+    (e.stamp <= next.time) & ((next.i == 0) | entries::before(last, e))
+}
+
+// Of place k and the best so far, the one whose entry comes first by the order, where entry k is next at all; n is the best where there is none.
+fn nearer(t: &[u8], c: usize, next: Next, n: usize, best: usize, k: usize) -> usize
+    requires { ⌜ Table c (now t) × (n ≡ length (tableAt c (now t) 0)) × (best ≤ n) × (k < n) ⌝ }
+    ensures { λ r. ⌜ r ≡ search.nearer (isNext (next .time) (next .i) (next .last)) (entryOf (tableAt c (now (t .entry)) 0)) n best k ⌝ }
+{
+    let e = entries::entry_of(t, c, k);
+    if !is_next(next, e) {
+        return best;
+    }
+    if best == n {
+        return k;
+    }
+    if entries::before(e, entries::entry_of(t, c, best)) {
+        return k;
+    }
+    best
+}
+
+// The place of entry i of those due by a time, given the one before it, or the count of entries where only i are due.
+pub fn due_at(t: &[u8], c: usize, time: u64, i: usize, last: Entry) -> usize
+    requires { ⌜ Table c (now t) × (distinct (tableAt c (now t) 0) ≡ true) × Reached time (tableAt c (now t) 0) i last ⌝ }
+    ensures { λ r. ⌜ DueAt time (tableAt c (now (t .entry)) 0) i r ⌝ }
+{
+    let n = entries::count(t);
+    let next = Next { time, i, last };
+    let mut best = n;
+    let mut k = 0;
+    while k < n {
+        best = nearer(t, c, next, n, best, k);
+        k += 1;
+    }
+    best
+}
+
+// ---- those that are listed
+
+// Puts the rows of the listed entries into the slots, by which they are found.
+pub fn list(b: &[u8], listed: Listed, slots: &mut [u16])
+    requires { ⌜ (listed .at + 24 * listed .count ≤ length (now b)) × (listed .count ≤ 4096) ⌝ }
+    ensures { λ _. ⌜ Lookup (now (b .entry)) listed (now (slots .exit)) ⌝ }
+{
+    entries::index_rows(b, listed.at, listed.count, listed.count, slots);
+}
+
+// Whether a transaction is among those listed.
+fn is_listed(b: &[u8], listed: Listed, slots: &[u16], request: u32, coordinator: u16) -> bool
+    requires { ⌜ Lookup (now b) listed (now slots) ⌝ }
+    ensures { λ r. ⌜ r ≡ any (isOf request coordinator) (listedIn (now (b .entry)) listed) ⌝ }
+{
+    let row = entries::find_row(b, listed.at, listed.count, slots, request, coordinator);
+    row < listed.count
+}
+
+// Whether the transaction of an entry is not listed and its timestamp is below a bound, or, where `below` is false, from it on. The bound is tested first: it costs less.
+fn chosen(b: &[u8], listed: Listed, slots: &[u16], below: bool, bound: u64, e: Entry) -> bool
+    requires { ⌜ Lookup (now b) listed (now slots) ⌝ }
+    ensures { λ r. ⌜ r ≡ listing.chosen (listedIn (now (b .entry)) listed) below bound e ⌝ }
+{
+    let placed = (below & (e.stamp < bound)) | (!below & (bound <= e.stamp));
+    if !placed {
+        return false;
+    }
+    !is_listed(b, listed, slots, e.request, e.coordinator)
+}
+
+// How many entries of a table are chosen.
+fn count_chosen(
+    t: &[u8],
+    c: usize,
+    b: &[u8],
+    listed: Listed,
+    slots: &[u16],
+    below: bool,
+    bound: u64,
+) -> usize
+    requires { ⌜ Table c (now t) × Lookup (now b) listed (now slots) ⌝ }
+    ensures { λ r. ⌜ r ≡ length (keep (listing.chosen (listedIn (now (b .entry)) listed) below bound) (tableAt c (now (t .entry)) 0)) ⌝ }
+{
+    let n = entries::count(t);
+    let mut found = 0;
+    let mut i = 0;
+    while i < n {
+        let e = entries::entry_of(t, c, i);
+        if chosen(b, listed, slots, below, bound, e) {
+            found += 1;
+        }
+        i += 1;
+    }
+    found
+}
+
+// Moves the entry whose turn it is to the front unless its transaction is listed or it is below the bound, and tells how many are kept then.
+fn sift(
+    t: &mut [u8],
+    c: usize,
+    turn: Turn,
+    b: &[u8],
+    listed: Listed,
+    slots: &[u16],
+    bound: u64,
+) -> usize
+    requires { ⌜ Table c (now t) × (turn .next < length (tableAt c (now t) 0)) × (turn .kept ≤ turn .next) × Lookup (now b) listed (now slots) ⌝ }
+    ensures { λ r. ⌜ (let stays = listing.chosen (listedIn (now (b .entry)) listed) false bound in
+        Holds c (moved stays noEntry (tableAt c (now (t .entry)) 0) (turn .next) (turn .kept)) (now (t .exit))
+        × (r ≡ movedTo stays noEntry (tableAt c (now (t .entry)) 0) (turn .next) (turn .kept))) ⌝ }
+{
+    let e = entries::entry_of(t, c, turn.next);
+    if !chosen(b, listed, slots, false, bound, e) {
+        return turn.kept;
+    }
+    entries::replace_at(t, c, turn.kept, e);
+    turn.kept + 1
+}
+
+// Takes out of a table the entries whose transactions are listed, and those below the bound, in one pass.
+pub fn leave(t: &mut [u8], c: usize, b: &[u8], listed: Listed, slots: &[u16], bound: u64)
+    requires { ⌜ Table c (now t) × Lookup (now b) listed (now slots) ⌝ }
+    ensures { λ _. ⌜ Holds c (keep (listing.chosen (listedIn (now (b .entry)) listed) false bound) (tableAt c (now (t .entry)) 0)) (now (t .exit)) ⌝ }
+{
+    let n = entries::count(t);
+    let mut kept = 0;
+    let mut i = 0;
+    while i < n {
+        let turn = Turn { next: i, kept };
+        kept = sift(t, c, turn, b, listed, slots, bound);
+        i += 1;
+    }
+    entries::truncate(t, c, kept);
+}
+
+// ---- the notes of those that are listed
+
+// Where note i stands.
+fn note_place(s: usize, i: usize) -> usize
+    requires { ⌜ (s ≤ 8) × (i ≤ 4096) ⌝ }
+    ensures { λ r. ⌜ (r ≡ 4 + noteLength s * i) × (r ≤ 319492) ⌝ }
+{
+    4 + (6 + 9 * s) * i
+}
+
+// Whether the transaction of note i is among those listed.
+fn note_listed(
+    t: &[u8],
+    c: usize,
+    s: usize,
+    i: usize,
+    b: &[u8],
+    listed: Listed,
+    slots: &[u16],
+) -> bool
+    requires { ⌜ Notes c s (now t) × (i < length (notesAt c s (now t))) × Lookup (now b) listed (now slots) ⌝ }
+    ensures { λ r. ⌜ r ≡ any (λ e. noteOf e (noteIn (notesAt c s (now (t .entry))) i)) (listedIn (now (b .entry)) listed) ⌝ }
+{
+    let at = note_place(s, i);
+    is_listed(
+        b,
+        listed,
+        slots,
+        octets::get32(t, at),
+        octets::get16(t, at + 4),
+    )
+}
+
+// Puts note i in the place of an earlier one.
+fn move_note(t: &mut [u8], c: usize, s: usize, kept: usize, i: usize)
+    requires { ⌜ Notes c s (now t) × (i < length (notesAt c s (now t))) × (kept ≤ i) ⌝ }
+    ensures { λ _. ⌜ NotesHold c s (set (notesAt c s (now (t .entry))) kept (noteIn (notesAt c s (now (t .entry))) i)) (now (t .exit)) ⌝ }
+{
+    let to = note_place(s, kept);
+    let from = note_place(s, i);
+    octets::move_down(t, to, from, 6 + 9 * s);
+}
+
+// Takes out the notes from place n on.
+fn truncate_notes(t: &mut [u8], c: usize, s: usize, n: usize)
+    requires { ⌜ Notes c s (now t) × (n ≤ length (notesAt c s (now t))) ⌝ }
+    ensures { λ _. ⌜ NotesHold c s (take n (notesAt c s (now (t .entry)))) (now (t .exit)) ⌝ }
+{
+    let m = notes::count(t);
+    let from = note_place(s, n);
+    octets::fill_zero(t, from, note_place(s, m) - from);
+    octets::put32(t, 0, n as u32);
+}
+
+// Moves the note whose turn it is to the front unless its transaction is listed, and tells how many are kept then.
+fn sift_note(
+    t: &mut [u8],
+    c: usize,
+    s: usize,
+    turn: Turn,
+    b: &[u8],
+    listed: Listed,
+    slots: &[u16],
+) -> usize
+    requires { ⌜ Notes c s (now t) × (turn .next < length (notesAt c s (now t))) × (turn .kept ≤ turn .next) × Lookup (now b) listed (now slots) ⌝ }
+    ensures { λ r. ⌜ (let gone = listedIn (now (b .entry)) listed in
+        NotesHold c s (moved (stays gone) noNote (notesAt c s (now (t .entry))) (turn .next) (turn .kept)) (now (t .exit))
+        × (r ≡ movedTo (stays gone) noNote (notesAt c s (now (t .entry))) (turn .next) (turn .kept))) ⌝ }
+{
+    if note_listed(t, c, s, turn.next, b, listed, slots) {
+        return turn.kept;
+    }
+    move_note(t, c, s, turn.kept, turn.next);
+    turn.kept + 1
+}
+
+// Takes out the notes of listed transactions, in one pass.
+pub fn leave_notes(t: &mut [u8], c: usize, s: usize, b: &[u8], listed: Listed, slots: &[u16])
+    requires { ⌜ Notes c s (now t) × Lookup (now b) listed (now slots) ⌝ }
+    ensures { λ _. ⌜ NotesHold c s (notesWithout (listedIn (now (b .entry)) listed) (notesAt c s (now (t .entry)))) (now (t .exit)) ⌝ }
+{
+    let n = notes::count(t);
+    let mut kept = 0;
+    let mut i = 0;
+    while i < n {
+        let turn = Turn { next: i, kept };
+        kept = sift_note(t, c, s, turn, b, listed, slots);
+        i += 1;
+    }
+    truncate_notes(t, c, s, kept);
+}
+
+// ---- early and late, one after the other in a slice, beside a log that is taken over
+
+// How long late becomes: what is not listed of late, and of early what is below the new log's last.
+pub fn late_after(t: &[u8], c: usize, b: &[u8], log: Listed, slots: &[u16], last: u64) -> usize
+    requires { ⌜ Both c (now t) × Lookup (now b) log (now slots) ⌝ }
+    ensures { λ r. ⌜ (let gone = listedIn (now (b .entry)) log in
+        r ≡ length (keep (listing.chosen gone false 0) (lateIn c (now (t .entry)))) + length (keep (listing.chosen gone true last) (earlyIn c (now (t .entry))))) ⌝ }
+{
+    let half = 4 + 24 * c;
+    let end = half + half;
+    let stay = count_chosen(&t[half..end], c, b, log, slots, false, 0);
+    stay + count_chosen(&t[0..half], c, b, log, slots, true, last)
+}
+
+// Puts early entry i after the last of late where it is not listed and below the new log's last.
+fn fall(t: &mut [u8], c: usize, i: usize, b: &[u8], log: Listed, slots: &[u16], last: u64)
+    requires { ⌜ (let falls = listing.chosen (listedIn (now b) log) true last in
+        Both c (now t) × (i < length (earlyIn c (now t))) × (falls (entryOf (earlyIn c (now t)) i) ≡ true → length (lateIn c (now t)) < c) × Lookup (now b) log (now slots)) ⌝ }
+    ensures { λ _. ⌜ (let falls = listing.chosen (listedIn (now (b .entry)) log) true last in
+        let e = entryOf (earlyIn c (now (t .entry))) i in
+        BothHold c (earlyIn c (now (t .entry))) (lateIn c (now (t .entry)) ++ pick (falls e) (e ∷ []) []) (now (t .exit))) ⌝ }
+{
+    let half = 4 + 24 * c;
+    let e = entries::entry_of(&t[0..half], c, i);
+    if !chosen(b, log, slots, true, last, e) {
+        return;
+    }
+    let end = half + half;
+    entries::append(&mut t[half..end], c, e);
+}
+
+// Puts the early entries that are not listed and below the new log's last after the last of late, in their order.
+fn fall_late(t: &mut [u8], c: usize, b: &[u8], log: Listed, slots: &[u16], last: u64)
+    requires { ⌜ (let falls = listing.chosen (listedIn (now b) log) true last in
+        Both c (now t) × (length (lateIn c (now t)) + length (keep falls (earlyIn c (now t))) ≤ c) × Lookup (now b) log (now slots)) ⌝ }
+    ensures { λ _. ⌜ (let falls = listing.chosen (listedIn (now (b .entry)) log) true last in
+        BothHold c (earlyIn c (now (t .entry))) (lateIn c (now (t .entry)) ++ keep falls (earlyIn c (now (t .entry)))) (now (t .exit))) ⌝ }
+{
+    let n = entries::count(t);
+    let mut i = 0;
+    while i < n {
+        fall(t, c, i, b, log, slots, last);
+        i += 1;
+    }
+}
+
+// Listed entries leave early and late, and what is left of early below the new log's last goes to late.
+pub fn settle(t: &mut [u8], c: usize, b: &[u8], log: Listed, slots: &[u16], last: u64)
+    requires { ⌜ (let chosen = listing.chosen (listedIn (now b) log) in
+        Both c (now t) × (length (keep (chosen false 0) (lateIn c (now t))) + length (keep (chosen true last) (earlyIn c (now t))) ≤ c) × Lookup (now b) log (now slots)) ⌝ }
+    ensures { λ _. ⌜ (let chosen = listing.chosen (listedIn (now (b .entry)) log) in
+        let early = earlyIn c (now (t .entry)) in
+        BothHold c (keep (chosen false last) early) (keep (chosen false 0) (lateIn c (now (t .entry))) ++ keep (chosen true last) early) (now (t .exit))) ⌝ }
+{
+    let half = 4 + 24 * c;
+    let end = half + half;
+    leave(&mut t[half..end], c, b, log, slots, 0);
+    fall_late(t, c, b, log, slots, last);
+    leave(&mut t[0..half], c, b, log, slots, last);
+}

@@ -1,0 +1,2 @@
+-- What the start of a member and the state's length promise.
+pub mod Statements

@@ -1,0 +1,32 @@
+-- `places::early` meets its contract. Assumes nothing.
+-- Made by tools/answers from the file `answers` beside it: change that one.
+use native.Mathlib.Omega.{arith}
+use Rattle.places.proofs.Midway.{early-here, table-is}
+use borrow.Author.Needs.{needs}
+use Rattle.places.proofs.early.Statement.{statement}
+use Rattle.places.proofs.early.Tie as tie
+
+places-of-requires : tie.Need-places-of-requires
+places-of-requires c κs = search needs
+
+sub-result : tie.Need-sub-result
+sub-result c = search needs
+
+part-result-start : tie.Need-part-result-start
+part-result-start c = search needs
+
+part-result-end : tie.Need-part-result-end
+part-result-end c = search needs
+
+returns : tie.Need-returns
+returns c = table-is (early-here (c .before .before .before .pre) _ _ (c .before .places-of .ensures .early) (c .before .places-of .ensures .late))
+
+pub early-spec : {M : Type 1} → statement M
+early-spec =
+    tie.close
+    (tie.spec
+    places-of-requires
+    sub-result
+    part-result-start
+    part-result-end
+    returns)

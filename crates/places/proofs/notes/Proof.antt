@@ -1,0 +1,32 @@
+-- `places::notes` meets its contract. Assumes nothing.
+-- Made by tools/answers from the file `answers` beside it: change that one.
+use native.Mathlib.Omega.{arith}
+use Rattle.places.proofs.Midway.{notes-here, notes-are}
+use borrow.Author.Needs.{needs}
+use Rattle.places.proofs.notes.Statement.{statement}
+use Rattle.places.proofs.notes.Tie as tie
+
+places-of-requires : tie.Need-places-of-requires
+places-of-requires c κs = search needs
+
+sub-result : tie.Need-sub-result
+sub-result c = search needs
+
+part-result-start : tie.Need-part-result-start
+part-result-start c = search needs
+
+part-result-end : tie.Need-part-result-end
+part-result-end c = search needs
+
+returns : tie.Need-returns
+returns c = notes-are (notes-here (c .before .before .before .pre) _ _ (c .before .places-of .ensures .notes) (c .before .places-of .ensures .votes))
+
+pub notes-spec : {M : Type 1} → statement M
+notes-spec =
+    tie.close
+    (tie.spec
+    places-of-requires
+    sub-result
+    part-result-start
+    part-result-end
+    returns)

@@ -1,0 +1,60 @@
+-- The ways through a step. Assumes nothing.
+use Prim.Native.Nat.{ℕ}
+use mathlib.Core.Path.{_≡_, refl, sym, _∙_}
+use mathlib.Core.Bool.{Bool, true, false, not, true≢false, and-false}
+use mathlib.Core.List.{List, []}
+use lib.ListN.{length}
+use lib.Dec.{eqb}
+use borrow.Author.Tests.{ne-eqb, eqb-false}
+use Rattle.rules.specs.Choice.{pick}
+use Rattle.rules.specs.Group.{shapeFits}
+use Rattle.rules.specs.Wire.{tagOf}
+use Rattle.rules.specs.Read.{wireIn, decoded}
+use Rattle.rules.specs.Image.{stateLength, stateOf, goodBytes}
+use Rattle.rules.specs.Step.{handle}
+use Rattle.rules.specs.Bytes.{Left, leaves, closes, stepBytes}
+use Rattle.rules.specs.declared.Shape.{Shape}
+use Rattle.rules.specs.declared.Message.{Message}
+use Rattle.places.specs.Layout.{lengthFor, Stands}
+use Rattle.places.proofs.Sections.{stands}
+use Rattle.handler.specs.Handler.{Ready}
+use Rattle.admit.specs.Refusal.{refusalOf}
+use Rattle.admit.proofs.Steps.{refused-step, handled-step, ready}
+
+-- bytes of another length than a state has
+pub wrong-length : (sh : Shape) (b : List ℕ) (n : ℕ) → n ≡ lengthFor sh → (length b ≡ n → ⊥) → false ≡ goodBytes sh b
+unfolding goodBytes lengthFor pick
+wrong-length sh b n e h = go (shapeFits sh) refl
+  where
+    go : (f : Bool) → shapeFits sh ≡ f → false ≡ goodBytes sh b
+    go false g = simp g
+    go true g =
+        let z : n ≡ stateLength sh = e ∙ rw g in
+        let q : eqb (length b) (stateLength sh) ≡ false = ne-eqb _ _ (λ y. h (y ∙ sym z)) in
+        simp (q, and-false)
+
+pub told-long : (sh : Shape) (b : List ℕ) (n : ℕ) → n ≡ lengthFor sh → eqb (length b) n ≡ false → false ≡ goodBytes sh b
+told-long sh b n e h = wrong-length sh b n e (eqb-false (length b) n h)
+
+-- bytes that are no good state
+pub not-good : (sh : Shape) (b msg out : List ℕ) (g : Bool) → g ≡ goodBytes sh b → not g ≡ true → leaves 1 b out ≡ stepBytes sh b msg out
+unfolding stepBytes pick
+not-good sh b msg out true e f = absurd (true≢false (sym f))
+not-good sh b msg out false e f = rw (sym e)
+
+pub is-good : (sh : Shape) (b : List ℕ) (g : Bool) → g ≡ goodBytes sh b → not g ≡ false → goodBytes sh b ≡ true
+is-good sh b true e f = sym e
+is-good sh b false e f = absurd (true≢false f)
+
+pub good-stands : (sh : Shape) (b : List ℕ) (g : Bool) → g ≡ goodBytes sh b → not g ≡ false → Stands sh (stateOf sh b) b
+good-stands sh b g e f = stands sh b (is-good sh b g e f)
+
+module _ (sh : Shape) (b msg : List ℕ) (m : Message) (r : ℕ) (g : Bool) (e : g ≡ goodBytes sh b) (f : not g ≡ false) (d : m ≡ decoded (sh .n) (sh .s) msg) (q : r ≡ refusalOf sh (stateOf sh b) (tagOf m) (wireIn (sh .s) msg)) where
+  pub is-ready : r ≡ 0 → Ready sh b m msg
+  is-ready n = ready sh b msg [] m r (is-good sh b g e f) d q n
+
+  pub by-refusal : (out : List ℕ) → (r ≡ 0 → ⊥) → leaves r b out ≡ stepBytes sh b msg out
+  by-refusal out n = refused-step sh b msg out m r (is-good sh b g e f) d q n
+
+  pub by-handler : (out : List ℕ) (x : Left) → r ≡ 0 → x ≡ closes sh b out (handle (tagOf m) sh (stateOf sh b) (wireIn (sh .s) msg)) → x ≡ stepBytes sh b msg out
+  by-handler out x n h = h ∙ handled-step sh b msg out m r (is-good sh b g e f) d q n

@@ -1,0 +1,207 @@
+// Room for the slots by which a call tests for repeats and finds rows: chosen here, once, by the capacity and by how long a message is, and lent down.
+// A call in a small group needs little of the stack; a long message gets the largest room, whatever the group's capacity.
+use rules::Answer;
+use rules::Message;
+use rules::Shape;
+use rules::refusal;
+ghost use mathlib.Core.Path.{_≡_};
+ghost use mathlib.Core.Bool.{false};
+ghost use Rattle.rules.specs.Read.{decoded};
+ghost use Rattle.rules.specs.Write.{written, writes};
+ghost use Rattle.rules.specs.Image.{goodBytes};
+ghost use Rattle.rules.specs.Bytes.{left, stepBytes};
+
+// The longest message whose log the 512 slots serve, and the longest that the 2,400 serve: two slots for an entry, and a path's length.
+const SHORT_MESSAGE: usize = 4096;
+
+const MIDDLE_MESSAGE: usize = 28000;
+
+// ---- the check of a state
+
+// Whether the bytes are as long as a state of these sizes: what is not is refused before any room is taken.
+fn has_length(shape: Shape, state: &[u8]) -> bool
+    ensures { λ r. ⌜ (r ≡ false → false ≡ goodBytes shape (now (state .entry))) ⌝ }
+{
+    state.len() as u64 == fresh::state_length(shape.n, shape.s, shape.c)
+}
+
+// With room for a capacity of 16: 48 rows at most.
+fn good_few(shape: Shape, state: &[u8]) -> bool
+    ensures { λ r. ⌜ r ≡ goodBytes shape (now (state .entry)) ⌝ }
+{
+    let mut slots = [0u16; 512];
+    good::good(shape, state, &mut slots)
+}
+
+// With room for a capacity of 256: 768 rows.
+fn good_more(shape: Shape, state: &[u8]) -> bool
+    ensures { λ r. ⌜ r ≡ goodBytes shape (now (state .entry)) ⌝ }
+{
+    let mut slots = [0u16; 2400];
+    good::good(shape, state, &mut slots)
+}
+
+// With room for the largest capacity.
+fn good_many(shape: Shape, state: &[u8]) -> bool
+    ensures { λ r. ⌜ r ≡ goodBytes shape (now (state .entry)) ⌝ }
+{
+    let mut slots = [0u16; 33032];
+    good::good(shape, state, &mut slots)
+}
+
+// Whether the bytes are those of a good state.
+pub fn good(shape: Shape, state: &[u8]) -> bool
+    ensures { λ r. ⌜ r ≡ goodBytes shape (now (state .entry)) ⌝ }
+{
+    if !has_length(shape, state) {
+        return false;
+    }
+    if shape.c <= 16 {
+        return good_few(shape, state);
+    }
+    if shape.c <= 256 {
+        return good_more(shape, state);
+    }
+    good_many(shape, state)
+}
+
+// ---- a message read
+
+// With room for a short message.
+fn read_few(n: u64, s: u64, message: &[u8]) -> Message
+    ensures { λ r. ⌜ r ≡ decoded n s (now (message .entry)) ⌝ }
+{
+    let mut slots = [0u16; 512];
+    wire::read(n, s, message, &mut slots)
+}
+
+// With room for one of a thousand entries.
+fn read_more(n: u64, s: u64, message: &[u8]) -> Message
+    ensures { λ r. ⌜ r ≡ decoded n s (now (message .entry)) ⌝ }
+{
+    let mut slots = [0u16; 2400];
+    wire::read(n, s, message, &mut slots)
+}
+
+// With room for any that a group of the largest capacity sends.
+fn read_many(n: u64, s: u64, message: &[u8]) -> Message
+    ensures { λ r. ⌜ r ≡ decoded n s (now (message .entry)) ⌝ }
+{
+    let mut slots = [0u16; 33032];
+    wire::read(n, s, message, &mut slots)
+}
+
+// What the bytes of a message say.
+pub fn read(n: u64, s: u64, message: &[u8]) -> Message
+    ensures { λ r. ⌜ r ≡ decoded n s (now (message .entry)) ⌝ }
+{
+    if message.len() <= SHORT_MESSAGE {
+        return read_few(n, s, message);
+    }
+    if message.len() <= MIDDLE_MESSAGE {
+        return read_more(n, s, message);
+    }
+    read_many(n, s, message)
+}
+
+// ---- a message written
+
+// With room for a few entries.
+fn write_few(n: u64, s: u64, m: Message, views: &[u8], entries: &[u8], out: &mut [u8]) -> Answer
+    ensures { λ r. ⌜ written r (now (out .exit)) ≡ writes n s m (now (views .entry)) (now (entries .entry)) (now (out .entry)) ⌝ }
+{
+    let mut slots = [0u16; 512];
+    wire::write(n, s, m, views, entries, out, &mut slots)
+}
+
+// With room for a thousand.
+fn write_more(n: u64, s: u64, m: Message, views: &[u8], entries: &[u8], out: &mut [u8]) -> Answer
+    ensures { λ r. ⌜ written r (now (out .exit)) ≡ writes n s m (now (views .entry)) (now (entries .entry)) (now (out .entry)) ⌝ }
+{
+    let mut slots = [0u16; 2400];
+    wire::write(n, s, m, views, entries, out, &mut slots)
+}
+
+// With room for a log of the largest capacity.
+fn write_many(n: u64, s: u64, m: Message, views: &[u8], entries: &[u8], out: &mut [u8]) -> Answer
+    ensures { λ r. ⌜ written r (now (out .exit)) ≡ writes n s m (now (views .entry)) (now (entries .entry)) (now (out .entry)) ⌝ }
+{
+    let mut slots = [0u16; 33032];
+    wire::write(n, s, m, views, entries, out, &mut slots)
+}
+
+// Writes a message with these views and entries.
+pub fn write(n: u64, s: u64, m: Message, views: &[u8], entries: &[u8], out: &mut [u8]) -> Answer
+    ensures { λ r. ⌜ written r (now (out .exit)) ≡ writes n s m (now (views .entry)) (now (entries .entry)) (now (out .entry)) ⌝ }
+{
+    if entries.len() <= SHORT_MESSAGE {
+        return write_few(n, s, m, views, entries, out);
+    }
+    if entries.len() <= MIDDLE_MESSAGE {
+        return write_more(n, s, m, views, entries, out);
+    }
+    write_many(n, s, m, views, entries, out)
+}
+
+// ---- a step
+
+// One step by the slots that are lent: the tests in the order of the table, and then the handler of the message's kind.
+fn step_in(
+    shape: Shape,
+    state: &mut [u8],
+    message: &[u8],
+    out: &mut [u8],
+    slots: &mut [u16],
+) -> Answer
+    ensures { λ r. ⌜ left r (now (state .exit)) (now (out .exit)) ≡ stepBytes shape (now (state .entry)) (now (message .entry)) (now (out .entry)) ⌝ }
+{
+    if !good::good(shape, state, slots) {
+        return Answer::Refused(refusal::WRONG_STATE);
+    }
+    let m = wire::read(shape.n, shape.s, message, slots);
+    let number = admit::refusal(shape, state, m, message);
+    if number != 0 {
+        return Answer::Refused(number);
+    }
+    dispatch::handle(shape, state, m, message, out, slots)
+}
+
+// With room for a capacity of 16 and a short message.
+fn step_few(shape: Shape, state: &mut [u8], message: &[u8], out: &mut [u8]) -> Answer
+    ensures { λ r. ⌜ left r (now (state .exit)) (now (out .exit)) ≡ stepBytes shape (now (state .entry)) (now (message .entry)) (now (out .entry)) ⌝ }
+{
+    let mut slots = [0u16; 512];
+    step_in(shape, state, message, out, &mut slots)
+}
+
+// With room for a capacity of 256, four logs of it for a rebuild, and a message of a thousand entries.
+fn step_more(shape: Shape, state: &mut [u8], message: &[u8], out: &mut [u8]) -> Answer
+    ensures { λ r. ⌜ left r (now (state .exit)) (now (out .exit)) ≡ stepBytes shape (now (state .entry)) (now (message .entry)) (now (out .entry)) ⌝ }
+{
+    let mut slots = [0u16; 2400];
+    step_in(shape, state, message, out, &mut slots)
+}
+
+// With room for the largest capacity, and four logs of it for a rebuild.
+fn step_many(shape: Shape, state: &mut [u8], message: &[u8], out: &mut [u8]) -> Answer
+    ensures { λ r. ⌜ left r (now (state .exit)) (now (out .exit)) ≡ stepBytes shape (now (state .entry)) (now (message .entry)) (now (out .entry)) ⌝ }
+{
+    let mut slots = [0u16; 33032];
+    step_in(shape, state, message, out, &mut slots)
+}
+
+// One step: the next state's bytes and the outgoing messages, or the lowest number of the table that applies and all as it came.
+pub fn step(shape: Shape, state: &mut [u8], message: &[u8], out: &mut [u8]) -> Answer
+    ensures { λ r. ⌜ left r (now (state .exit)) (now (out .exit)) ≡ stepBytes shape (now (state .entry)) (now (message .entry)) (now (out .entry)) ⌝ }
+{
+    if !has_length(shape, state) {
+        return Answer::Refused(refusal::WRONG_STATE);
+    }
+    if (shape.c <= 16) & (message.len() <= SHORT_MESSAGE) {
+        return step_few(shape, state, message, out);
+    }
+    if (shape.c <= 256) & (message.len() <= MIDDLE_MESSAGE) {
+        return step_more(shape, state, message, out);
+    }
+    step_many(shape, state, message, out)
+}

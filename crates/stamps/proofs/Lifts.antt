@@ -1,0 +1,106 @@
+-- A note, an early entry added, and the early entry that is lifted, in the bytes of a state on the way. Assumes nothing.
+use Prim.Native.Nat.{ℕ, _+_, _*_, _≤_, _<_}
+use mathlib.Core.Path.{_≡_, sym, ap, subst, _∙_}
+use mathlib.Core.Bool.{Bool, true, false, not}
+use mathlib.Core.Option.{Option}
+use mathlib.Core.List.{List, [], _∷_, _++_}
+use native.Mathlib.Omega.{arith}
+use lib.ListN.{length, set}
+use borrow.Author.Tests.{le-ltb}
+use Rattle.octets.specs.Bytes.{num}
+use Rattle.rules.specs.Choice.{isSome}
+use Rattle.rules.specs.Entry.{entryOf, sameTxn, stamped, among}
+use Rattle.rules.specs.Log.{distinct}
+use Rattle.rules.specs.State.{Note, State, withWaiting, noted, agreed, greatest}
+use Rattle.rules.specs.Read.{entryAt}
+use Rattle.rules.specs.Image.{tableAt, image, stateOf}
+use Rattle.rules.specs.Early.{lifted}
+use Rattle.rules.specs.Step.{buffered}
+use Rattle.rules.specs.declared.Entry.{Entry}
+use Rattle.rules.specs.declared.Shape.{Shape}
+use Rattle.rules.proofs.Choice.{all-map, any-none, pairs-append}
+use Rattle.rules.proofs.Order.{txn-turns}
+use Rattle.rules.proofs.Logs.{Apart, distinct-pairs, pairs-distinct}
+use Rattle.entries.specs.First.{findRow}
+use Rattle.entries.specs.Table.{Holds, Table}
+use Rattle.entries.proofs.First.{found-row}
+use Rattle.entries.proofs.Table.{entry-in, row-among}
+use Rattle.logs.proofs.Every.{when-not, unless-not}
+use Rattle.notes.specs.Notes.{said}
+use Rattle.notes.specs.declared.Point.{Point}
+use Rattle.notes.specs.declared.Point.the-variants.{Unheard, Heard}
+use Rattle.places.specs.Layout.{Midway}
+use Rattle.places.proofs.Sections.{midway-is}
+use Rattle.stamps.proofs.Lifted.{lifted-absent, lifted-waits, lifted-here}
+
+-- ---- what a note says
+
+module _ (xs ys : List Note) (x : Entry) (j : ℕ) (p : Point) (e : xs ≡ ys) (q : said p ≡ noted xs x j) where
+  pub not-noted : p ≡ Unheard → false ≡ isSome (noted ys x j)
+  not-noted w = ap (λ (y : Option ℕ). isSome y) (sym (ap said w) ∙ q ∙ ap (λ (zs : List Note). noted zs x j) e)
+
+  pub was-noted : (t : ℕ) → p ≡ Heard t → true ≡ isSome (noted ys x j)
+  was-noted t w = ap (λ (y : Option ℕ). isSome y) (sym (ap said w) ∙ q ∙ ap (λ (zs : List Note). noted zs x j) e)
+
+-- ---- the ways of lifting
+
+-- a state with these early entries
+abbrev pub earlyIn : State → List Entry → State
+earlyIn st es = withWaiting (record { early = es; late = st .waiting .late; notes = st .waiting .notes }) st
+
+module _ {sh : Shape} {st : State} {b : List ℕ} (m : Midway sh st b) (o : distinct (st .waiting .early) ≡ true) (t : List ℕ) (g : Table (sh .c) t) (e : tableAt (sh .c) t 0 ≡ st .waiting .early) (x : Entry) (n i : ℕ) (q : n ≡ num t 0 4) (f : i ≡ findRow (λ j. entryAt t (4 + 24 * j)) (x .request) (x .coordinator) n) where
+  held : Holds (sh .c) (st .waiting .early) t
+  held = subst (λ (es : List Entry). Holds (sh .c) es t) e g
+
+  counted : n ≡ length (st .waiting .early)
+  counted = q ∙ held .count
+
+  -- it is one of those in the table
+  pub lift-within : i < n → i < length (tableAt (sh .c) t 0)
+  lift-within h = omega (arith, counted, ap length e)
+
+  pub lift-absent : n ≤ i → Midway sh (earlyIn st (lifted sh (st .waiting .notes) x (st .waiting .early))) b
+  lift-absent h =
+      let a : among (st .waiting .early) x ≡ false = sym (row-among (sh .c) (st .waiting .early) t held x n i counted f) ∙ le-ltb i n h in
+      rw (lifted-absent sh (st .waiting .notes) x (st .waiting .early) a) m
+
+  module _ (h : i < n) (d : Entry) (p : d ≡ entryOf (tableAt (sh .c) t 0) i) (xs : List Note) (z : xs ≡ st .waiting .notes) where
+    low : i < length (st .waiting .early)
+    low = omega (arith, counted)
+
+    found : d ≡ entryOf (st .waiting .early) i
+    found = p ∙ ap (λ (es : List Entry). entryOf es i) e
+
+    named : sameTxn x (entryOf (st .waiting .early) i) ≡ true
+    named = ap (sameTxn x) (sym (entry-in (sh .c) (st .waiting .early) t held i low)) ∙ found-row (λ j. entryAt t (4 + 24 * j)) x n i f h
+
+    pub lift-waits : (r : Bool) → r ≡ agreed sh xs d → not r ≡ true → Midway sh (earlyIn st (lifted sh (st .waiting .notes) x (st .waiting .early))) b
+    lift-waits r a y = rw (lifted-waits sh (st .waiting .notes) x (st .waiting .early) o i low named (sym (rw (z, found) at a) ∙ when-not r y)) m
+
+    pub lift-here : (r : Bool) (v : ℕ) (b′ : List ℕ) → r ≡ agreed sh xs d → not r ≡ false → v ≡ greatest sh xs d → (y : Entry) → y ≡ stamped v d → Midway sh (earlyIn st (set (st .waiting .early) i y)) b′ → Midway sh (earlyIn st (lifted sh (st .waiting .notes) x (st .waiting .early))) b′
+    lift-here r v b′ a u w y k l =
+        let s : y ≡ stamped (greatest sh (st .waiting .notes) (entryOf (st .waiting .early) i)) (entryOf (st .waiting .early) i) = k ∙ rw (w, z) (ap (λ (c : Entry). stamped (greatest sh (st .waiting .notes) c) c) found) in
+        rw (lifted-here sh (st .waiting .notes) x (st .waiting .early) o i low named (sym (rw (z, found) at a) ∙ unless-not r u)) (rw s at l)
+
+-- ---- an early entry added
+
+module _ {sh : Shape} {b : List ℕ} (st : State) (es : List Entry) (m : Midway sh (earlyIn st es) b) where
+  -- with a transaction that was not there
+  pub added-once : (ds : List Entry) (e : Entry) → es ≡ ds ++ (e ∷ []) → distinct ds ≡ true → among ds e ≡ false → distinct (stateOf sh b .waiting .early) ≡ true
+  added-once ds e q o a =
+      ap (λ (x : State). distinct (x .waiting .early)) (midway-is m)
+      ∙ ap distinct q
+      ∙ pairs-distinct (ds ++ (e ∷ []))
+      (pairs-append Apart ds (e ∷ []) (distinct-pairs ds o) (tt, tt) (all-map (λ d h. (txn-turns d e ∙ h, tt)) ds (any-none (sameTxn e) ds a)))
+
+  pub added-row : (p : List Note → Type 0) → p (st .waiting .notes) → p (stateOf sh b .waiting .notes)
+  added-row p h = subst (λ (x : State). p (x .waiting .notes)) (sym (midway-is m)) h
+
+-- ---- a note kept, and the early entry lifted by it
+
+module _ {sh : Shape} {b : List ℕ} (st : State) (xs : List Note) (m : Midway sh (withWaiting (record { early = st .waiting .early; late = st .waiting .late; notes = xs }) st) b) where
+  pub still-once : distinct (st .waiting .early) ≡ true → distinct (stateOf sh b .waiting .early) ≡ true
+  still-once o = ap (λ (x : State). distinct (x .waiting .early)) (midway-is m) ∙ o
+
+  pub kept-lifted : (e : Entry) (b′ : List ℕ) → Midway sh (earlyIn (stateOf sh b) (lifted sh (stateOf sh b .waiting .notes) e (stateOf sh b .waiting .early))) b′ → b′ ≡ image sh (buffered st (lifted sh xs e (st .waiting .early)) (st .waiting .late) xs)
+  kept-lifted e b′ k = k .bytes ∙ ap (λ (x : State). image sh (earlyIn x (lifted sh (x .waiting .notes) e (x .waiting .early)))) (midway-is m)

@@ -1,2 +1,0 @@
--- A state on the way.
-pub mod Midway
