@@ -6,11 +6,11 @@ use mathlib.Core.List.{List, []}
 use native.Mathlib.Omega.{arith}
 use lib.ListN.{length}
 use lib.Dec.{ltb, leb}
-use borrow.Author.Tests.{ltb-true, ltb-false, le-leb, lt-leb}
+use borrow.Author.Tests.{ltb-true, ltb-false, le-leb, lt-leb, not-true, not-false}
 use Rattle.rules.specs.Choice.{pick, isSome, any}
 use Rattle.rules.specs.Entry.{among}
 use Rattle.rules.specs.Wire.{Wire, firstEntry, tagOf, headerIn}
-use Rattle.rules.specs.Kind.{known, fromOutside, rowOf}
+use Rattle.rules.specs.Kind.{known, rowOf}
 use Rattle.rules.specs.Read.{wireIn}
 use Rattle.rules.specs.State.{Note, State, noted}
 use Rattle.rules.specs.Image.{image, stateOf}
@@ -23,7 +23,6 @@ use Rattle.rules.specs.declared.Shape.{Shape}
 use Rattle.rules.specs.declared.Message.{Message}
 use Rattle.rules.specs.declared.Message.the-variants as cases
 use Rattle.rules.proofs.Choice.{by-cases}
-use Rattle.logs.proofs.Every.{when-not, unless-not}
 use Rattle.notes.specs.Notes.{row}
 use Rattle.notes.proofs.Row.{length-kept}
 use Rattle.places.proofs.Sections.{stands-fits}
@@ -101,11 +100,11 @@ module _ (sh : Shape) (b msg out : List ℕ) (m : Message) (h : Header) (r : Rea
         room = room-is sh x j (x .stamp) (st .waiting .notes) (stands-fits (r .stands) .notes .room) ∙ sym g
 
         pub full-way : not p ≡ true → leaves 8 b out ≡ handled 3 onNote sh m b msg out
-        full-way k = refuses 3 onNote sh b msg out m own 8 (full sh st _ x j q from-is (sym a ∙ z) (sym v ∙ y) (room ∙ when-not p k))
+        full-way k = refuses 3 onNote sh b msg out m own 8 (full sh st _ x j q from-is (sym a ∙ z) (sym v ∙ y) (room ∙ not-true p k))
 
         pub kept-way : (b′ : List ℕ) → not p ≡ false → b′ ≡ image sh (buffered st (lifted sh (keepNote sh x j (x .stamp) (st .waiting .notes)) x (st .waiting .early)) (st .waiting .late) (keepNote sh x j (x .stamp) (st .waiting .notes))) → quiet b′ out ≡ handled 3 onNote sh m b msg out
-        kept-way b′ k = keeps 3 onNote sh b msg out m own _ b′ (fits sh st _ x j q from-is (sym a ∙ z) (sym v ∙ y) (room ∙ unless-not p k))
+        kept-way b′ k = keeps 3 onNote sh b msg out m own _ b′ (fits sh st _ x j q from-is (sym a ∙ z) (sym v ∙ y) (room ∙ not-false p k))
 
 -- there is room for the note that is kept
 pub room-below : (a c : ℕ) (p : Bool) → p ≡ ltb a c → not p ≡ false → a < c
-room-below a c p g k = ltb-true a c (sym g ∙ unless-not p k)
+room-below a c p g k = ltb-true a c (sym g ∙ not-false p k)

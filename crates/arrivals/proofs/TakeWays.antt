@@ -7,7 +7,7 @@ use native.Mathlib.Omega.{arith}
 use native.Mathlib.Nat.{mul-le-mul}
 use lib.ListN.{length, replicate, length-replicate}
 use lib.Dec.{ltb, leb}
-use borrow.Author.Tests.{le-leb, lt-leb}
+use borrow.Author.Tests.{le-leb, lt-leb, not-true, not-false}
 use Rattle.octets.specs.Bytes.{splice, flat}
 use Rattle.octets.proofs.Sections.{splice-whole}
 use Rattle.rules.specs.Kind.{rowOf}
@@ -25,7 +25,6 @@ use Rattle.rules.specs.declared.Entry.{Entry}
 use Rattle.rules.specs.declared.Shape.{Shape}
 use Rattle.rules.proofs.Choice.{all-given}
 use Rattle.rules.proofs.Entries.{EntryFits, long-entry}
-use Rattle.logs.proofs.Every.{when-not, unless-not}
 use Rattle.notes.specs.Notes.{row}
 use Rattle.places.specs.Layout.{Midway, Stands}
 use Rattle.places.proofs.Sections.{midway-is, stands-fits, stands-laid}
@@ -143,11 +142,11 @@ module _ (sh : Shape) (b out : List ℕ) (e : Entry) (s : Stands sh (stateOf sh 
     room = room-is sh e (st′ .site .group) (e .stamp) (st′ .waiting .notes) (stands-fits s .notes .room) ∙ sym g
 
     pub note-full : not p ≡ true → leaves 8 b out ≡ closes sh b out (leaderTakes sh st′ e)
-    note-full z = sym (ap (closes sh b out) (no-note sh st′ e (rw k at h) (room ∙ when-not p z)) ∙ closes-refused sh b out 8)
+    note-full z = sym (ap (closes sh b out) (no-note sh st′ e (rw k at h) (room ∙ not-true p z)) ∙ closes-refused sh b out 8)
 
     module _ (z : not p ≡ false) (need : ℕ) (d : need ≡ length (flat wireBytes (noteSends sh st′ e))) where
       done-so : leaderTakes sh st′ e ≡ done (takenEarly sh st′ e) (noteSends sh st′ e)
-      done-so = to-both sh st′ e (rw k at h) (room ∙ unless-not p z)
+      done-so = to-both sh st′ e (rw k at h) (room ∙ not-false p z)
 
       pub out-full : length out < need → leaves 9 b out ≡ closes sh b out (leaderTakes sh st′ e)
       out-full l = sym (ap (closes sh b out) done-so ∙ closes-tight sh b out (takenEarly sh st′ e) (noteSends sh st′ e) (rw d at l))

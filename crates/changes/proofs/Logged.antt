@@ -1,5 +1,5 @@
 -- The log as it stands in the state, and the messages that carry it. Assumes nothing.
-use Prim.Native.Nat.{ℕ, _+_, _*_, _-_, _%_, _^_, _≤_, _<_}
+use Prim.Native.Nat.{ℕ, _+_, _*_, _-_, _%_, _^_, _<_}
 use mathlib.Core.Path.{_≡_, refl, ap, _∙_}
 use mathlib.Core.List.{List, [], _∷_, _++_, append-assoc}
 use native.Mathlib.Omega.{arith}
@@ -27,8 +27,9 @@ use Rattle.places.proofs.Sections.{Laid, drop-all, get-in}
 use Rattle.places.proofs.Head.{get-head}
 use Rattle.places.proofs.Logged.{log-long}
 use Rattle.handler.specs.Sending.{messageBytes, headedIn, leaderIn}
-use Rattle.handler.proofs.Sends.{Sender, sent-length, own-group, own-replica, view-in, message-sent}
+use Rattle.handler.proofs.Sends.{Sender, sent-length, own-group, own-replica, message-sent}
 use Rattle.changes.specs.Changes.{logIn, voteIn, startIn}
+use Rattle.places.proofs.Kept.{view-at}
 
 -- the log as it is lent
 pub log-lent : (sh : Shape) (b : List ℕ) (start count end : ℕ) → start ≡ startOf sh atLog + 4 → count ≡ length (stateOf sh b .logged .log) → end ≡ start + 24 * count → take (end - start) (drop start b) ≡ logIn sh b
@@ -84,7 +85,7 @@ module _ {sh : Shape} {st : State} {b : List ℕ} (l : Laid sh st b) (t : TableF
         let en : num b 12 4 ≡ st .view .normal = get-head l 5 12 4 (st .view .normal) (lit< tt) (simp length-le) (lit≤ tt) refl fn in
         let es : num b 24 8 ≡ st .logged .sync = get-head l 7 24 8 (st .logged .sync) (lit< tt) (simp length-le) (lit≤ tt) refl fs in
         message-sent l f (voteIn sh b) (logIn sh b) 8 (st .site .group) (only (leader (sh .n) (st .view .gVec) (st .site .group))) (st .view .normal ∷ st .logged .sync ∷ []) (st .logged .log)
-        (ap (λ (g : ℕ). headedIn b 8 g (only (leaderIn sh b g))) (own-group l f) ∙ ap (λ (v : ℕ). headedIn b 8 (st .site .group) (only (v % sh .n))) (view-in l f (st .site .group) h))
+        (ap (λ (g : ℕ). headedIn b 8 g (only (leaderIn sh b g))) (own-group l f) ∙ ap (λ (v : ℕ). headedIn b 8 (st .site .group) (only (v % sh .n))) (view-at l (f .places) (f .gVec) (st .site .group) h))
         (rw (en, es)) (log-block z) (t .each)
 
     pub vote-long : length (wireBytes (sendLeader sh st 8 (st .site .group) (st .view .normal ∷ st .logged .sync ∷ []) (st .logged .log))) ≡ lengthFor (sh .s) 8 (length (st .logged .log))

@@ -17,8 +17,8 @@ use Rattle.rules.specs.Image.{noteLength, zeroBytes, noteBytes, noteAt, notesSe
 use Rattle.rules.specs.declared.Entry.{Entry}
 use Rattle.rules.proofs.Tests.{all-at, all-1}
 use Rattle.rules.proofs.Tables.{NoteFits, note}
+use Rattle.rules.proofs.Choice.{all-take, all-drop}
 use Rattle.entries.specs.First.{isOf}
-use Rattle.entries.proofs.Table.{all-take, all-drop}
 use Rattle.notes.specs.Notes.{noNote, noteIn, notesAt, NotesHold, Notes}
 use Rattle.notes.proofs.Notes.{hold, note-in, decoded, is-notes}
 use Rattle.places.proofs.Rows.{Even, within, get-row, set-row}

@@ -56,12 +56,6 @@ unfolding seenKey seenBefore
 seen-is f key x e k zero h = refl
 seen-is f key x e k (suc i) h = rw (seen-is f key x e k i (λ j l. h j (omega arith)), key-is (key i) x (f i) e (h i (omega arith)) k)
 
--- it asks for the first i entries alone
-pub seen-like : (f g : ℕ → Entry) (e : Entry) (i : ℕ) → ((j : ℕ) → j < i → f j ≡ g j) → seenBefore f e i ≡ seenBefore g e i
-unfolding seenBefore
-seen-like f g e zero h = refl
-seen-like f g e (suc i) h = rw (seen-like f g e i (λ j l. h j (omega arith)), h i (omega arith))
-
 -- the row of a key is that of its transaction
 pub row-keyed : (f : ℕ → Entry) (key : ℕ → ℕ) (x : ℕ) (e : Entry) (n : ℕ) → Keyed x e → ((i : ℕ) → i < n → Keyed (key i) (f i)) → rowOf key x n ≡ findRow f (e .request) (e .coordinator) n
 unfolding rowOf

@@ -1,10 +1,10 @@
 -- A table's bytes and its entries, and what each write leaves of them. Assumes nothing.
-use Prim.Native.Nat.{ℕ, zero, suc, _+_, _*_, _≤_, _<_, min}
+use Prim.Native.Nat.{ℕ, _+_, _*_, _≤_, _<_, min}
 use mathlib.Core.Path.{_≡_, refl, sym, ap, subst, _∙_}
 use mathlib.Core.Bool.{Bool}
-use mathlib.Core.List.{List, [], _∷_, _++_, append-nil}
+use mathlib.Core.List.{List, [], append-nil}
 use native.Mathlib.Omega.{arith}
-use lib.ListN.{length, take, drop}
+use lib.ListN.{length}
 use lib.Dec.{ltb}
 use Rattle.octets.specs.Bytes.{num, items}
 use Rattle.octets.proofs.Codecs.{All, back-number, getD-items}
@@ -19,23 +19,6 @@ use Rattle.repeats.proofs.Laws.{first-agree}
 use Rattle.entries.specs.First.{findRow}
 use Rattle.entries.specs.Table.{Holds, Table}
 use Rattle.entries.proofs.First.{among-row}
-
--- ---- what is true of each element, of parts of a list
-
-module _ {A : Type 0} (P : A → Type 0) where
-  pub all-append : (xs ys : List A) → All P xs → All P ys → All P (xs ++ ys)
-  all-append [] ys p q = q
-  all-append (x ∷ xs) ys p q = (p .0, all-append xs ys (p .1) q)
-
-  pub all-take : (n : ℕ) (xs : List A) → All P xs → All P (take n xs)
-  all-take zero xs p = tt
-  all-take (suc n) [] p = tt
-  all-take (suc n) (x ∷ xs) p = (p .0, all-take n xs (p .1))
-
-  pub all-drop : (n : ℕ) (xs : List A) → All P xs → All P (drop n xs)
-  all-drop zero xs p = p
-  all-drop (suc n) [] p = tt
-  all-drop (suc n) (x ∷ xs) p = all-drop n xs (p .1)
 
 -- ---- the record
 
@@ -57,6 +40,10 @@ hold c es t b r s f =
       count = ap (λ (x : List ℕ). num x 0 4) b ∙ count-table c es (omega arith);
     }
 
+-- one of the entries that stand in a row behind a count, by its place
+pub row-read : (es : List Entry) (t : List ℕ) → items (entryAt t) 24 4 (length es) ≡ es → (i : ℕ) → i < length es → entryAt t (4 + 24 * i) ≡ entryOf es i
+row-read es t e i l = sym (getD-items (entryAt t) 24 4 (length es) i noEntry l) ∙ ap (λ (xs : List Entry). entryOf xs i) e
+
 module _ (c : ℕ) (es : List Entry) (t : List ℕ) (h : Holds c es t) where
   -- the entries that are read are those that it holds
   pub decoded : tableAt c t 0 ≡ es
@@ -69,24 +56,20 @@ module _ (c : ℕ) (es : List Entry) (t : List ℕ) (h : Holds c es t) where
   pub and-then : (op : List Entry → List Entry) (u : List ℕ) → Holds c (op (tableAt c t 0)) u → Holds c (op es) u
   and-then op u k = subst (λ (x : List Entry). Holds c (op x) u) decoded k
 
-  -- one entry, by its place
-  pub entry-in : (i : ℕ) → i < length es → entryAt t (4 + 24 * i) ≡ entryOf es i
-  unfolding tableAt
-  entry-in i l =
-      let n : min (num t 0 4) c ≡ length es = omega (arith, h .count, h .room) in
-      let k : i < min (num t 0 4) c = omega arith in
-      sym (getD-items (entryAt t) 24 4 (min (num t 0 4) c) i noEntry k) ∙ ap (λ (xs : List Entry). entryOf xs i) decoded
-
-  -- the rows of its bytes are those of its entries
-  pub rows-in : (q : Entry → Bool) (n : ℕ) → n ≡ length es → firstTo (λ i. q (entryAt t (4 + 24 * i))) n ≡ firstTo (λ i. q (entryOf es i)) n
-  rows-in q n e = first-agree _ _ n (λ i l. ap q (entry-in i (omega arith)))
-
   -- all of them, by its count
   pub rows-read : (n : ℕ) → n ≡ num t 0 4 → items (entryAt t) 24 4 n ≡ es
   unfolding tableAt
   rows-read n q =
       let m : n ≡ min (num t 0 4) c = omega (arith, h .count, h .room) in
       rw m decoded
+
+  -- one entry, by its place
+  pub entry-in : (i : ℕ) → i < length es → entryAt t (4 + 24 * i) ≡ entryOf es i
+  entry-in i l = row-read es t (rows-read (length es) (sym (h .count))) i l
+
+  -- the rows of its bytes are those of its entries
+  pub rows-in : (q : Entry → Bool) (n : ℕ) → n ≡ length es → firstTo (λ i. q (entryAt t (4 + 24 * i))) n ≡ firstTo (λ i. q (entryOf es i)) n
+  rows-in q n e = first-agree _ _ n (λ i l. ap q (entry-in i (omega arith)))
 
   -- what a search for the transaction of e tells
   pub row-among : (e : Entry) (n r : ℕ) → n ≡ length es → r ≡ findRow (λ i. entryAt t (4 + 24 * i)) (e .request) (e .coordinator) n → ltb r n ≡ among es e

@@ -1,15 +1,14 @@
 -- Each kind of place in the state's bytes: its length, and what decides whether it has its form. Assumes nothing.
-use Prim.Native.Nat.{ℕ, zero, suc, _+_, _-_, _*_, _≤_, _<_, min}
-use mathlib.Core.Path.{_≡_, refl, sym, ap, ap₂, _∙_}
+use Prim.Native.Nat.{ℕ, _+_, _≤_, min}
+use mathlib.Core.Path.{_≡_, refl, sym, ap, _∙_}
 use mathlib.Core.Bool.{Bool, true}
-use mathlib.Core.List.{List, [], _∷_, _++_}
+use mathlib.Core.List.{List, _++_}
 use native.Mathlib.Omega.{arith}
 use native.Mathlib.Nat.{add-assoc}
 use lib.ListN.{length, take, drop, length-append}
-use lib.Seq.{length-take-le}
-use Rattle.octets.specs.Bytes.{le, part, num, items}
-use Rattle.octets.proofs.Laws.{Bytes, length-le, length-part, part-front, part-past, cut, le-num}
-use Rattle.octets.proofs.Codecs.{length-items}
+use Rattle.octets.specs.Bytes.{le, part, num}
+use Rattle.octets.proofs.Laws.{Bytes, length-le, le-num}
+use Rattle.octets.proofs.Codecs.{length-items, row-long}
 use Rattle.rules.specs.Choice.{same}
 use Rattle.rules.specs.Read.{entryAt}
 use Rattle.rules.specs.State.{Vote}
@@ -18,7 +17,7 @@ use Rattle.rules.specs.declared.Entry.{Entry}
 use Rattle.rules.proofs.Tests.{same-self}
 use Rattle.rules.proofs.Tables.{table-long}
 use Rattle.places.proofs.Fields.{table-in}
-use Rattle.form.proofs.Same.{number-first, Flagged, flag-long, row-long}
+use Rattle.form.proofs.Same.{number-first, Flagged, flag-long}
 
 -- the form in which a part is lent
 pub part-lent : (b : List ℕ) (a m n : ℕ) → m ≡ n → take m (drop a b) ≡ part b a n

@@ -1,7 +1,7 @@
 -- Bytes compared part by part: sections in a row, a number, zeros, a flag and what it says is there, places of one size. Assumes nothing.
 use Prim.Native.Nat.{ℕ, zero, suc, _+_, _*_, _%_, _≤_, _<_}
 use mathlib.Core.Path.{_≡_, refl, sym, ap, _∙_}
-use mathlib.Core.Bool.{Bool, true, false, _&&_}
+use mathlib.Core.Bool.{Bool, true, false, _&&_, and-true}
 use mathlib.Core.Option.{Option, none, some}
 use mathlib.Core.List.{List, [], _∷_, _++_, map, append-nil}
 use native.Mathlib.Omega.{arith}
@@ -9,42 +9,18 @@ use native.Mathlib.Numerals.{add-one}
 use native.Mathlib.Nat.{mul-le-mul}
 use lib.ListN.{length, length-append, length-replicate}
 use lib.Dec.{eqb}
-use borrow.Author.Tests.{eqb-true, eqb-false, eq-eqb, ne-eqb}
+use borrow.Author.Tests.{eq-eqb, ne-eqb}
 use Rattle.octets.specs.Bytes.{le, part, num, zeros, flat, items}
 use Rattle.octets.specs.Sections.{concat}
 use Rattle.octets.proofs.Laws.{Bytes, length-le, length-part, part-add, part-none, le-num, num-lt, zeros-part, zeros-num}
 use Rattle.octets.proofs.Sections.{part-whole}
-use Rattle.octets.proofs.Codecs.{flat-append}
+use Rattle.octets.proofs.Codecs.{flat-append, row-long}
+use Rattle.octets.proofs.Logic.{eqb-sym}
 use Rattle.rules.specs.Choice.{pick, allOf, same}
 use Rattle.rules.specs.Image.{zeroBytes}
-use Rattle.rules.proofs.Tests.{same-self}
+use Rattle.rules.proofs.Tests.{same-self, same-append}
 
 -- ---- sections in a row
-
-pub and-assoc : (a b c : Bool) → ((a && b) && c) ≡ (a && (b && c))
-and-assoc true b c = refl
-and-assoc false b c = refl
-
-pub and-true : (a : Bool) → (a && true) ≡ a
-and-true true = refl
-and-true false = refl
-
-pub and-comm : (a b : Bool) → (a && b) ≡ (b && a)
-and-comm true b = sym (and-true b)
-and-comm false true = refl
-and-comm false false = refl
-
-pub and-swap : (a b c : Bool) → (a && (b && c)) ≡ (b && (a && c))
-and-swap true b c = refl
-and-swap false true c = refl
-and-swap false false c = refl
-
-pub same-append : (x u y v : List ℕ) → length x ≡ length u → same (x ++ y) (u ++ v) ≡ (same x u && same y v)
-unfolding same
-same-append [] [] y v l = refl
-same-append [] (b ∷ u) y v l = absurd (omega arith)
-same-append (a ∷ x) [] y v l = absurd (omega arith)
-same-append (a ∷ x) (b ∷ u) y v l = ap (λ (r : Bool). eqb a b && r) (same-append x u y v (omega arith)) ∙ sym (and-assoc (eqb a b) (same x u) (same y v))
 
 -- each section with its counterpart
 abbrev pub pairs : List (List ℕ) → List (List ℕ) → List Bool
@@ -64,19 +40,12 @@ same-concat (x ∷ xs) (y ∷ ys) l =
 
 -- ---- a number, and zeros, at the front of what is compared with a part of b
 
-eqb-swap : (a b : ℕ) → eqb a b ≡ eqb b a
-eqb-swap a b = go (eqb b a) refl
-  where
-    go : (t : Bool) → eqb b a ≡ t → eqb a b ≡ t
-    go true e = eq-eqb a b (sym (eqb-true b a e))
-    go false e = ne-eqb a b (λ q. eqb-false b a e (sym q))
-
 pub same-zeros : (n : ℕ) (x : List ℕ) → length x ≡ n → same (zeroBytes n) x ≡ zeros x
 unfolding same
 same-zeros zero [] l = refl
 same-zeros zero (b ∷ x) l = absurd (omega arith)
 same-zeros (suc n) [] l = absurd (omega arith)
-same-zeros (suc n) (b ∷ x) l = rw (eqb-swap 0 b) (ap (λ (r : Bool). eqb b 0 && r) (same-zeros n x (omega arith)))
+same-zeros (suc n) (b ∷ x) l = rw (eqb-sym 0 b) (ap (λ (r : Bool). eqb b 0 && r) (same-zeros n x (omega arith)))
 
 module _ (b : List ℕ) (a k m : ℕ) (l : a + (k + m) ≤ length b) where
   -- the number that is read is always that which stands there
@@ -99,7 +68,7 @@ one-byte : (v : ℕ) → v < 256 → same (le 1 1) (le 1 v) ≡ eqb v 1
 unfolding le same
 one-byte v h =
     let e : v % 256 ≡ v = omega arith in
-    rw e (and-true (eqb 1 v) ∙ eqb-swap 1 v)
+    rw e (and-true (eqb 1 v) ∙ eqb-sym 1 v)
 
 flag-first : (b : List ℕ) (a m : ℕ) (y : List ℕ) → Bytes b → a + (1 + m) ≤ length b → same (le 1 1 ++ y) (part b a (1 + m)) ≡ (eqb (num b a 1) 1 && same y (part b (a + 1) m))
 flag-first b a m y bs l =
@@ -163,15 +132,6 @@ module _ {A : Type 0} {k m : ℕ} {put : Option A → List ℕ} {get : List ℕ 
 -- ---- places of one size in a row: all are right where the first are and the next is
 
 module _ {A : Type 0} (put : A → List ℕ) (get : List ℕ → ℕ → A) (k : ℕ) (long : (b : List ℕ) (a : ℕ) → length (put (get b a)) ≡ k) (b : List ℕ) (o : ℕ) where
-  pub row-long : (n : ℕ) → length (flat put (items (get b) k o n)) ≡ k * n
-  unfolding items flat
-  row-long zero = omega arith
-  row-long (suc n) =
-      let x : A = get b (o + k * n) in
-      ap length (flat-append put (items (get b) k o n) (x ∷ []))
-      ∙ length-append (flat put (items (get b) k o n)) (put x ++ [])
-      ∙ omega (arith, row-long n, ap length (append-nil (put x)), long b (o + k * n))
-
   pub row-none : true ≡ same (flat put (items (get b) k o 0)) (part b o (k * 0))
   unfolding items flat same
   row-none =
@@ -186,7 +146,7 @@ module _ {A : Type 0} (put : A → List ℕ) (get : List ℕ → ℕ → A) (k :
       let e : k * suc i ≡ k * i + k = omega arith in
       let g : flat put (xs ++ (x ∷ [])) ≡ flat put xs ++ put x = flat-append put xs (x ∷ []) ∙ ap (λ (r : List ℕ). flat put xs ++ r) (append-nil (put x)) in
       let w : part b o (k * suc i) ≡ part b o (k * i) ++ part b (o + k * i) k = ap (part b o) e ∙ part-add b o (k * i) k in
-      let n : length (flat put xs) ≡ length (part b o (k * i)) = row-long i ∙ sym (length-part b o (k * i) (omega arith)) in
+      let n : length (flat put xs) ≡ length (part b o (k * i)) = row-long put get k long b o i ∙ sym (length-part b o (k * i) (omega arith)) in
       let q : same (flat put (xs ++ (x ∷ []))) (part b o (k * suc i)) ≡ (same (flat put xs) (part b o (k * i)) && same (put x) (part b (o + k * i) k))
       = ap (λ (r : List ℕ). same r (part b o (k * suc i))) g ∙ ap (same (flat put xs ++ put x)) w ∙ same-append (flat put xs) (part b o (k * i)) (put x) (part b (o + k * i) k) n in
       rw (add-one i, hf, hp, h) (sym q)

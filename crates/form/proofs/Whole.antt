@@ -1,16 +1,17 @@
 -- Each section of the state's bytes: what decides whether it has its form, and all of them together. Assumes nothing.
 use Prim.Native.Nat.{ℕ, zero, suc, _+_, _-_, _*_, _≤_, _<_, min}
 use mathlib.Core.Path.{_≡_, refl, sym, ap, ap₂, _∙_}
-use mathlib.Core.Bool.{Bool, true, _&&_}
+use mathlib.Core.Bool.{Bool, true, _&&_, and-assoc, and-comm, and-true}
 use mathlib.Core.List.{List, [], _∷_, _++_, map, append-nil}
 use native.Mathlib.Omega.{arith}
 use native.Mathlib.Nat.{not-suc-le-zero, le-of-suc-le-suc, add-assoc}
 use lib.ListN.{length, getD, take, drop, length-append, length-replicate, drop-of-length-le}
 use Rattle.octets.specs.Bytes.{le, part, num, zeros, flat, items}
 use Rattle.octets.specs.Sections.{concat, cuts, total}
-use Rattle.octets.proofs.Laws.{Bytes, bytes-part, length-le, length-part, part-none}
+use Rattle.octets.proofs.Laws.{Bytes, bytes-part, length-le, length-part, part-none, part-part}
 use Rattle.octets.proofs.Sections.{part-whole, concat-cuts}
-use Rattle.octets.proofs.Codecs.{length-items, peel-all, exact-number}
+use Rattle.octets.proofs.Codecs.{length-items, peel-all, exact-number, row-long}
+use Rattle.octets.proofs.Logic.{and-swap}
 use Rattle.rules.specs.Choice.{allOf, same}
 use Rattle.rules.specs.Image.{tableLength, noteLength, voteLength, replyLength, lengths, stateLength, zeroBytes, headSection, pointBytes, tableBytes, noteBytes, notesSection, voteBytes, replyBytes, sections, image, pointAt, tableAt, noteAt, voteAt, replyAt, stateIn, stateOf}
 use Rattle.rules.specs.State.{Note}
@@ -21,8 +22,7 @@ use Rattle.rules.proofs.Image.{long-head}
 use Rattle.places.specs.Layout.{startOf, Marks}
 use Rattle.places.specs.declared.Places.{Places}
 use Rattle.form.specs.Sections.{sectionForm, tablesForm}
-use Rattle.form.proofs.Same.{and-assoc, and-comm, and-swap, and-true, pairs, same-concat, number-first, zeros-first, flag-long, row-long}
-use Rattle.places.proofs.Fields.{part-part}
+use Rattle.form.proofs.Same.{pairs, same-concat, number-first, zeros-first, flag-long}
 use Rattle.form.proofs.Parts.{part-lent, point-place, table-at-long, table-part, vote-place, reply-place, note-long}
 
 -- ---- the head: only its five zeros can be wrong
@@ -137,7 +137,7 @@ module _ (sh : Shape) (b : List ℕ) (size : length b ≡ stateLength sh) where
     unfolding sectionForm stateOf stateIn headSection concat
     head-section r h =
         let l : 0 + 48 ≤ length b = omega arith in
-        h ∙ ap zeros (sym (part-part b 0 48 l 3 5 (omega arith))) ∙ sym (head-form (part b 0 48) (bytes-part b 0 48 bs) (length-part b 0 48 l))
+        h ∙ ap zeros (sym (part-part b 0 48 3 5 l (omega arith))) ∙ sym (head-form (part b 0 48) (bytes-part b 0 48 bs) (length-part b 0 48 l))
 
     views-section : true ≡ sectionForm sh b 1
     unfolding sectionForm stateOf stateIn

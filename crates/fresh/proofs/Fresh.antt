@@ -17,10 +17,11 @@ use Rattle.rules.specs.Bytes.{left, startBytes}
 use Rattle.rules.specs.declared.Shape.{Shape}
 use Rattle.rules.specs.declared.Answer.the-variants.{Done, Refused}
 use Rattle.rules.proofs.Tests.{and-both, pick-true, pick-false}
+use Rattle.rules.proofs.Tables.{flat-zeros, points-zeros}
 use Rattle.places.specs.Layout.{lengthFor}
 use Rattle.places.proofs.Sections.{Laid, lay}
 use Rattle.places.proofs.Head.{put-group, put-replica, put-status}
-use Rattle.places.proofs.Zeros.{concat-zeros, long-zeros, flat-zeros, heard-zeros, table-zeros, notes-zeros, votes-zeros, replies-zeros}
+use Rattle.places.proofs.Zeros.{concat-zeros, long-zeros, table-zeros, notes-zeros, votes-zeros, replies-zeros}
 
 -- ---- the state whose bytes are all zero
 
@@ -36,7 +37,7 @@ blank-sections sh =
     simp (
       blank-head sh,
       flat-zeros (le 4) 4 (sh .s) 0 (le-zero 4),
-      heard-zeros (sh .n),
+      points-zeros (sh .n),
       table-zeros (sh .c),
       notes-zeros sh,
       votes-zeros (sh .c) (sh .n),

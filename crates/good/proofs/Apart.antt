@@ -1,15 +1,16 @@
 -- The buffers and the notes: no transaction twice, and what the notes say of early entries. Assumes nothing.
 use Prim.Native.Nat.{ℕ, _+_, _*_, _≤_, _<_}
-use mathlib.Core.Path.{_≡_, refl, sym, ap, ap₂, _∙_}
-use mathlib.Core.Bool.{Bool, true, false, _&&_, _||_, not}
+use mathlib.Core.Path.{_≡_, refl, sym, ap, _∙_}
+use mathlib.Core.Bool.{Bool, true, false, _&&_, not, and-false}
 use mathlib.Core.Option.{Option, none, some}
 use mathlib.Core.List.{List, [], _∷_, _++_}
 use native.Mathlib.Omega.{arith}
 use lib.ListN.{length, getD}
 use lib.Dec.{eqb, leb}
-use borrow.Author.Tests.{eq-eqb, ne-eqb, le-leb}
+use borrow.Author.Tests.{eq-eqb, ne-eqb, le-leb, not-true, not-false}
 use Rattle.octets.specs.Bytes.{num, part}
-use Rattle.rules.specs.Choice.{pick, any, every}
+use Rattle.octets.proofs.Logic.{and-cross}
+use Rattle.rules.specs.Choice.{pick, every}
 use Rattle.rules.specs.Group.{holds}
 use Rattle.rules.specs.Entry.{sameTxn, among, entryFits, mayFollow}
 use Rattle.rules.specs.Log.{followsLast, lastStamp}
@@ -22,15 +23,14 @@ use Rattle.rules.specs.declared.Shape.{Shape}
 use Rattle.rules.proofs.Choice.{or-left, any-append}
 use Rattle.rules.proofs.Tests.{and-l, and-r, and-both, split, join, _also_, each-front, each-back, each-append}
 use Rattle.logs.specs.Place.{fits, Within}
-use Rattle.logs.proofs.Every.{when-not, unless-not}
-use Rattle.notes.specs.Notes.{noNote, noteIn, notesAt, row, said, sized, Notes}
+use Rattle.notes.specs.Notes.{noteIn, notesAt, row, said, sized, Notes}
 use Rattle.notes.specs.declared.Point.{Point}
 use Rattle.notes.specs.declared.Point.the-variants.{Unheard, Heard}
 use Rattle.notes.proofs.Row.{ask-found, ask-none}
 use Rattle.places.specs.Layout.{startOf}
 use Rattle.good.specs.Known.{notedRight, entriesGood, earlyRight, notesRight, Lent}
 use Rattle.places.proofs.Fields.{fields}
-use Rattle.good.proofs.Tables.{and-false, truth}
+use Rattle.good.proofs.Tables.{truth}
 
 -- ---- what the notes say of an entry
 
@@ -88,13 +88,7 @@ module _ (s k : ℕ) where
   every-and : (p q : Entry → Bool) (xs : List Entry) → every (λ e. p e && q e) xs ≡ (every p xs && every q xs)
   unfolding every
   every-and p q [] = refl
-  every-and p q (x ∷ xs) = ap (λ (t : Bool). (p x && q x) && t) (every-and p q xs) ∙ turn (p x) (q x) (every p xs) (every q xs)
-    where
-      turn : (a b c d : Bool) → ((a && b) && (c && d)) ≡ ((a && c) && (b && d))
-      turn false b c d = refl
-      turn true true c d = refl
-      turn true false true d = refl
-      turn true false false d = refl
+  every-and p q (x ∷ xs) = ap (λ (t : Bool). (p x && q x) && t) (every-and p q xs) ∙ and-cross (p x) (q x) (every p xs) (every q xs)
 
   -- entries that fit: in range, not below a timestamp, their masks with k
   record Fit (last : ℕ) (xs : List Entry) : Type 0 where
@@ -133,7 +127,7 @@ distinct-front : (xs ys : List Entry) → distinct (xs ++ ys) ≡ true → disti
 unfolding distinct
 distinct-front [] ys h = refl
 distinct-front (x ∷ xs) ys h =
-    let n : among (xs ++ ys) x ≡ false = when-not _ (and-l (not (among (xs ++ ys) x)) (distinct (xs ++ ys)) h) in
+    let n : among (xs ++ ys) x ≡ false = not-true _ (and-l (not (among (xs ++ ys) x)) (distinct (xs ++ ys)) h) in
     let m : among xs x ≡ false = or-left (among xs x) (among ys x) (sym (any-append (sameTxn x) xs ys) ∙ n) in
     and-both _ _ (ap not m) (distinct-front xs ys (and-r (not (among (xs ++ ys) x)) (distinct (xs ++ ys)) h))
 
@@ -206,13 +200,13 @@ module _ (sh : Shape) (b : List ℕ) (z : length b ≡ stateLength sh) where
 
   pub early-follower : (l : Bool) → l ≡ leads sh (stateOf sh b) → not l ≡ true → true ≡ earlyRight sh (stateOf sh b)
   unfolding earlyRight
-  early-follower l e h = let g : leads sh (stateOf sh b) ≡ false = sym e ∙ when-not l h in rw (g, and-false)
+  early-follower l e h = let g : leads sh (stateOf sh b) ≡ false = sym e ∙ not-true l h in rw (g, and-false)
 
   pub early-leader : (status : ℕ) (l r : Bool) → status ≡ num b 2 1 → status ≡ 1 → l ≡ leads sh (stateOf sh b) → not l ≡ false → r ≡ every (earlyGood sh (stateOf sh b)) (stateOf sh b .waiting .early) → r ≡ earlyRight sh (stateOf sh b)
   unfolding earlyRight
   early-leader status l r e h p q w =
       let g : eqb (stateOf sh b .view .status) 1 ≡ true = ap (λ (y : ℕ). eqb y 1) (fields sh b z .status ∙ sym e) ∙ eq-eqb status 1 h in
-      let k : leads sh (stateOf sh b) ≡ true = sym p ∙ unless-not l q in
+      let k : leads sh (stateOf sh b) ≡ true = sym p ∙ not-false l q in
       rw (g, k) w
 
   -- the notes and what they say
@@ -222,8 +216,8 @@ module _ (sh : Shape) (b : List ℕ) (z : length b ≡ stateLength sh) where
 
     pub notes-twice : (a : Bool) → a ≡ notesDistinct (notesAt (sh .c) (sh .s) t) → not a ≡ true → false ≡ notesRight sh (stateOf sh b)
     unfolding notesRight
-    notes-twice a e h = let d : notesDistinct (stateOf sh b .waiting .notes) ≡ false = sym (e ∙ told) ∙ when-not a h in rw d
+    notes-twice a e h = let d : notesDistinct (stateOf sh b .waiting .notes) ≡ false = sym (e ∙ told) ∙ not-true a h in rw d
 
     pub notes-once : (a r : Bool) → a ≡ notesDistinct (notesAt (sh .c) (sh .s) t) → not a ≡ false → r ≡ earlyRight sh (stateOf sh b) → r ≡ notesRight sh (stateOf sh b)
     unfolding notesRight
-    notes-once a r e h q = let d : notesDistinct (stateOf sh b .waiting .notes) ≡ true = sym (e ∙ told) ∙ unless-not a h in rw d q
+    notes-once a r e h q = let d : notesDistinct (stateOf sh b .waiting .notes) ≡ true = sym (e ∙ told) ∙ not-false a h in rw d q

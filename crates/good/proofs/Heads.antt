@@ -1,12 +1,13 @@
 -- The tests of the head's numbers, of the points heard, and of what is kept, each as the rules have it. Assumes nothing.
 use Prim.Native.Nat.{ℕ, zero, suc, _+_, _-_, _*_, _%_, _≤_, _<_, min}
 use mathlib.Core.Path.{_≡_, refl, sym, ap, ap₂, _∙_}
-use mathlib.Core.Bool.{Bool, true, false, _&&_, _||_, not, true≢false}
+use mathlib.Core.Bool.{Bool, true, false, _&&_, _||_, not, true≢false, and-assoc, and-comm, and-true}
 use mathlib.Core.Option.{Option, none, some}
 use mathlib.Core.List.{List, [], _∷_}
 use native.Mathlib.Omega.{arith}
 use lib.ListN.{length, getD}
 use lib.Dec.{eqb, ltb, leb}
+use borrow.Author.Tests.{not-true, not-false}
 use Rattle.octets.specs.Bytes.{num, part, flat, items}
 use Rattle.octets.proofs.Codecs.{length-items, getD-items}
 use Rattle.rules.specs.Choice.{pick, when, allOf, count, every, isSome, passes, below, same}
@@ -21,9 +22,8 @@ use Rattle.rules.specs.declared.Shape.{Shape}
 use Rattle.rules.proofs.Choice.{every-append}
 use Rattle.places.specs.Layout.{startOf, PlaceAt}
 use Rattle.places.proofs.Spots.{count-like}
-use Rattle.logs.proofs.Every.{when-not, unless-not}
 use Rattle.form.specs.Sections.{sectionForm}
-use Rattle.form.proofs.Same.{and-assoc, and-comm, and-true, flag-long}
+use Rattle.form.proofs.Same.{flag-long}
 use Rattle.form.proofs.Same as same-laws
 use Rattle.form.proofs.Parts.{point-place}
 use Rattle.good.specs.Known.{headFits, pointsGood}
@@ -35,7 +35,7 @@ use Rattle.good.proofs.Tables.{row-next, count-is, table-is}
 module _ {A : Type 0} (q : A → Bool) (t : Bool) (x : A) where
   pub unset : (flag : Bool) → flag ≡ isSome (pick t none (some x)) → not flag ≡ true → true ≡ passes q (pick t none (some x))
   unfolding pick
-  unset flag e h = go t (sym e ∙ when-not flag h)
+  unset flag e h = go t (sym e ∙ not-true flag h)
     where
       go : (u : Bool) → isSome (pick u none (some x)) ≡ false → true ≡ passes q (pick u none (some x))
       go true f = refl
@@ -43,7 +43,7 @@ module _ {A : Type 0} (q : A → Bool) (t : Bool) (x : A) where
 
   pub set-so : (flag : Bool) → flag ≡ isSome (pick t none (some x)) → not flag ≡ false → (r : Bool) → r ≡ q x → r ≡ passes q (pick t none (some x))
   unfolding pick
-  set-so flag e h r w = go t (sym e ∙ unless-not flag h)
+  set-so flag e h r w = go t (sym e ∙ not-false flag h)
     where
       go : (u : Bool) → isSome (pick u none (some x)) ≡ true → r ≡ passes q (pick u none (some x))
       go true f = absurd (true≢false (sym f))

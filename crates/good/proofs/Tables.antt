@@ -2,7 +2,7 @@
 use Prim.Native.Nat.{ℕ, suc, _+_, _-_, _*_, _≤_, _<_, min}
 use mathlib.Core.Path.{_≡_, refl, sym, ap, ap₂, _∙_}
 use mathlib.Core.Bool.{Bool, true, false, _&&_}
-use mathlib.Core.List.{List, [], _∷_, _++_}
+use mathlib.Core.List.{List}
 use native.Mathlib.Numerals.{add-one}
 use native.Mathlib.Omega.{arith}
 use lib.ListN.{length, getD}
@@ -16,18 +16,13 @@ use Rattle.rules.specs.Log.{goodTo, goodLog, distinct}
 use Rattle.rules.specs.Read.{entryAt}
 use Rattle.rules.specs.Image.{tableAt}
 use Rattle.rules.specs.declared.Entry.{Entry}
-use Rattle.rules.proofs.Choice.{every-append}
+use Rattle.rules.proofs.Choice.{every-more}
 use Rattle.repeats.specs.Repeat.{firstTo}
 use Rattle.logs.specs.Place.{rowAt, unfitAt}
 use Rattle.logs.proofs.Tables.{good-items}
 use Rattle.logs.proofs.Apart.{good-two}
-use Rattle.form.proofs.Same.{and-true}
 
 -- ---- one turn more
-
-pub and-false : (a : Bool) → (a && false) ≡ false
-and-false true = refl
-and-false false = refl
 
 pub truth : (a b : Bool) → (a ≡ true → b ≡ true) → (b ≡ true → a ≡ true) → a ≡ b
 truth true b f g = sym (f refl)
@@ -35,17 +30,13 @@ truth false true f g = g refl
 truth false false f g = refl
 
 module _ {A : Type 0} (p : A → Bool) where
-  every-one : (xs : List A) (x : A) → every p (xs ++ (x ∷ [])) ≡ (every p xs && p x)
-  unfolding every
-  every-one xs x = every-append p xs (x ∷ []) ∙ ap (λ (t : Bool). every p xs && t) (and-true (p x))
-
   pub every-turn : (f : ℕ → A) (k o i : ℕ) → every p (items f k o (i + 1)) ≡ (every p (items f k o i) && p (f (o + k * i)))
   unfolding items
-  every-turn f k o i = rw (add-one i) (every-one (items f k o i) (f (o + k * i)))
+  every-turn f k o i = rw (add-one i) (every-more p (items f k o i) (f (o + k * i)))
 
 pub below-turn : (p : ℕ → Bool) (i : ℕ) → every p (below (i + 1)) ≡ (every p (below i) && p i)
 unfolding below
-below-turn p i = rw (add-one i) (every-one p (below i) i)
+below-turn p i = rw (add-one i) (every-more p (below i) i)
 
 -- a loop that asks of each in turn
 module _ {A : Type 0} (p : A → Bool) (f : ℕ → A) (k o : ℕ) where

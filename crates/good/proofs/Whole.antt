@@ -1,14 +1,14 @@
 -- Bytes are those of a good state where each test says so. Assumes nothing.
 use Prim.Native.Nat.{ℕ, _+_, _-_, _*_, _≤_, _<_}
 use mathlib.Core.Path.{_≡_, refl, sym, ap, ap₂, subst, _∙_}
-use mathlib.Core.Bool.{Bool, true, false, _&&_, not}
+use mathlib.Core.Bool.{Bool, true, false, _&&_, not, and-assoc, and-true, and-false}
 use mathlib.Core.List.{List, _++_}
 use native.Mathlib.Omega.{arith}
 use lib.ListN.{length, take, drop}
 use lib.Dec.{eqb, leb}
-use borrow.Author.Tests.{eq-eqb, ne-eqb, ltb-true}
+use borrow.Author.Tests.{eq-eqb, ne-eqb, ltb-true, not-true, not-false}
 use Rattle.octets.specs.Bytes.{num, part}
-use Rattle.octets.proofs.Laws.{Bytes, bytes-part, length-part}
+use Rattle.octets.proofs.Laws.{Bytes, bytes-part, length-part, num-part}
 use Rattle.rules.specs.Choice.{allOf, every, same}
 use Rattle.rules.specs.Group.{shapeFits}
 use Rattle.rules.specs.Entry.{entryFits}
@@ -19,16 +19,14 @@ use Rattle.rules.specs.declared.Shape.{Shape}
 use Rattle.rules.proofs.Tests.{and-l, and-r, and-both, split, join, _also_, same-true}
 use Rattle.entries.proofs.Table.{count-table}
 use Rattle.logs.specs.Place.{Within}
-use Rattle.logs.proofs.Every.{when-not, unless-not}
 use Rattle.notes.specs.Notes.{notesAt, sized, Notes}
 use Rattle.notes.proofs.Notes.{section-of, hold-section}
 use Rattle.places.specs.Layout.{startOf, Sized}
 use Rattle.form.specs.Sections.{sectionForm, tablesForm}
-use Rattle.form.proofs.Same.{and-assoc, and-true}
 use Rattle.form.proofs.Whole.{all-form}
 use Rattle.good.specs.Known.{headFits, pointsGood, entriesGood, earlyRight, notesRight, Lent, Formed, restGood}
-use Rattle.places.proofs.Fields.{num-in, fields}
-use Rattle.good.proofs.Tables.{and-false, truth}
+use Rattle.places.proofs.Fields.{fields}
+use Rattle.good.proofs.Tables.{truth}
 use Rattle.good.proofs.Apart.{notes-are}
 use Rattle.good.proofs.Counts.{table-within, notes-within, notes-fit, counts-good, places-good}
 
@@ -40,7 +38,7 @@ room-at c b a at q s l h =
     let x : List ℕ = part b a (tableLength c) in
     let w : length (tableAt c x 0) ≤ c = table-within c x 0 in
     let n : num x 0 4 ≡ length (tableAt c x 0) = ap (λ (y : List ℕ). num y 0 4) (sym (same-true _ _ h)) ∙ count-table c (tableAt c x 0) (omega arith) in
-    let k : num x 0 4 ≡ num b at 4 = num-in b a (tableLength c) l 0 at 4 (omega arith) (omega arith) in
+    let k : num x 0 4 ≡ num b at 4 = num-part b a (tableLength c) 0 at 4 l (omega arith) (omega arith) in
     record { ends = omega arith; room = omega arith }
 
 module _ (sh : Shape) (b : List ℕ) (s : Sized sh b) (bs : Bytes b) (e : tablesForm sh b ≡ true) (ne : sectionForm sh b 6 ≡ true) where
@@ -142,20 +140,20 @@ module _ (sh : Shape) (st : State) (counts : countsGood sh st ≡ true) (places 
 module _ (sh : Shape) (b : List ℕ) where
   pub not-permitted : (f : Bool) → f ≡ shapeFits sh → not f ≡ true → false ≡ goodBytes sh b
   unfolding goodBytes
-  not-permitted f e h = let g : shapeFits sh ≡ false = sym e ∙ when-not f h in simp g
+  not-permitted f e h = let g : shapeFits sh ≡ false = sym e ∙ not-true f h in simp g
 
   pub wrong-length : (n : ℕ) → n ≡ stateLength sh → (length b ≡ n → ⊥) → false ≡ goodBytes sh b
   unfolding goodBytes
   wrong-length n e h = let g : eqb (length b) (stateLength sh) ≡ false = ne-eqb _ _ (λ q. h (q ∙ sym e)) in simp (g, and-false)
 
   pub notes-formed : (f : Bool) → f ≡ (sectionForm sh b 6 && every noteFits (stateOf sh b .waiting .notes)) → not f ≡ false → sectionForm sh b 6 ≡ true
-  notes-formed f e h = and-l (sectionForm sh b 6) (every noteFits (stateOf sh b .waiting .notes)) (sym e ∙ unless-not f h)
+  notes-formed f e h = and-l (sectionForm sh b 6) (every noteFits (stateOf sh b .waiting .notes)) (sym e ∙ not-false f h)
 
   module _ (z : length b ≡ stateLength sh) where
     pub not-formed : (f : Bool) → f ≡ tablesForm sh b → not f ≡ true → false ≡ goodBytes sh b
     unfolding goodBytes
     not-formed f e h =
-        let g : tablesForm sh b ≡ false = sym e ∙ when-not f h in
+        let g : tablesForm sh b ≡ false = sym e ∙ not-true f h in
         let k : same (image sh (stateOf sh b)) b ≡ false = all-form sh b z ∙ ap (λ (t : Bool). t && (sectionForm sh b 2 && sectionForm sh b 6)) g in
         simp (k, and-false)
 
@@ -166,7 +164,7 @@ module _ (sh : Shape) (b : List ℕ) where
       pub head-unfit : (f : Bool) → f ≡ headFits sh (stateOf sh b) → not f ≡ true → false ≡ goodBytes sh b
       unfolding goodBytes
       head-unfit f e h =
-          let g : headFits sh (stateOf sh b) ≡ false = sym e ∙ when-not f h in
+          let g : headFits sh (stateOf sh b) ≡ false = sym e ∙ not-true f h in
           let k : good sh (stateOf sh b) ≡ false = parts ∙ rw g in
           simp (k, and-false)
 
@@ -180,17 +178,17 @@ module _ (sh : Shape) (b : List ℕ) where
               let k : same (image sh (stateOf sh b)) b ≡ false = all-form sh b z ∙ simp (q, and-false) in
               simp (k, and-false)
           go true q =
-              let g : every noteFits (stateOf sh b .waiting .notes) ≡ false = ap (λ (t : Bool). t && every noteFits (stateOf sh b .waiting .notes)) (sym q) ∙ sym e ∙ when-not f h in
+              let g : every noteFits (stateOf sh b .waiting .notes) ≡ false = ap (λ (t : Bool). t && every noteFits (stateOf sh b .waiting .notes)) (sym q) ∙ sym e ∙ not-true f h in
               let k : good sh (stateOf sh b) ≡ false = parts ∙ simp (g, and-false) in
               simp (k, and-false)
 
       pub all-good : (f d h n r : Bool) → f ≡ shapeFits sh → not f ≡ false → d ≡ tablesForm sh b → not d ≡ false → h ≡ headFits sh (stateOf sh b) → not h ≡ false → n ≡ (sectionForm sh b 6 && every noteFits (stateOf sh b .waiting .notes)) → not n ≡ false → r ≡ (sectionForm sh b 2 && restGood sh (stateOf sh b)) → r ≡ goodBytes sh b
       unfolding goodBytes
       all-good f d h n r e1 t1 e2 t2 e3 t3 e4 t4 e5 =
-          let g1 : shapeFits sh ≡ true = sym e1 ∙ unless-not f t1 in
-          let g2 : tablesForm sh b ≡ true = sym e2 ∙ unless-not d t2 in
-          let g3 : headFits sh (stateOf sh b) ≡ true = sym e3 ∙ unless-not h t3 in
-          let g4 : (sectionForm sh b 6 && every noteFits (stateOf sh b .waiting .notes)) ≡ true = sym e4 ∙ unless-not n t4 in
+          let g1 : shapeFits sh ≡ true = sym e1 ∙ not-false f t1 in
+          let g2 : tablesForm sh b ≡ true = sym e2 ∙ not-false d t2 in
+          let g3 : headFits sh (stateOf sh b) ≡ true = sym e3 ∙ not-false h t3 in
+          let g4 : (sectionForm sh b 6 && every noteFits (stateOf sh b .waiting .notes)) ≡ true = sym e4 ∙ not-false n t4 in
           let g5 : sectionForm sh b 6 ≡ true = and-l (sectionForm sh b 6) (every noteFits (stateOf sh b .waiting .notes)) g4 in
           let g6 : every noteFits (stateOf sh b .waiting .notes) ≡ true = and-r (sectionForm sh b 6) (every noteFits (stateOf sh b .waiting .notes)) g4 in
           let k : same (image sh (stateOf sh b)) b ≡ sectionForm sh b 2 = all-form sh b z ∙ rw (g2, g5, and-true) in

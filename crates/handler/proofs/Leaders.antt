@@ -29,8 +29,9 @@ use Rattle.places.specs.Layout.{startOf}
 use Rattle.places.proofs.Sections.{Laid}
 use Rattle.handler.specs.Sending.{messageBytes, headedIn, leaderIn, othersIn, askedOf, Asks, leaderBytes}
 use Rattle.handler.proofs.Rows.{all-below, flat-snoc, flat-ext, keep-ext, kept-more, kept-same, kept-within, sends-flat}
-use Rattle.handler.proofs.Sends.{Sender, own-group, view-in, message-sent}
+use Rattle.handler.proofs.Sends.{Sender, own-group, message-sent}
 use Rattle.rules.specs.Image.{atGVec}
+use Rattle.places.proofs.Kept.{view-at}
 
 -- the mask of all groups holds each
 full-table : every (λ s. every (λ j. holds (2 ^ s - 1) j) (below s)) (below 9) ≡ true
@@ -55,7 +56,7 @@ module _ {sh : Shape} {st : State} {b : List ℕ} (l : Laid sh st b) (f : Sender
     unfolding leaderBytes
     leader-sent j u =
         message-sent l f (askedOf kind number (headedIn b kind j (only (leaderIn sh b j)))) entries kind j (only (leader (sh .n) (st .view .gVec) j)) xs es
-        (h _ ∙ ap (λ (v : ℕ). headedIn b kind j (only (v % sh .n))) (view-in l f j u))
+        (h _ ∙ ap (λ (v : ℕ). headedIn b kind j (only (v % sh .n))) (view-at l (f .places) (f .gVec) j u))
         (q _) e fe
 
     leaders-are : (mask : ℕ) → flat (leaderBytes sh b kind number entries) (othersIn sh b mask) ≡ flat wireBytes (sends (λ j. sendLeader sh st kind j xs es) (otherGroups sh st (holds mask)))

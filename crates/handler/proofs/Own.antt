@@ -1,6 +1,6 @@
 -- The own group and replica of a good state are in range, and its role. Assumes nothing.
 use Prim.Native.Nat.{ℕ, _+_, _*_, _%_, _<_}
-use mathlib.Core.Path.{_≡_, refl, sym, ap, _∙_}
+use mathlib.Core.Path.{_≡_, _∙_}
 use mathlib.Core.Bool.{Bool, true}
 use mathlib.Core.List.{List, _++_}
 use native.Mathlib.Omega.{arith}
@@ -13,7 +13,7 @@ use Rattle.rules.proofs.Choice.{pairs-front, pairs-back}
 use Rattle.rules.proofs.Logs.{Apart, distinct-pairs, pairs-distinct}
 use Rattle.rules.proofs.Conjuncts.{good-is}
 use Rattle.places.specs.Layout.{startOf, Stands}
-use Rattle.places.proofs.Sections.{stands-midway, stands-own}
+use Rattle.places.proofs.Sections.{stands-midway, stands-own, stands-laid, stands-fits}
 use Rattle.places.proofs.Head.{group-of, replica-of}
 use Rattle.places.proofs.Kept.{view-at}
 use Rattle.rules.specs.Image.{atGVec}
@@ -38,4 +38,4 @@ module _ {sh : Shape} {st : State} {b : List ℕ} (s : Stands sh st b) where
   pub leads-is : (own view replica : ℕ) (r : Bool) → own ≡ num b 0 1 → view ≡ num b (startOf sh atGVec + 4 * own) 4 → replica ≡ num b 1 1 → r ≡ eqb replica (view % sh .n) → r ≡ leads sh st
   leads-is own view replica r e v q h =
       let g : own ≡ st .site .group = e ∙ group-of (stands-midway s) in
-      h ∙ rw (q ∙ replica-of (stands-midway s), v ∙ view-at (stands-midway s) own (own-below own e), g)
+      h ∙ rw (q ∙ replica-of (stands-midway s), v ∙ view-at (stands-laid s) (stands-fits s .gVecPlaces) (stands-fits s .gVec) own (own-below own e), g)

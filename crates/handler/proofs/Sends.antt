@@ -1,18 +1,16 @@
 -- A message that a site sends is that of a case beside the bytes of its gVec, which stand in the state. Assumes nothing.
 use Prim.Native.Nat.{ℕ, _+_, _*_, _/_, _^_, _≤_, _<_}
-use mathlib.Core.Path.{_≡_, refl, sym, ap, _∙_}
+use mathlib.Core.Path.{_≡_, refl, ap, _∙_}
 use mathlib.Core.Bool.{false}
-use mathlib.Core.List.{List, append-assoc, append-nil}
+use mathlib.Core.List.{List}
 use native.Mathlib.Omega.{arith}
-use native.Mathlib.Nat.{mul-div-cancel-left}
-use lib.ListN.{length, take, drop, getD, replicate, length-append, length-replicate}
+use lib.ListN.{length, take, drop, length-append}
 use lib.Dec.{lit<, lit≤}
-use Rattle.octets.specs.Bytes.{le, num, part, flat, items}
+use Rattle.octets.specs.Bytes.{le, num, part, flat}
 use Rattle.octets.specs.Sections.{concat}
 use Rattle.octets.proofs.Laws.{Bytes, length-le, length-part, bytes-part}
-use Rattle.octets.proofs.Codecs.{All, Codec, long-all, number}
-use Rattle.rules.specs.Choice.{pick}
-use Rattle.rules.specs.Wire.{Wire, entryBytes, headBytes, wireBytes, headerIn, numbersOf}
+use Rattle.octets.proofs.Codecs.{All, number}
+use Rattle.rules.specs.Wire.{entryBytes, headBytes, wireBytes, headerIn, numbersOf}
 use Rattle.rules.specs.Kind.{bare, viewsIn, numbersIn}
 use Rattle.rules.specs.Read.{lengthFor}
 use Rattle.rules.specs.Write.{wireFrom}
@@ -24,23 +22,19 @@ use Rattle.rules.specs.declared.Shape.{Shape}
 use Rattle.rules.specs.declared.Message.{Message}
 use Rattle.rules.proofs.Choice.{pick-false}
 use Rattle.rules.proofs.Entries.{EntryFits, entry, long-entry}
-use Rattle.rules.proofs.Tables.{in-row, flat-long}
+use Rattle.rules.proofs.Tables.{flat-long}
 use Rattle.rules.proofs.Image.{StateFits}
 use Rattle.places.specs.Layout.{startOf}
-use Rattle.places.proofs.Sections.{Laid, lent, drop-all}
+use Rattle.places.proofs.Sections.{Laid, lent}
 use Rattle.places.proofs.Head.{get-head}
-use Rattle.places.proofs.Rows.{row-at}
 use Rattle.writer.proofs.Writer.{length-bytes}
 use Rattle.handler.specs.Sending.{messageBytes, headedIn}
 use Rattle.rules.specs.Image.{atGVec}
+use Rattle.rules.proofs.Case.{in-block}
 
 -- the header of what a site sends
 abbrev pub headed : State → ℕ → ℕ → ℕ → Header
 headed st k toGroup toMask = record { kind = k; «to_group» = toGroup; «to_mask» = toMask; «from_group» = st .site .group; «from_replica» = st .site .replica; view = st .view .gView }
-
--- a row's bytes, as a block of its own
-in-block : {A : Type 0} {k : ℕ} {put : A → List ℕ} {get : List ℕ → ℕ → A} {Fits : A → Type 0} → Codec A k put get Fits → 0 < k → (xs : List A) → All Fits xs → items (get (flat put xs)) k 0 (length (flat put xs) / k) ≡ xs
-in-block {k = k} {put = put} c pos xs f = in-row c xs (length (flat put xs) / k) (sym (ap (λ (l : ℕ). l / k) (long-all c xs f) ∙ mul-div-cancel-left (length xs) pos)) f
 
 pub sent-case : (st : State) (m : Message) (views entries : List ℕ) (k g t : ℕ) (xs : List ℕ) (es : List Entry) → All (λ v. v < 256 ^ 4) (st .view .gVec) → All EntryFits es → headerIn m ≡ headed st k g t → numbersOf m ≡ xs → views ≡ flat (le 4) (st .view .gVec) → entries ≡ flat entryBytes es → wireFrom m views entries ≡ send st k g t xs es
 unfolding wireFrom
@@ -91,9 +85,6 @@ module _ {sh : Shape} {st : State} {b : List ℕ} (l : Laid sh st b) (f : Sender
 
   pub own-view : num b 8 4 ≡ st .view .gView
   own-view = get-head l 4 8 4 (st .view .gView) (lit< tt) (simp length-le) (lit≤ tt) refl (f .view)
-
-  pub view-in : (j : ℕ) → j < sh .s → num b (startOf sh atGVec + 4 * j) 4 ≡ getD (st .view .gVec) j 0
-  view-in j h = row-at (number 4) b (startOf sh atGVec) (st .view .gVec) _ 0 j (f .gVec) (drop-all l 1 (startOf sh atGVec) (lit< tt) refl) (omega (arith, f .places))
 
   -- the header of what it sends
   pub headed-is : (k g t : ℕ) → headedIn b k g t ≡ headed st k g t

@@ -23,12 +23,12 @@ use Rattle.rules.specs.declared.Entry.{Entry}
 use Rattle.rules.specs.declared.Header.{Header}
 use Rattle.rules.specs.declared.Shape.{Shape}
 use Rattle.rules.specs.declared.Message.{Message}
-use Rattle.rules.specs.declared.Message.the-variants.{WrongSizes, Malformed}
+use Rattle.rules.specs.declared.Message.the-variants.{WrongSizes}
 use Rattle.rules.proofs.Choice.{and-left, pick-false}
 use Rattle.rules.proofs.EachKind.{one-known, log-known, log-later}
 use Rattle.rules.proofs.Entries.{EntryFits}
 use Rattle.rules.proofs.Verdicts.{Rights, message-right}
-use Rattle.rules.proofs.Messages.{Whole, read-whole, read-formed, formed-fits}
+use Rattle.rules.proofs.Messages.{Whole, read-whole, read-formed, formed-fits, whole-known}
 use Rattle.rules.proofs.KeptMessage.{fieldsAs, log-good}
 use Rattle.rules.proofs.Case.{tag-case, header-case, numbers-case}
 use Rattle.handler.specs.Handler.{Ready}
@@ -40,10 +40,6 @@ pub record Told (n s : ℕ) (m : Message) (msg : List ℕ) : Type 0 where
   pub kind : wireIn s msg .kind ≡ tagOf m
   pub header : headerOf (wireIn s msg) ≡ headerIn m
   pub numbers : wireIn s msg .numbers ≡ numbersOf m
-
-whole-known : (n s : ℕ) (b : List ℕ) (w : Wire) → Whole n s b w → known (w .kind) ≡ true
-unfolding fieldsOf
-whole-known n s b w q = message-right n s (fieldsOf w) (length (w .entries)) (length (w .entries)) (q .fine) .head 0
 
 whole-numbers : (n s : ℕ) (b : List ℕ) (w : Wire) → Whole n s b w → length (w .numbers) ≡ numbersIn (w .kind)
 unfolding fieldsOf

@@ -8,10 +8,11 @@ use native.Mathlib.Omega.{arith}
 use lib.ListN.{length, getD, length-append, List·getD-append}
 use lib.Seq.{getD-append-add}
 use lib.Dec.{eqb, leb}
-use borrow.Author.Tests.{eq-eqb, ne-eqb, eqb-true, eqb-false}
+use borrow.Author.Tests.{eq-eqb, ne-eqb, eqb-true, eqb-false, not-true, not-false}
 use Rattle.octets.specs.Bytes.{num, items}
 use Rattle.octets.proofs.Laws.{bytes-known}
 use Rattle.octets.proofs.Codecs.{length-items, getD-items}
+use Rattle.octets.proofs.Logic.{and-turn}
 use Rattle.rules.specs.Group.{holds}
 use Rattle.rules.specs.Entry.{noEntry, entryOf, sameTxn, among, entryFits, lastBefore}
 use Rattle.rules.specs.Log.{seenBefore, goodLog, allHold, distinct}
@@ -19,15 +20,17 @@ use Rattle.rules.specs.Read.{entryAt}
 use Rattle.rules.specs.Image.{tableAt}
 use Rattle.rules.specs.declared.Entry.{Entry}
 use Rattle.rules.proofs.Tests.{and-l, and-r, and-both}
+use Rattle.rules.proofs.Choice.{at-any}
 use Rattle.repeats.specs.Repeat.{firstTo, repeatPlace, Distinct}
 use Rattle.repeats.specs.Rows.{countOf, keyOf, spotOf}
 use Rattle.repeats.specs.declared.Spots.{Spots}
 use Rattle.repeats.proofs.Laws.{first-agree, again, repeat-distinct, distinct-repeat}
 use Rattle.repeats.proofs.Places.{spot-first, spot-second, spot-third}
-use Rattle.entries.proofs.First.{any-here, any-nowhere}
+use Rattle.entries.proofs.First.{any-nowhere}
 use Rattle.entries.proofs.Keys.{Keyed, keyed-at, key-is, seen-is}
-use Rattle.logs.specs.Place.{rowAt, oneRun, fits, unfitAt, Within}
-use Rattle.logs.proofs.Every.{when-not, unless-not, every-first, first-or}
+use Rattle.logs.specs.Place.{rowAt, fits, unfitAt, Within}
+use Rattle.entries.specs.Rows.{entrySpots}
+use Rattle.logs.proofs.Every.{every-first, first-or}
 use Rattle.logs.proofs.Place.{run-key, wrongAt, good-first, wrong-is}
 use Rattle.logs.proofs.Tables.{table-run, good-items}
 
@@ -43,7 +46,7 @@ module _ (e : Entry) (es : List Entry) (key : ℕ → ℕ) (h : KeysOf key (e �
   against j l = key-is (key 0) (key (suc j)) e (entryOf es j) (h 0 (omega arith)) (h (suc j) (omega arith))
 
   apart : among es e ≡ false → (j : ℕ) → j < length es → key 0 ≡ key (suc j) → ⊥
-  apart a j l q = true≢false (sym (any-here (sameTxn e) noEntry es j l (sym (against j l) ∙ eq-eqb (key 0) (key (suc j)) q)) ∙ a)
+  apart a j l q = true≢false (sym (at-any (sameTxn e) noEntry es j l (sym (against j l) ∙ eq-eqb (key 0) (key (suc j)) q)) ∙ a)
 
   rest : KeysOf (λ i. key (suc i)) es
   rest i l = h (suc i) (omega arith)
@@ -53,8 +56,8 @@ pub distinct-keys : (es : List Entry) (key : ℕ → ℕ) → KeysOf key es → 
 unfolding distinct Distinct
 distinct-keys [] key h d i j hi hj q = absurd (omega arith)
 distinct-keys (e ∷ es) key h d zero zero hi hj q = refl
-distinct-keys (e ∷ es) key h d zero (suc j) hi hj q = absurd (apart e es key h (when-not (among es e) (and-l (not (among es e)) (distinct es) d)) j (omega arith) q)
-distinct-keys (e ∷ es) key h d (suc i) zero hi hj q = absurd (apart e es key h (when-not (among es e) (and-l (not (among es e)) (distinct es) d)) i (omega arith) (sym q))
+distinct-keys (e ∷ es) key h d zero (suc j) hi hj q = absurd (apart e es key h (not-true (among es e) (and-l (not (among es e)) (distinct es) d)) j (omega arith) q)
+distinct-keys (e ∷ es) key h d (suc i) zero hi hj q = absurd (apart e es key h (not-true (among es e) (and-l (not (among es e)) (distinct es) d)) i (omega arith) (sym q))
 distinct-keys (e ∷ es) key h d (suc i) (suc j) hi hj q =
     ap suc (distinct-keys es (λ n. key (suc n)) (rest e es key h) (and-r (not (among es e)) (distinct es) d) i j (omega arith) (omega arith) q)
 
@@ -81,23 +84,23 @@ module _ (b : List ℕ) (at n : ℕ) (known : (i : ℕ) → getD b i 0 < 256) (h
   abbrev rows : List Entry
   rows = items (entryAt b) 24 at n
 
-  keyed : (i : ℕ) → i < n → Keyed (keyOf b (oneRun at n) i) (rowAt b at i)
+  keyed : (i : ℕ) → i < n → Keyed (keyOf b (entrySpots at n) i) (rowAt b at i)
   keyed = run-key b at n n known h (omega arith)
 
-  rows-distinct : eqb (repeatPlace (keyOf b (oneRun at n)) n) n ≡ distinct rows
+  rows-distinct : eqb (repeatPlace (keyOf b (entrySpots at n)) n) n ≡ distinct rows
   rows-distinct =
       let l : length rows ≡ n = length-items (entryAt b) 24 at n in
-      let k : KeysOf (keyOf b (oneRun at n)) rows
+      let k : KeysOf (keyOf b (entrySpots at n)) rows
       = λ i m.
       let g : i < n = omega arith in
       rw (getD-items (entryAt b) 24 at n i noEntry g) (keyed i g) in
-      rw l at (distinct-is rows (keyOf b (oneRun at n)) k)
+      rw l at (distinct-is rows (keyOf b (entrySpots at n)) k)
 
   seen-distinct : eqb (firstTo (λ i. seenBefore (rowAt b at) (rowAt b at i) i) n) n ≡ distinct rows
   unfolding repeatPlace
   seen-distinct =
-      ap (λ (x : ℕ). eqb x n) (first-agree (λ i. seenBefore (rowAt b at) (rowAt b at i) i) (again (keyOf b (oneRun at n))) n
-      (λ i l. sym (seen-is (rowAt b at) (keyOf b (oneRun at n)) (keyOf b (oneRun at n) i) (rowAt b at i) (keyed i l) i (λ j m. keyed j (omega arith)))))
+      ap (λ (x : ℕ). eqb x n) (first-agree (λ i. seenBefore (rowAt b at) (rowAt b at i) i) (again (keyOf b (entrySpots at n))) n
+      (λ i l. sym (seen-is (rowAt b at) (keyOf b (entrySpots at n)) (keyOf b (entrySpots at n) i) (rowAt b at i) (keyed i l) i (λ j m. keyed j (omega arith)))))
       ∙ rows-distinct
 
   module _ (s k : ℕ) where
@@ -129,29 +132,22 @@ module _ (b : List ℕ) (at n : ℕ) (known : (i : ℕ) → getD b i 0 < 256) (h
         ∙ first-or (unfitAt s k k f) lacks n
         ∙ ap (λ (t : Bool). fitting k && t) (every-first (λ (e : Entry). holds (e .mask) j) (entryAt b) 24 at n (firstTo lacks n) refl)
 
-    swap : (a b c : Bool) → ((a && b) && c) ≡ ((a && c) && b)
-    swap false b c = refl
-    swap true true true = refl
-    swap true true false = refl
-    swap true false true = refl
-    swap true false false = refl
-
     -- a good log whose masks hold j too
     good-with : (j : ℕ) → (fitting j && distinct rows) ≡ (goodLog s k rows && allHold j rows)
     good-with j =
         ap (λ (t : Bool). t && distinct rows) (with-masks j)
-        ∙ swap (fitting k) (allHold j rows) (distinct rows)
+        ∙ and-turn (fitting k) (allHold j rows) (distinct rows)
         ∙ ap (λ (t : Bool). t && allHold j rows) (sym good-two)
 
     pub unfit-for : (j : ℕ) (r : Bool) → r ≡ fitting j → not r ≡ true → false ≡ (goodLog s k rows && allHold j rows)
-    unfit-for j r e q = ap (λ (t : Bool). t && distinct rows) (sym (sym e ∙ when-not r q)) ∙ good-with j
+    unfit-for j r e q = ap (λ (t : Bool). t && distinct rows) (sym (sym e ∙ not-true r q)) ∙ good-with j
 
-    pub fit-for : (j m : ℕ) (sp : Spots) (r : Bool) → r ≡ fitting j → not r ≡ false → sp ≡ oneRun at n → m ≡ repeatPlace (keyOf b sp) (countOf sp) → eqb m n ≡ (goodLog s k rows && allHold j rows)
+    pub fit-for : (j m : ℕ) (sp : Spots) (r : Bool) → r ≡ fitting j → not r ≡ false → sp ≡ entrySpots at n → m ≡ repeatPlace (keyOf b sp) (countOf sp) → eqb m n ≡ (goodLog s k rows && allHold j rows)
     fit-for j m sp r e q p g =
-        let c : countOf (oneRun at n) ≡ n = omega arith in
-        ap (λ (x : ℕ). eqb x n) (g ∙ ap (λ (x : Spots). repeatPlace (keyOf b x) (countOf x)) p ∙ ap (repeatPlace (keyOf b (oneRun at n))) c)
+        let c : countOf (entrySpots at n) ≡ n = omega arith in
+        ap (λ (x : ℕ). eqb x n) (g ∙ ap (λ (x : Spots). repeatPlace (keyOf b x) (countOf x)) p ∙ ap (repeatPlace (keyOf b (entrySpots at n))) c)
         ∙ rows-distinct
-        ∙ ap (λ (t : Bool). t && distinct rows) (sym (sym e ∙ unless-not r q))
+        ∙ ap (λ (t : Bool). t && distinct rows) (sym (sym e ∙ not-false r q))
         ∙ good-with j
 
 -- ---- of three tables

@@ -8,21 +8,13 @@ use native.Mathlib.Numerals.{add-one}
 use native.Mathlib.Omega.{arith}
 use lib.ListN.{length, getD}
 use lib.Dec.{eqb}
-use borrow.Author.Tests.{eq-eqb, ne-eqb}
+use borrow.Author.Tests.{eq-eqb, ne-eqb, not-true, not-false}
 use Rattle.octets.specs.Bytes.{items}
 use Rattle.octets.proofs.Codecs.{length-items, getD-items}
 use Rattle.rules.specs.Choice.{pick, every}
 use Rattle.rules.proofs.Tests.{and-both, each, each-of, each-append, all-at, all-items}
 use Rattle.repeats.specs.Repeat.{firstTo}
 use Rattle.repeats.proofs.Laws.{First, first-to}
-
-pub when-not : (b : Bool) → not b ≡ true → b ≡ false
-when-not true e = sym e
-when-not false e = refl
-
-pub unless-not : (b : Bool) → not b ≡ false → b ≡ true
-unless-not true e = refl
-unless-not false e = sym e
 
 module _ {A : Type 0} (p : A → Bool) (f : ℕ → A) (k o : ℕ) where
   -- ---- a turn at a time
@@ -55,10 +47,10 @@ module _ {A : Type 0} (p : A → Bool) (f : ℕ → A) (k o : ℕ) where
       w = rw q (first-to (λ i. not (p (f (o + k * i)))) n)
 
       go : Dec (r < n) → eqb r n ≡ every p (items f k o n)
-      go (yes l) = ne-eqb r n (λ e. omega arith) ∙ every-stop r n l (when-not (p (f (o + k * r))) (w .at l))
+      go (yes l) = ne-eqb r n (λ e. omega arith) ∙ every-stop r n l (not-true (p (f (o + k * r))) (w .at l))
       go (no l) =
           let e : r ≡ n = omega (arith, w .low) in
-          eq-eqb r n e ∙ sym (each-of p (items f k o n) (all-items (λ x. p x ≡ true) f k o n (λ i m. unless-not (p (f (o + k * i))) (w .before i (omega arith)))))
+          eq-eqb r n e ∙ sym (each-of p (items f k o n) (all-items (λ x. p x ≡ true) f k o n (λ i m. not-false (p (f (o + k * i))) (w .before i (omega arith)))))
 
 -- ---- by two tests
 

@@ -1,10 +1,9 @@
 -- Where a log stops being good: at the first repeat among the entries before the first that is unfit. Assumes nothing.
 use Prim.Native.Nat.{ℕ, zero, suc, _+_, _*_, _^_, _≤_, _<_}
 use mathlib.Core.Path.{_≡_, refl, sym, ap, _∙_}
-use mathlib.Core.Bool.{Bool, true, false, _&&_, _||_, not}
+use mathlib.Core.Bool.{Bool, true, false, _&&_, _||_, not, and-true, or-true}
 use mathlib.Core.List.{List, [], _∷_}
 use native.Mathlib.Decide.{decLt}
-use native.Mathlib.Numerals.{add-one}
 use native.Mathlib.Omega.{arith}
 use lib.ListN.{length, getD}
 use lib.Dec.{ltb, leb}
@@ -16,19 +15,17 @@ use Rattle.rules.specs.Entry.{entryFits, stampFits, requestFits, coordinatorFit
 use Rattle.rules.specs.Log.{seenBefore, stands, goodTo}
 use Rattle.rules.specs.declared.Entry.{Entry}
 use Rattle.rules.proofs.Tests.{split, and-r}
+use Rattle.rules.proofs.Verdicts.{stamp-ext, seen-ext}
 use Rattle.repeats.specs.Repeat.{firstTo, repeatPlace}
 use Rattle.repeats.specs.Rows.{countOf, keyOf, spotOf, Inside}
 use Rattle.repeats.specs.declared.Spots.{Spots}
 use Rattle.repeats.proofs.Laws.{First, first-to, first-is, first-agree, again, repeat-first}
 use Rattle.repeats.proofs.Places.{spot-first}
-use Rattle.logs.specs.Place.{rowAt, oneRun, fits, unfitAt}
-use Rattle.entries.proofs.Keys.{Keyed, keyed-at, seen-is, seen-like}
+use Rattle.logs.specs.Place.{rowAt, fits, unfitAt}
+use Rattle.entries.proofs.Keys.{Keyed, keyed-at, seen-is}
+use Rattle.entries.specs.Rows.{entrySpots}
 
 -- ---- the tests of one entry
-
-and-true : (b : Bool) → (b && true) ≡ b
-and-true true = refl
-and-true false = refl
 
 pub fits-by : (s : ℕ) (e : Entry) (v : Bool) → v ≡ someOf (e .mask) s → (stampFits (e .stamp) && (requestFits (e .request) && (coordinatorFits (e .coordinator) && v))) ≡ entryFits s e
 unfolding entryFits allOf
@@ -49,15 +46,6 @@ module _ (s k j : ℕ) (f : ℕ → Entry) where
 pub stamp-start : (f : ℕ → Entry) → 0 ≡ lastBefore f 0 .stamp
 unfolding lastBefore
 stamp-start f = refl
-
-pub stamp-next : (f : ℕ → Entry) (i : ℕ) (e : Entry) → e ≡ f i → e .stamp ≡ lastBefore f (i + 1) .stamp
-unfolding lastBefore
-stamp-next f i e q = rw (add-one i) (ap (λ (x : Entry). x .stamp) q)
-
-stamp-like : (f g : ℕ → Entry) (i : ℕ) → ((j : ℕ) → j < i → f j ≡ g j) → lastBefore f i .stamp ≡ lastBefore g i .stamp
-unfolding lastBefore
-stamp-like f g zero h = refl
-stamp-like f g (suc i) h = ap (λ (x : Entry). x .stamp) (h i (omega arith))
 
 -- ---- a good log, entry by entry
 
@@ -100,15 +88,11 @@ module _ (s k : ℕ) where
       like : (i : ℕ) → i < n → wrongAt f i ≡ wrongAt g i
       like i l =
           let e : f i ≡ g i = h i l in
-          let p : lastBefore f i .stamp ≡ lastBefore g i .stamp = stamp-like f g i (λ j m. h j (omega arith)) in
-          let q : seenBefore f (g i) i ≡ seenBefore g (g i) i = seen-like f g (g i) i (λ j m. h j (omega arith)) in
+          let p : lastBefore f i .stamp ≡ lastBefore g i .stamp = stamp-ext f g i (λ j m. h j (omega arith)) in
+          let q : seenBefore f (g i) i ≡ seenBefore g (g i) i = seen-ext f g (g i) i (λ j m. h j (omega arith)) in
           let r : unfitAt s k k f i ≡ unfitAt s k k g i = cc in
           let v : seenBefore f (f i) i ≡ seenBefore g (g i) i = cc in
           wrong-is f i ∙ ap (λ (x : Bool). x || seenBefore f (f i) i) r ∙ ap (λ (x : Bool). unfitAt s k k g i || x) v ∙ sym (wrong-is g i)
-
-  or-true : (b : Bool) → (b || true) ≡ true
-  or-true true = refl
-  or-true false = refl
 
   -- the first repeat among the entries before the first that is unfit
   pub good-is : (f : ℕ → Entry) (key : ℕ → ℕ) (n u : ℕ) → u ≡ firstTo (unfitAt s k k f) n → ((i : ℕ) → i < u → Keyed (key i) (f i)) → repeatPlace key u ≡ goodTo s k f n
@@ -141,14 +125,14 @@ module _ (s k : ℕ) where
 -- ---- entries in a row of bytes
 
 module _ (b : List ℕ) (at n u : ℕ) (known : (i : ℕ) → getD b i 0 < 256) (h : at + 24 * n ≤ length b) (w : u ≤ n) where
-  pub run-key : (i : ℕ) → i < u → Keyed (keyOf b (oneRun at u) i) (rowAt b at i)
+  pub run-key : (i : ℕ) → i < u → Keyed (keyOf b (entrySpots at u) i) (rowAt b at i)
   unfolding keyOf
   run-key i l =
-      let p : at + 16 + 24 * i ≡ spotOf (oneRun at u) i = spot-first (oneRun at u) i l in
-      keyed-at b (at + 24 * i) (spotOf (oneRun at u) i) (num b (spotOf (oneRun at u) i) 6) (bytes-known b known) (omega arith) (omega arith) refl
+      let p : at + 16 + 24 * i ≡ spotOf (entrySpots at u) i = spot-first (entrySpots at u) i l in
+      keyed-at b (at + 24 * i) (spotOf (entrySpots at u) i) (num b (spotOf (entrySpots at u) i) 6) (bytes-known b known) (omega arith) (omega arith) refl
 
 -- the keys of the first u of n entries lie inside
-pub run-inside : (b : List ℕ) (at n u : ℕ) (sp : Spots) → length b < 18446744073709551616 → at + 24 * n ≤ length b → u ≤ n → sp ≡ oneRun at u → Inside b sp
+pub run-inside : (b : List ℕ) (at n u : ℕ) (sp : Spots) → length b < 18446744073709551616 → at + 24 * n ≤ length b → u ≤ n → sp ≡ entrySpots at u → Inside b sp
 run-inside b at n u sp m h w e = rw e (record { one = omega arith; two = omega arith; three = omega arith; few = omega arith })
 
 -- no more are fit than there are
@@ -156,10 +140,10 @@ pub fit-low : (s k j : ℕ) (f : ℕ → Entry) (n u : ℕ) → u ≡ firstTo (u
 fit-low s k j f n u e = rw e (first-to (unfitAt s k j f) n .low)
 
 -- the first repeat among the fit ones
-pub good-run : (s k : ℕ) (b : List ℕ) (at n u r : ℕ) (sp : Spots) → ((i : ℕ) → getD b i 0 < 256) → at + 24 * n ≤ length b → u ≡ firstTo (unfitAt s k k (rowAt b at)) n → sp ≡ oneRun at u → r ≡ repeatPlace (keyOf b sp) (countOf sp) → r ≡ goodTo s k (rowAt b at) n
+pub good-run : (s k : ℕ) (b : List ℕ) (at n u r : ℕ) (sp : Spots) → ((i : ℕ) → getD b i 0 < 256) → at + 24 * n ≤ length b → u ≡ firstTo (unfitAt s k k (rowAt b at)) n → sp ≡ entrySpots at u → r ≡ repeatPlace (keyOf b sp) (countOf sp) → r ≡ goodTo s k (rowAt b at) n
 good-run s k b at n u r sp known h e p q =
-    let m : countOf (oneRun at u) ≡ u = omega arith in
+    let m : countOf (entrySpots at u) ≡ u = omega arith in
     q
     ∙ ap (λ (x : Spots). repeatPlace (keyOf b x) (countOf x)) p
-    ∙ ap (repeatPlace (keyOf b (oneRun at u))) m
-    ∙ good-is s k (rowAt b at) (keyOf b (oneRun at u)) n u e (run-key b at n u known h (fit-low s k k (rowAt b at) n u e))
+    ∙ ap (repeatPlace (keyOf b (entrySpots at u))) m
+    ∙ good-is s k (rowAt b at) (keyOf b (entrySpots at u)) n u e (run-key b at n u known h (fit-low s k k (rowAt b at) n u e))

@@ -1,20 +1,15 @@
--- A table's entries as those that stand in a row of its bytes: its good log, and its last timestamp. Assumes nothing.
-use Prim.Native.Nat.{ℕ, suc, _+_, _-_, _*_, _≤_, min}
-use mathlib.Core.Path.{_≡_, ap, _∙_}
+-- A table's entries as those that stand in a row of its bytes: its good log. Assumes nothing.
+use Prim.Native.Nat.{ℕ, _+_, _≤_, min}
+use mathlib.Core.Path.{_≡_, ap}
 use mathlib.Core.List.{List}
 use native.Mathlib.Omega.{arith}
-use lib.ListN.{length}
 use lib.Dec.{eqb}
 use Rattle.octets.specs.Bytes.{num, items}
 use Rattle.octets.proofs.Codecs.{length-items, getD-items}
-use Rattle.rules.specs.Entry.{noEntry, entryOf, lastBefore}
-use Rattle.rules.specs.Log.{lastStamp}
+use Rattle.rules.specs.Entry.{noEntry, entryOf}
 use Rattle.rules.specs.Log.{goodTo, goodLog}
 use Rattle.rules.specs.Read.{entryAt}
 use Rattle.rules.specs.Image.{tableAt}
-use Rattle.rules.specs.declared.Entry.{Entry}
-use Rattle.entries.specs.Table.{Holds}
-use Rattle.entries.proofs.Table.{entry-in}
 use Rattle.logs.specs.Place.{rowAt}
 use Rattle.logs.proofs.Place.{good-like}
 
@@ -29,17 +24,3 @@ unfolding goodLog
 good-items s k b at n =
     rw (length-items (entryAt b) 24 at n)
     (ap (λ (x : ℕ). eqb x n) (good-like s k (entryOf (items (entryAt b) 24 at n)) (rowAt b at) n (λ i l. getD-items (entryAt b) 24 at n i noEntry l)))
-
--- the last timestamp of a table
-module _ (c : ℕ) (es : List Entry) (t : List ℕ) (n : ℕ) (w : Holds c es t) (q : n ≡ num t 0 4) where
-  pub last-none : n ≡ 0 → 0 ≡ lastStamp es
-  unfolding lastBefore
-  last-none z =
-      let e : 0 ≡ length es = omega (arith, w .count) in
-      ap (λ (x : ℕ). lastBefore (entryOf es) x .stamp) e
-
-  pub last-is : (n ≡ 0 → ⊥) → (r : ℕ) → r ≡ num t (4 + 24 * (n - 1)) 8 → r ≡ lastStamp es
-  unfolding lastBefore entryAt
-  last-is z r p =
-      let e : suc (n - 1) ≡ length es = omega (arith, w .count) in
-      p ∙ ap (λ (x : Entry). x .stamp) (entry-in c es t w (n - 1) (omega arith)) ∙ ap (λ (x : ℕ). lastBefore (entryOf es) x .stamp) e

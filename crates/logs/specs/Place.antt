@@ -9,15 +9,10 @@ use Rattle.rules.specs.Group.{holds}
 use Rattle.rules.specs.Entry.{entryFits, lastBefore}
 use Rattle.rules.specs.Read.{entryAt}
 use Rattle.rules.specs.declared.Entry.{Entry}
-use Rattle.repeats.specs.declared.Spots.{Spots}
 
 -- entry i of those that stand in b from `at` on
 abbrev pub rowAt : List ℕ → ℕ → ℕ → Entry
 rowAt b at i = entryAt b (at + 24 * i)
-
--- where the keys of n entries from `at` on stand
-abbrev pub oneRun : ℕ → ℕ → Spots
-oneRun at n = record { first = at + 16; «first_count» = n; second = 0; «second_count» = 0; third = 0; «third_count» = 0; stride = 24 }
 
 -- after timestamp `last`, in a log of group k: the entry is in range and not below `last`, and its mask holds k, and j too
 unfoldable pub fits : ℕ → ℕ → ℕ → ℕ → Entry → Bool

@@ -10,13 +10,12 @@ ghost use lib.ListN.{length};
 ghost use Rattle.octets.specs.Bytes.{items};
 ghost use Rattle.rules.specs.Choice.{every};
 ghost use Rattle.rules.specs.Entry.{entryFits};
-ghost use Rattle.rules.specs.Log.{lastStamp};
 ghost use Rattle.rules.specs.Log.{goodTo, goodLog, allHold, distinct};
 ghost use Rattle.rules.specs.Read.{entryAt};
 ghost use Rattle.rules.specs.Image.{tableAt};
 ghost use Rattle.repeats.specs.Repeat.{firstTo};
-ghost use Rattle.entries.specs.Table.{Table};
-ghost use Rattle.logs.specs.Place.{rowAt, oneRun, fits, unfitAt, Within};
+ghost use Rattle.entries.specs.Rows.{entrySpots};
+ghost use Rattle.logs.specs.Place.{rowAt, fits, unfitAt, Within};
 
 // Whether every field of an entry is in range, where there are s groups.
 pub fn entry_fits(e: Entry, s: u64) -> bool
@@ -79,7 +78,7 @@ pub fn all_fit(b: &[u8], at: usize, count: usize, last: u64, s: u64, k: u64) -> 
 // Where the keys of `count` entries from `at` on stand.
 fn run_of(at: usize, count: usize) -> Spots
     requires { ⌜ at + 16 < 18446744073709551616 ⌝ }
-    ensures { λ r. ⌜ r ≡ oneRun at count ⌝ }
+    ensures { λ r. ⌜ r ≡ entrySpots at count ⌝ }
 {
     Spots {
         first: at + 16,
@@ -119,18 +118,6 @@ pub fn good_for(
         return false;
     }
     repeats::index(b, run_of(at, count), count, slots) == count
-}
-
-// The timestamp of a table's last entry, 0 where it has none.
-pub fn last_stamp(t: &[u8], c: usize) -> u64
-    requires { ⌜ Table c (now t) ⌝ }
-    ensures { λ r. ⌜ r ≡ lastStamp (tableAt c (now (t .entry)) 0) ⌝ }
-{
-    let n = entries::count(t);
-    if n == 0 {
-        return 0;
-    }
-    octets::get64(t, 4 + 24 * (n - 1))
 }
 
 // Whether no transaction stands twice in three tables together, such as log, early and late buffer.

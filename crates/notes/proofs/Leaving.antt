@@ -1,19 +1,19 @@
 -- The notes of transactions that leave: one transaction after the other, each with one note at most. Assumes nothing.
 use Prim.Native.Nat.{ℕ, suc, _+_, _≤_, _<_}
 use mathlib.Core.Path.{_≡_, refl, sym, ap, ap₂, _∙_}
-use mathlib.Core.Bool.{Bool, true, false, _&&_, _||_, not}
+use mathlib.Core.Bool.{Bool, true, false, _&&_, _||_, not, or-false}
 use mathlib.Core.List.{List, [], _∷_, _++_}
 use native.Mathlib.Omega.{arith}
 use lib.ListN.{length, take, drop}
 use lib.Dec.{eqb}
 use borrow.Author.Tests.{eqb-true}
+use Rattle.octets.proofs.Logic.{eqb-sym}
 use Rattle.rules.specs.Choice.{pick, any, every, keep}
 use Rattle.rules.specs.State.{Note, noteOf, notesDistinct}
 use Rattle.rules.specs.Early.{notesWithout}
 use Rattle.rules.specs.declared.Entry.{Entry}
 use Rattle.rules.proofs.Tests.{and-l, and-r, and-both, each, each-of, all-1, at-all}
 use Rattle.notes.specs.Notes.{noNote, row}
-use Rattle.notes.proofs.Rows.{or-false, eqb-sym}
 
 -- ---- those that pass
 

@@ -1,7 +1,7 @@
 -- What each way through the reads of a note tells: its transaction, its points, the groups of a mask. Assumes nothing.
 use Prim.Native.Nat.{ℕ, zero, suc, _+_, _≤_, _<_, max}
 use mathlib.Core.Path.{_≡_, refl, sym, ap, _∙_}
-use mathlib.Core.Bool.{Bool, true, false, _&&_, _||_, not}
+use mathlib.Core.Bool.{Bool, true, false, _&&_, _||_, not, and-true, or-false}
 use mathlib.Core.Option.{Option, none, some}
 use mathlib.Core.List.{List, []}
 use native.Mathlib.Omega.{arith}
@@ -16,7 +16,6 @@ use Rattle.rules.specs.Group.{holds}
 use Rattle.rules.specs.State.{valueOf, notedTo, greatestTo}
 use Rattle.rules.specs.Image.{pointBytes, pointAt}
 use Rattle.rules.proofs.Tests.{pick-true, pick-false}
-use Rattle.notes.proofs.Rows.{and-true, or-false}
 
 -- ---- a transaction, the request first
 

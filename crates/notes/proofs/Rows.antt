@@ -1,37 +1,22 @@
 -- Things of one length in a row, one of them written over or taken out; two lists compared part by part. Assumes nothing.
 use Prim.Native.Nat.{ℕ, zero, suc, _+_, _-_, _*_, _≤_, _<_}
-use mathlib.Core.Path.{_≡_, refl, sym, ap, _∙_}
-use mathlib.Core.Bool.{Bool, true, false, _&&_, _||_}
+use mathlib.Core.Path.{_≡_, sym, ap, _∙_}
+use mathlib.Core.Bool.{Bool, true, _&&_}
 use mathlib.Core.List.{List, [], _∷_, _++_, append-assoc, append-nil}
 use native.Mathlib.Omega.{arith}
 use native.Mathlib.Numerals.{add-one}
 use lib.ListN.{length, getD, take, drop, set, replicate, length-append, length-replicate, length-drop}
 use lib.Seq.{length-take-le, split-at, set-split}
-use lib.Dec.{eqb}
-use borrow.Author.Tests.{eq-eqb, ne-eqb, eqb-true, eqb-false}
 use Rattle.octets.specs.Bytes.{part, splice, flat, items}
 use Rattle.octets.proofs.Laws.{length-part, part-at, part-add, part-none, splice-at, splice-back, splice-next}
-use Rattle.octets.proofs.Codecs.{All, Codec, long-all, flat-append}
-use Rattle.rules.specs.Choice.{same, every, any}
-use Rattle.rules.proofs.Tests.{all-at}
+use Rattle.octets.proofs.Codecs.{All, Codec, long-all, flat-append, row-long}
+use Rattle.rules.specs.Choice.{same}
+use Rattle.rules.proofs.Tests.{all-at, same-append}
+use Rattle.rules.proofs.Choice.{all-take, all-drop}
 
 -- ---- what is true of each element, of parts of a list
 
 module _ {A : Type 0} (P : A → Type 0) where
-  pub all-append : (xs ys : List A) → All P xs → All P ys → All P (xs ++ ys)
-  all-append [] ys p q = q
-  all-append (x ∷ xs) ys p q = (p .0, all-append xs ys (p .1) q)
-
-  pub all-take : (n : ℕ) (xs : List A) → All P xs → All P (take n xs)
-  all-take zero xs p = tt
-  all-take (suc n) [] p = tt
-  all-take (suc n) (x ∷ xs) p = (p .0, all-take n xs (p .1))
-
-  pub all-drop : (n : ℕ) (xs : List A) → All P xs → All P (drop n xs)
-  all-drop zero xs p = p
-  all-drop (suc n) [] p = tt
-  all-drop (suc n) (x ∷ xs) p = all-drop n xs (p .1)
-
   pub all-set : (xs : List A) (i : ℕ) (y : A) → All P xs → P y → All P (set xs i y)
   all-set [] i y p q = tt
   all-set (x ∷ xs) zero y p q = (q, p .1)
@@ -102,62 +87,12 @@ module _ {A : Type 0} {k : ℕ} {put : A → List ℕ} {get : List ℕ → ℕ �
       ∙ splice-at P (x ++ B) q (B ++ O) at hP g
       ∙ sym (rw (flat-append put (take i xs) (drop (i + 1) xs)) (simp append-assoc))
 
--- ---- two lists compared part by part
-
-pub and-true : (a : Bool) → (a && true) ≡ a
-and-true true = refl
-and-true false = refl
-
-pub or-false : (a : Bool) → (a || false) ≡ a
-or-false true = refl
-or-false false = refl
-
-and-assoc : (a b c : Bool) → ((a && b) && c) ≡ (a && (b && c))
-and-assoc true b c = refl
-and-assoc false b c = refl
-
-pub eqb-sym : (a b : ℕ) → eqb a b ≡ eqb b a
-eqb-sym a b = go (eqb a b) refl
-  where
-    go : (r : Bool) → eqb a b ≡ r → r ≡ eqb b a
-    go true e = sym (eq-eqb b a (sym (eqb-true a b e)))
-    go false e = sym (ne-eqb b a (λ q. eqb-false a b e (sym q)))
-
-pub same-append : (x u y v : List ℕ) → length x ≡ length u → same (x ++ y) (u ++ v) ≡ (same x u && same y v)
-unfolding same
-same-append [] [] y v l = refl
-same-append [] (b ∷ u) y v l = absurd (omega arith)
-same-append (a ∷ x) [] y v l = absurd (omega arith)
-same-append (a ∷ x) (b ∷ u) y v l = ap (λ (r : Bool). eqb a b && r) (same-append x u y v (omega arith)) ∙ sym (and-assoc (eqb a b) (same x u) (same y v))
-
--- ---- one more at the end
-
-module _ {A : Type 0} (p : A → Bool) where
-  pub every-more : (xs : List A) (x : A) → every p (xs ++ (x ∷ [])) ≡ (every p xs && p x)
-  unfolding every
-  every-more [] x = and-true (p x)
-  every-more (y ∷ xs) x = ap (λ (r : Bool). p y && r) (every-more xs x) ∙ sym (and-assoc (p y) (every p xs) (p x))
-
-  pub any-more : (xs : List A) (x : A) → any p (xs ++ (x ∷ [])) ≡ (any p xs || p x)
-  unfolding any
-  any-more [] x = or-false (p x)
-  any-more (y ∷ xs) x = ap (λ (r : Bool). p y || r) (any-more xs x) ∙ sym (or-assoc (p y) (any p xs) (p x))
-    where
-      or-assoc : (a b c : Bool) → ((a || b) || c) ≡ (a || (b || c))
-      or-assoc true b c = refl
-      or-assoc false b c = refl
+-- ---- a row compared with the bytes that it was read from
 
 module _ {A : Type 0} (put : A → List ℕ) (get : List ℕ → ℕ → A) (k : ℕ) (long : (b : List ℕ) (a : ℕ) → length (put (get b a)) ≡ k) (b : List ℕ) (o : ℕ) where
   -- the bytes of the first n that stand in a row are those that stand there
   unfoldable pub rowSame : ℕ → Bool
   rowSame n = same (flat put (items (get b) k o n)) (part b o (k * n))
-
-  pub long-row : (n : ℕ) → length (flat put (items (get b) k o n)) ≡ k * n
-  unfolding items flat
-  long-row zero = omega arith
-  long-row (suc n) =
-      let x : A = get b (o + k * n) in
-      ap length (flat-append put (items (get b) k o n) (x ∷ [])) ∙ length-append (flat put (items (get b) k o n)) (put x ++ []) ∙ omega (arith, long-row n, ap length (append-nil (put x)), long b (o + k * n))
 
   pub row-none : true ≡ rowSame 0
   unfolding rowSame items flat same
@@ -173,5 +108,5 @@ module _ {A : Type 0} (put : A → List ℕ) (get : List ℕ → ℕ → A) (k :
       let e : k * suc n ≡ k * n + k = omega arith in
       let g : flat put (xs ++ (x ∷ [])) ≡ flat put xs ++ put x = flat-append put xs (x ∷ []) ∙ ap (λ (r : List ℕ). flat put xs ++ r) (append-nil (put x)) in
       let w : part b o (k * suc n) ≡ part b o (k * n) ++ part b (o + k * n) k = ap (part b o) e ∙ part-add b o (k * n) k in
-      let l : length (flat put xs) ≡ length (part b o (k * n)) = long-row n ∙ sym (length-part b o (k * n) (omega arith)) in
+      let l : length (flat put xs) ≡ length (part b o (k * n)) = row-long put get k long b o n ∙ sym (length-part b o (k * n) (omega arith)) in
       rw (add-one n) (ap (λ (r : List ℕ). same r (part b o (k * suc n))) g ∙ ap (same (flat put xs ++ put x)) w ∙ same-append (flat put xs) (part b o (k * n)) (put x) (part b (o + k * n) k) l)

@@ -1,7 +1,7 @@
 -- Bytes that are tested: whether they are the form of the notes in them, and each note in range. Assumes nothing.
 use Prim.Native.Nat.{ℕ, zero, suc, _+_, _-_, _*_, _%_, _≤_, _<_, min}
 use mathlib.Core.Path.{_≡_, refl, sym, ap, ap₂, _∙_}
-use mathlib.Core.Bool.{Bool, true, false, _&&_, _||_}
+use mathlib.Core.Bool.{Bool, true, false, _&&_, _||_, and-true}
 use mathlib.Core.List.{List, [], _∷_, _++_}
 use native.Mathlib.Omega.{arith}
 use native.Mathlib.Nat.{add-assoc}
@@ -12,27 +12,21 @@ use lib.Dec.{eqb, leb}
 use borrow.Author.Tests.{eq-eqb}
 use Rattle.octets.specs.Bytes.{le, num, part, zeros, flat, items}
 use Rattle.octets.proofs.Laws.{Bytes, bytes-known, length-le, length-part, le-num, num-lt, part-add, zeros-part, zeros-num}
-use Rattle.octets.proofs.Codecs.{All, length-items}
+use Rattle.octets.proofs.Codecs.{All, length-items, row-long}
+use Rattle.octets.proofs.Logic.{and-cross, and-turn, eqb-sym}
 use Rattle.rules.specs.Choice.{allOf, every, any, isSome, passes, same}
 use Rattle.rules.specs.Entry.{stampFits}
 use Rattle.rules.specs.State.{Note, noteFits}
 use Rattle.rules.specs.Image.{noteLength, zeroBytes, pointBytes, noteBytes, notesSection, pointAt, noteAt}
-use Rattle.rules.proofs.Tests.{same-self, same-true, all-items}
-use Rattle.rules.proofs.Tables.{PointFits, NoteFits, flat-long}
-use Rattle.rules.proofs.Choice.{by-test}
+use Rattle.rules.proofs.Tests.{same-self, same-true, all-items, same-append}
+use Rattle.rules.proofs.Tables.{PointFits, NoteFits, flat-long, point-long}
+use Rattle.rules.proofs.Choice.{by-test, every-more, any-more}
 use Rattle.notes.specs.Notes.{sized, notesAt, Notes}
-use Rattle.notes.proofs.Rows.{and-true, eqb-sym, same-append, every-more, any-more, rowSame, long-row, row-none, row-more}
+use Rattle.notes.proofs.Rows.{rowSame, row-none, row-more}
 use Rattle.notes.proofs.Notes.{hold, count-notes, inside}
 use Rattle.notes.proofs.Points.{not-heard, was-heard}
-use Rattle.notes.proofs.Writes.{point-long}
 
 -- ---- tests
-
-and-cross : (a b x y : Bool) → ((a && b) && (x && y)) ≡ ((a && x) && (b && y))
-and-cross true b true y = refl
-and-cross true true false y = refl
-and-cross true false false y = refl
-and-cross false b x y = refl
 
 same-zeros : (x : List ℕ) (n : ℕ) → length x ≡ n → same (zeroBytes n) x ≡ zeros x
 unfolding same
@@ -206,17 +200,10 @@ module _ (c s : ℕ) (t : List ℕ) (known : (i : ℕ) → getD t i 0 < 256) (lt
       = ap (same f) cuts
       ∙ same-append (le 4 n) (part t 0 4) (F ++ O) (part t 4 (W * n) ++ Z) (length-le 4 n ∙ sym (length-part t 0 4 (omega arith)))
       ∙ ap₂ _&&_ (number-same t 0 4 n bs (omega arith) e)
-      (same-append F (part t 4 (W * n)) O Z (long-row noteBytes (noteAt s) W (note-size s) t 4 n ∙ sym (length-part t 4 (W * n) (omega arith)))
+      (same-append F (part t 4 (W * n)) O Z (row-long noteBytes (noteAt s) W (note-size s) t 4 n ∙ sym (length-part t 4 (W * n) (omega arith)))
       ∙ ap (λ (r : Bool). same F (part t 4 (W * n)) && r) (same-zeros Z (W * (c - n)) lz)) in
       let y : z ≡ zeros Z = w ∙ ap₂ (λ (a k : ℕ). zeros (part t a k)) ea d in
-      rw m (rw lx (rw p (ap₂ _&&_ (rw j at q) y ∙ swap (same F (part t 4 (W * n))) (every noteFits xs) (zeros Z))))
-    where
-      swap : (a x y : Bool) → ((a && x) && y) ≡ ((a && y) && x)
-      swap true true true = refl
-      swap true true false = refl
-      swap true false true = refl
-      swap true false false = refl
-      swap false x y = refl
+      rw m (rw lx (rw p (ap₂ _&&_ (rw j at q) y ∙ and-turn (same F (part t 4 (W * n))) (every noteFits xs) (zeros Z))))
 
   point-fits : (a : ℕ) → a + 9 ≤ length t → PointFits (pointAt t a)
   unfolding pointAt

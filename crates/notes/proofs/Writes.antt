@@ -1,5 +1,5 @@
 -- What the writes of each operation make of the notes: n is what the count gave, t1, t2, t3 the bytes after each call. Assumes nothing.
-use Prim.Native.Nat.{ℕ, zero, suc, _+_, _-_, _*_, _^_, _≤_, _<_}
+use Prim.Native.Nat.{ℕ, _+_, _-_, _*_, _^_, _≤_, _<_}
 use mathlib.Core.Path.{_≡_, refl, sym, ap, subst, _∙_}
 use mathlib.Core.Option.{Option, none, some}
 use mathlib.Core.List.{List, [], _∷_, _++_, append-assoc, append-nil}
@@ -7,7 +7,7 @@ use native.Mathlib.Omega.{arith}
 use lib.ListN.{length, getD, take, drop, set, replicate, length-append, length-replicate, length-drop, length-set, replicate-append-replicate}
 use lib.Seq.{length-take-le}
 use Rattle.octets.specs.Bytes.{le, num, part, splice, flat}
-use Rattle.octets.proofs.Laws.{length-le, le-zero, splice-at, splice-next}
+use Rattle.octets.proofs.Laws.{length-le, le-zero, splice-at, splice-next, number-over}
 use Rattle.octets.proofs.Sections.{splice-whole}
 use Rattle.octets.proofs.Codecs.{long-all, flat-append}
 use Rattle.rules.specs.State.{Note}
@@ -15,14 +15,12 @@ use Rattle.rules.specs.Early.{heardNote, keepNote}
 use Rattle.rules.specs.Image.{noteLength, zeroBytes, pointBytes, noteBytes, notesSection}
 use Rattle.rules.specs.declared.Entry.{Entry}
 use Rattle.rules.proofs.Tests.{all-at}
-use Rattle.rules.proofs.Tables.{PointFits, point, NoteFits, note}
+use Rattle.rules.proofs.Tables.{PointFits, point, NoteFits, note, points-zeros, point-long}
+use Rattle.rules.proofs.Choice.{all-append, all-take, all-drop}
 use Rattle.notes.specs.Notes.{sized, notesAt, noNote, noteIn, unheardNote, row, NotesHold}
-use Rattle.notes.proofs.Rows.{all-append, all-take, all-drop, all-set, all-replicate, row-write, row-remove}
+use Rattle.notes.proofs.Rows.{all-set, all-replicate, row-write, row-remove}
 use Rattle.notes.proofs.Notes.{hold, decoded, and-then}
 use Rattle.notes.proofs.Row.{row-within, kept-found, kept-new, heard-last}
-
-count-rows : (n k : ℕ) (q : List ℕ) → splice (le 4 n ++ q) 0 (le 4 k) ≡ le 4 k ++ q
-count-rows n k q = splice-at [] (le 4 n) q (le 4 k) 0 refl (length-le 4 n ∙ sym (length-le 4 k))
 
 -- ---- free places
 
@@ -33,18 +31,7 @@ zeros-both m n k e = ap zeroBytes e ∙ sym (replicate-append-replicate {A = ℕ
 free-more : (s m k : ℕ) → k ≡ m + 1 → zeroBytes (noteLength s * k) ≡ zeroBytes (noteLength s) ++ zeroBytes (noteLength s * m)
 free-more s m k e = zeros-both (noteLength s) (noteLength s * m) (noteLength s * k) (ap (λ (z : ℕ). noteLength s * z) e ∙ omega arith)
 
--- a group that was not heard leaves zeros
-unheard-bytes : (s : ℕ) → flat pointBytes (replicate s none) ≡ zeroBytes (9 * s)
-unfolding flat pointBytes
-unheard-bytes zero = refl
-unheard-bytes (suc s) = ap (λ (r : List ℕ). zeroBytes 9 ++ r) (unheard-bytes s) ∙ sym (zeros-both 9 (9 * s) (9 * suc s) (omega arith))
-
 -- ---- one note
-
-pub point-long : (p : Option ℕ) → length (pointBytes p) ≡ 9
-unfolding pointBytes
-point-long none = refl
-point-long (some p) = simp (length-append, length-le)
 
 -- a timestamp written into a note's bytes
 heard-bytes : (s : ℕ) (x : Note) (j t : ℕ) (r : List ℕ) → NoteFits s x → j < s → splice (noteBytes x ++ r) (6 + 9 * j) (pointBytes (some t)) ≡ noteBytes (heardNote x j t) ++ r
@@ -117,7 +104,7 @@ module _ (c s : ℕ) (xs : List Note) (t : List ℕ) (h : NotesHold c s xs t) wh
       let Z : List ℕ = zeroBytes (noteLength s * (c - (n + 1))) in
       let z : zeroBytes (noteLength s * (c - n)) ≡ zeroBytes 6 ++ (U ++ Z)
       = free-more s (c - (n + 1)) (c - n) (omega arith)
-      ∙ ap (λ (r : List ℕ). r ++ Z) (zeros-both 6 (9 * s) (noteLength s) refl ∙ ap (λ (r : List ℕ). zeroBytes 6 ++ r) (sym (unheard-bytes s)))
+      ∙ ap (λ (r : List ℕ). r ++ Z) (zeros-both 6 (9 * s) (noteLength s) refl ∙ ap (λ (r : List ℕ). zeroBytes 6 ++ r) (sym (points-zeros s)))
       ∙ append-assoc (zeroBytes 6) U Z in
       let hl : t ≡ P ++ (zeroBytes 6 ++ (U ++ Z)) = h .bytes ∙ rw (← k, z) (simp append-assoc) in
       let lP : length P ≡ at = length-append (le 4 n) (flat noteBytes xs) ∙ omega (arith, length-le 4 n, long-all (note s) xs (h .fit) ∙ ap (λ (m : ℕ). noteLength s * m) (sym k)) in
@@ -129,7 +116,7 @@ module _ (c s : ℕ) (xs : List Note) (t : List ℕ) (h : NotesHold c s xs t) wh
       let g : flat noteBytes xs ++ (w ++ (U ++ Z)) ≡ flat noteBytes (xs ++ (u ∷ [])) ++ Z
       = sym (ap (λ (r : List ℕ). r ++ Z) (flat-append noteBytes xs (u ∷ [])) ∙ simp (append-assoc, append-nil)) in
       hold c s (xs ++ (u ∷ [])) t3
-      (q3 ∙ ap (λ (r : List ℕ). splice r 0 (le 4 (n + 1))) l2 ∙ count-rows n (n + 1) _ ∙ ap (λ (r : List ℕ). le 4 (n + 1) ++ r) g ∙ sym (rw m))
+      (q3 ∙ ap (λ (r : List ℕ). splice r 0 (le 4 (n + 1))) l2 ∙ number-over 4 n (n + 1) _ ∙ ap (λ (r : List ℕ). le 4 (n + 1) ++ r) g ∙ sym (rw m))
       (omega arith)
       (h .small)
       (h .groups)
@@ -157,7 +144,7 @@ module _ (c s : ℕ) (xs : List Note) (t : List ℕ) (h : NotesHold c s xs t) wh
       let r : length ys ≡ n - 1 = length-append (take i xs) (drop (i + 1) xs) ∙ omega (arith, length-take-le i xs (omega arith), length-drop (i + 1) xs) in
       let z : zeroBytes (noteLength s * (c - (n - 1))) ≡ zeroBytes (noteLength s) ++ Z = free-more s (c - n) (c - (n - 1)) (omega (arith, h .room)) in
       hold c s ys t2
-      (q2 ∙ ap (λ (v : List ℕ). splice v 0 (le 4 (n - 1))) l1 ∙ count-rows n (n - 1) _ ∙ rw (r, z))
+      (q2 ∙ ap (λ (v : List ℕ). splice v 0 (le 4 (n - 1))) l1 ∙ number-over 4 n (n - 1) _ ∙ rw (r, z))
       (omega (arith, h .room))
       (h .small)
       (h .groups)

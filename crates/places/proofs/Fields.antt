@@ -1,17 +1,17 @@
 -- The state that is read from bytes of the right length: each of its fields by its place in those bytes. Assumes nothing.
-use Prim.Native.Nat.{ℕ, zero, suc, _+_, _-_, _*_, _≤_, _<_, min}
-use mathlib.Core.Path.{_≡_, refl, sym, ap, ap₂, _∙_}
-use mathlib.Core.List.{List, [], _∷_, _++_}
+use Prim.Native.Nat.{ℕ, _+_, _*_, _≤_, _<_, min}
+use mathlib.Core.Path.{_≡_, ap, _∙_}
+use mathlib.Core.List.{List}
 use native.Mathlib.Omega.{arith}
-use lib.ListN.{length, take, drop, getD}
-use lib.Seq.{length-take-le}
+use lib.ListN.{length, getD}
 use Rattle.octets.specs.Bytes.{num, part, items}
-use Rattle.octets.proofs.Laws.{length-part, part-front, part-past, cut}
-use Rattle.octets.proofs.Codecs.{getD-items}
+use Rattle.octets.proofs.Laws.{num-part}
+use Rattle.octets.proofs.Codecs.{getD-items, items-shift}
 use Rattle.rules.specs.Read.{entryAt}
 use Rattle.rules.specs.State.{State}
 use Rattle.rules.specs.Image.{tableLength, noteLength, voteLength, replyLength, stateLength, pointAt, tableAt, voteAt, replyAt, stateIn, stateOf, atDraft, atEarly, atGVec, atHeard, atLate, atLog, atNotes, atReplies, atVotes}
 use Rattle.rules.specs.declared.Shape.{Shape}
+use Rattle.rules.proofs.Entries.{entry-part}
 use Rattle.notes.specs.Notes.{notesAt}
 use Rattle.places.specs.Layout.{startOf}
 use Rattle.places.proofs.Rows.{within}
@@ -19,66 +19,35 @@ use Rattle.places.proofs.Rows.{within}
 -- ---- what is read from a part of bytes is read from the bytes
 
 module _ (b : List ℕ) (a m : ℕ) (l : a + m ≤ length b) where
-  pub part-part : (i k : ℕ) → i + k ≤ m → part (part b a m) i k ≡ part b (a + i) k
-  part-part i k h =
-      let p : List ℕ = take a b in
-      let q : List ℕ = part b a m in
-      let r : List ℕ = drop (a + m) b in
-      let hp : length p ≡ a = length-take-le a b (omega arith) in
-      let hq : length q ≡ m = length-part b a m l in
-      let e : a + i - a ≡ i = omega arith in
-      sym (ap (λ (x : List ℕ). part x (a + i) k) (cut b a m) ∙ part-past p (q ++ r) a (a + i) k hp (omega arith) ∙ ap (λ (j : ℕ). part (q ++ r) j k) e ∙ part-front q r i k (omega arith))
-
-  pub num-in : (i j k : ℕ) → i + k ≤ m → j ≡ a + i → num (part b a m) i k ≡ num b j k
-  unfolding num
-  num-in i j k h e = rw (part-part i k h, e)
-
-  pub entry-in : (i j : ℕ) → i + 24 ≤ m → j ≡ a + i → entryAt (part b a m) i ≡ entryAt b j
-  unfolding entryAt
-  entry-in i j h e =
-      simp (
-        num-in i j 8 (omega arith) e,
-        num-in (i + 8) (j + 8) 8 (omega arith) (omega arith),
-        num-in (i + 16) (j + 16) 4 (omega arith) (omega arith),
-        num-in (i + 20) (j + 20) 2 (omega arith) (omega arith),
-        num-in (i + 22) (j + 22) 2 (omega arith) (omega arith),
-      )
-
   pub point-in : (i j : ℕ) → i + 9 ≤ m → j ≡ a + i → pointAt (part b a m) i ≡ pointAt b j
   unfolding pointAt
-  point-in i j h e = simp (num-in i j 1 (omega arith) e, num-in (i + 1) (j + 1) 8 (omega arith) (omega arith))
-
--- things in a row that are equal one by one
-pub items-like : {A : Type 0} (f g : ℕ → A) (k o p n : ℕ) → ((i : ℕ) → i < n → f (o + k * i) ≡ g (p + k * i)) → items f k o n ≡ items g k p n
-unfolding items
-items-like f g k o p zero h = refl
-items-like f g k o p (suc n) h = ap₂ (λ (xs : List _) x. xs ++ (x ∷ [])) (items-like f g k o p n (λ i l. h i (omega arith))) (h n (omega arith))
+  point-in i j h e = simp (num-part b a m i j 1 l (omega arith) e, num-part b a m (i + 1) (j + 1) 8 l (omega arith) (omega arith))
 
 module _ (b : List ℕ) (a m : ℕ) (l : a + m ≤ length b) (c : ℕ) where
   pub table-in : (i j : ℕ) → i + tableLength c ≤ m → j ≡ a + i → tableAt c (part b a m) i ≡ tableAt c b j
   unfolding tableAt
   table-in i j h e =
-      let q : num (part b a m) i 4 ≡ num b j 4 = num-in b a m l i j 4 (omega arith) e in
-      rw q (items-like (entryAt (part b a m)) (entryAt b) 24 (i + 4) (j + 4) (min (num b j 4) c) (λ x r. entry-in b a m l (i + 4 + 24 * x) (j + 4 + 24 * x) (omega arith) (omega arith)))
+      let q : num (part b a m) i 4 ≡ num b j 4 = num-part b a m i j 4 l (omega arith) e in
+      rw q (items-shift (entryAt (part b a m)) (entryAt b) 24 (i + 4) (j + 4) (min (num b j 4) c) (λ x r. entry-part b a m (i + 4 + 24 * x) (j + 4 + 24 * x) l (omega arith) (omega arith)))
 
   pub vote-in : (i j : ℕ) → i + voteLength c ≤ m → j ≡ a + i → voteAt c (part b a m) i ≡ voteAt c b j
   unfolding voteAt
   vote-in i j h e =
       simp (
-        num-in b a m l i j 1 (omega arith) e,
-        num-in b a m l (i + 1) (j + 1) 4 (omega arith) (omega arith),
-        num-in b a m l (i + 5) (j + 5) 8 (omega arith) (omega arith),
+        num-part b a m i j 1 l (omega arith) e,
+        num-part b a m (i + 1) (j + 1) 4 l (omega arith) (omega arith),
+        num-part b a m (i + 5) (j + 5) 8 l (omega arith) (omega arith),
         table-in (i + 13) (j + 13) (omega arith) (omega arith),
       )
 
   pub reply-in : (i j : ℕ) → i + replyLength c ≤ m → j ≡ a + i → replyAt c (part b a m) i ≡ replyAt c b j
   unfolding replyAt
-  reply-in i j h e = simp (num-in b a m l i j 1 (omega arith) e, table-in (i + 1) (j + 1) (omega arith) (omega arith))
+  reply-in i j h e = simp (num-part b a m i j 1 l (omega arith) e, table-in (i + 1) (j + 1) (omega arith) (omega arith))
 
 -- a section that is a row of n things, each of k bytes
 row-in : {A : Type 0} (get : List ℕ → ℕ → A) (b : List ℕ) (a k n o : ℕ) → o ≡ a → ((i j : ℕ) → i + k ≤ k * n → j ≡ a + i → get (part b a (k * n)) i ≡ get b j) → items (get (part b a (k * n))) k 0 n ≡ items (get b) k o n
 row-in get b a k n o e h =
-    items-like (get (part b a (k * n))) (get b) k 0 o n
+    items-shift (get (part b a (k * n))) (get b) k 0 o n
     (λ i l. let w : k * i + k ≤ k * n = within k i n l in h (0 + k * i) (o + k * i) (omega arith) (omega arith))
 
 -- ---- the fields
@@ -119,16 +88,16 @@ module _ (sh : Shape) (b : List ℕ) (size : length b ≡ stateLength sh) where
       let a9 : ℕ = a8 + t in
       let h : 0 + 48 ≤ length b = omega arith in
       record {
-        group = num-in b 0 48 h 0 0 1 (omega arith) (omega arith);
-        replica = num-in b 0 48 h 1 1 1 (omega arith) (omega arith);
-        status = num-in b 0 48 h 2 2 1 (omega arith) (omega arith);
-        view = num-in b 0 48 h 8 8 4 (omega arith) (omega arith);
-        normal = num-in b 0 48 h 12 12 4 (omega arith) (omega arith);
-        clock = num-in b 0 48 h 16 16 8 (omega arith) (omega arith);
-        sync = num-in b 0 48 h 24 24 8 (omega arith) (omega arith);
-        commit = num-in b 0 48 h 32 32 8 (omega arith) (omega arith);
-        boundary = num-in b 0 48 h 40 40 8 (omega arith) (omega arith);
-        gVec = row-in (λ x a. num x a 4) b a1 4 (sh .s) (startOf sh atGVec) (omega arith) (λ i j l e. num-in b a1 (4 * sh .s) (omega arith) i j 4 l e);
+        group = num-part b 0 48 0 0 1 h (omega arith) (omega arith);
+        replica = num-part b 0 48 1 1 1 h (omega arith) (omega arith);
+        status = num-part b 0 48 2 2 1 h (omega arith) (omega arith);
+        view = num-part b 0 48 8 8 4 h (omega arith) (omega arith);
+        normal = num-part b 0 48 12 12 4 h (omega arith) (omega arith);
+        clock = num-part b 0 48 16 16 8 h (omega arith) (omega arith);
+        sync = num-part b 0 48 24 24 8 h (omega arith) (omega arith);
+        commit = num-part b 0 48 32 32 8 h (omega arith) (omega arith);
+        boundary = num-part b 0 48 40 40 8 h (omega arith) (omega arith);
+        gVec = row-in (λ x a. num x a 4) b a1 4 (sh .s) (startOf sh atGVec) (omega arith) (λ i j l e. num-part b a1 (4 * sh .s) i j 4 (omega arith) l e);
         heard = row-in pointAt b a2 9 (sh .n) (startOf sh atHeard) (omega arith) (point-in b a2 (9 * sh .n) (omega arith));
         log = table-in b a3 t (omega arith) (sh .c) 0 (startOf sh atLog) (omega arith) (omega arith);
         early = table-in b a4 t (omega arith) (sh .c) 0 (startOf sh atEarly) (omega arith) (omega arith);

@@ -1,5 +1,5 @@
 -- gVec, the points heard, the votes and the replies: place r read and written, or all of them written. Assumes nothing.
-use Prim.Native.Nat.{ℕ, _+_, _*_, _-_, _^_, _≤_, _<_}
+use Prim.Native.Nat.{ℕ, _+_, _*_, _^_, _≤_, _<_}
 use mathlib.Core.Path.{_≡_, refl, sym, ap, _∙_}
 use mathlib.Core.Bool.{Bool, true, false}
 use mathlib.Core.Option.{Option, none, some}
@@ -19,25 +19,20 @@ use Rattle.rules.specs.Image.{tableLength, voteLength, replyLength, lengths, ze
 use Rattle.rules.specs.declared.Entry.{Entry}
 use Rattle.rules.specs.declared.Shape.{Shape}
 use Rattle.rules.proofs.Tests.{all-1, all-at}
-use Rattle.rules.proofs.Tables.{point, TableFits, table-long, VoteIs, VoteFits, vote, ReplyFits, reply}
+use Rattle.rules.proofs.Tables.{point, TableFits, table-long, VoteIs, VoteFits, vote, ReplyFits, reply, point-long, points-zeros}
 use Rattle.places.specs.Layout.{startOf, ownBytes, Midway}
 use Rattle.places.proofs.Sections.{Laid, midway-laid, long-at, get-in, drop-all, put-in, put-all}
 use Rattle.places.proofs.Rows.{within, Even, long-row, places-row, get-row, set-row, row-at}
 use Rattle.places.proofs.Head.{get-head}
 use Rattle.places.proofs.Tables.{log-part}
 use Rattle.places.proofs.Spots.{count-like}
-use Rattle.places.proofs.Zeros.{heard-zeros, votes-zeros, replies-zeros}
+use Rattle.places.proofs.Zeros.{votes-zeros, replies-zeros}
 
 -- ---- lengths
 
 each : {A : Type 0} (P : A → Type 0) → ((x : A) → P x) → (xs : List A) → All P xs
 each P h [] = tt
 each P h (x ∷ xs) = (h x, each P h xs)
-
-pub point-long : (p : Option ℕ) → length (pointBytes p) ≡ 9
-unfolding pointBytes
-point-long none = refl
-point-long (some p) = simp (length-append, length-le)
 
 pub vote-long : (c : ℕ) (v : Vote) → length (v .log) ≤ c → length (voteBytes c (some v)) ≡ voteLength c
 unfolding voteBytes
@@ -87,7 +82,7 @@ module _ {sh : Shape} {st : State} {b : List ℕ} (l : Laid sh st b) where
 
   pub clear-heard : {b′ : List ℕ} → b′ ≡ splice b (startOf sh atHeard) (replicate (9 * sh .n) 0) → Laid sh (withHeard (replicate (sh .n) none) st) b′
   unfolding headSection
-  clear-heard = put-zeros (withHeard (replicate (sh .n) none) st) 2 (9 * sh .n) (flat pointBytes (replicate (sh .n) none)) (lit< tt) (heard-zeros (sh .n)) refl refl
+  clear-heard = put-zeros (withHeard (replicate (sh .n) none) st) 2 (9 * sh .n) (flat pointBytes (replicate (sh .n) none)) (lit< tt) (points-zeros (sh .n)) refl refl
 
   pub clear-votes : {b′ : List ℕ} → b′ ≡ splice b (startOf sh atVotes) (replicate (voteLength (sh .c) * sh .n) 0) → Laid sh (withChange (record { votes = replicate (sh .n) none; draft = st .change .draft; boundary = st .change .boundary; replies = st .change .replies }) st) b′
   unfolding headSection
@@ -152,17 +147,15 @@ reply-body c es h = part-past (le 1 1) (tableBytes c es) 1 1 (tableLength c) (le
 
 -- ---- read
 
+pub view-at : {sh : Shape} {st : State} {b : List ℕ} → Laid sh st b → length (st .view .gVec) ≡ sh .s → All (λ v. v < 256 ^ 4) (st .view .gVec) → (j : ℕ) → j < sh .s → num b (startOf sh atGVec + 4 * j) 4 ≡ getD (st .view .gVec) j 0
+view-at {sh} {st} {b} l n f j h = row-at (number 4) b (startOf sh atGVec) (st .view .gVec) _ 0 j f (drop-all l 1 (startOf sh atGVec) (lit< tt) refl) (omega arith)
+
 module _ {sh : Shape} {st : State} {b : List ℕ} (m : Midway sh st b) where
   pub even-votes : Even (voteBytes (sh .c)) (voteLength (sh .c)) (st .change .votes)
   even-votes = all-1 (vote (sh .c) .long) (st .change .votes) (m .holds .votes)
 
   pub even-replies : Even (replyBytes (sh .c)) (replyLength (sh .c)) (st .change .replies)
   even-replies = all-1 (reply (sh .c) .long) (st .change .replies) (m .holds .replies)
-
-  pub view-at : (j : ℕ) → j < sh .s → num b (startOf sh atGVec + 4 * j) 4 ≡ getD (st .view .gVec) j 0
-  view-at j h =
-      let n : length (st .view .gVec) ≡ sh .s = m .holds .gVecPlaces in
-      row-at (number 4) b (startOf sh atGVec) (st .view .gVec) _ 0 j (m .holds .gVec) (drop-all (midway-laid m) 1 (startOf sh atGVec) (lit< tt) refl) (omega arith)
 
   pub heard-at : (r : ℕ) → r < sh .n → pointAt b (startOf sh atHeard + 9 * r) ≡ getD (st .heard) r none
   heard-at r h =

@@ -1,5 +1,5 @@
 -- What is empty is zeros in the bytes of a state. Assumes nothing.
-use Prim.Native.Nat.{ℕ, zero, suc, _+_, _-_, _*_}
+use Prim.Native.Nat.{ℕ, _+_, _-_, _*_}
 use mathlib.Core.Path.{_≡_, refl, ap, ap₂, _∙_}
 use mathlib.Core.Option.{none}
 use mathlib.Core.List.{List, [], _∷_, _++_, map}
@@ -8,8 +8,9 @@ use lib.ListN.{length, replicate, length-replicate, replicate-append-replicate}
 use Rattle.octets.specs.Bytes.{le, flat}
 use Rattle.octets.specs.Sections.{concat, total}
 use Rattle.octets.proofs.Laws.{le-zero}
-use Rattle.rules.specs.Image.{tableLength, noteLength, voteLength, replyLength, zeroBytes, pointBytes, tableBytes, notesSection, voteBytes, replyBytes}
+use Rattle.rules.specs.Image.{tableLength, noteLength, voteLength, replyLength, zeroBytes, tableBytes, notesSection, voteBytes, replyBytes}
 use Rattle.rules.specs.declared.Shape.{Shape}
+use Rattle.rules.proofs.Tables.{flat-zeros}
 
 -- zeros in sections
 pub concat-zeros : (ns : List ℕ) → concat (map zeroBytes ns) ≡ zeroBytes (total ns)
@@ -20,16 +21,6 @@ concat-zeros (n ∷ ns) = ap (λ (x : List ℕ). zeroBytes n ++ x) (concat-zeros
 pub long-zeros : (ns : List ℕ) → map length (map zeroBytes ns) ≡ ns
 long-zeros [] = refl
 long-zeros (n ∷ ns) = ap₂ _∷_ (length-replicate {A = ℕ} n 0) (long-zeros ns)
-
--- things in a row, each of them zeros
-pub flat-zeros : {A : Type 0} (put : A → List ℕ) (k n : ℕ) (x : A) → put x ≡ zeroBytes k → flat put (replicate n x) ≡ zeroBytes (k * n)
-unfolding flat
-flat-zeros put k zero x e =
-    let z : k * 0 ≡ 0 = omega arith in
-    rw z
-flat-zeros put k (suc n) x e =
-    let m : k * suc n ≡ k + k * n = omega arith in
-    rw (e, flat-zeros put k n x e, m) (replicate-append-replicate {A = ℕ} k (k * n) 0)
 
 -- a count of 0, and free places alone
 rows-zeros : (k c : ℕ) → le 4 0 ++ zeroBytes (k * (c - 0)) ≡ zeroBytes (4 + k * c)
@@ -44,10 +35,6 @@ table-zeros c = rows-zeros 24 c
 pub notes-zeros : (sh : Shape) → notesSection sh [] ≡ zeroBytes (4 + noteLength (sh .s) * sh .c)
 unfolding notesSection flat
 notes-zeros sh = rows-zeros (noteLength (sh .s)) (sh .c)
-
-pub heard-zeros : (n : ℕ) → flat pointBytes (replicate n none) ≡ zeroBytes (9 * n)
-unfolding pointBytes
-heard-zeros n = flat-zeros pointBytes 9 n none refl
 
 pub votes-zeros : (c n : ℕ) → flat (voteBytes c) (replicate n none) ≡ zeroBytes (voteLength c * n)
 unfolding voteBytes

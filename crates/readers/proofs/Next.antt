@@ -1,7 +1,7 @@
 -- The length of the next message: a law for each way through the function that gives it. Assumes nothing.
 use Prim.Native.Nat.{ℕ, _≤_, _<_}
-use mathlib.Core.Path.{_≡_, refl, sym, ap, ap₂, subst, _∙_}
-use mathlib.Core.Bool.{Bool, true, false, _&&_, not}
+use mathlib.Core.Path.{_≡_, sym, ap, ap₂, subst, _∙_}
+use mathlib.Core.Bool.{Bool, true, false, _&&_, not, and-false}
 use mathlib.Core.List.{List}
 use lib.ListN.{length}
 use lib.Dec.{leb}
@@ -13,11 +13,6 @@ use Rattle.rules.specs.Kind.{known}
 use Rattle.rules.specs.Read.{entriesAt, lengthFor, lengthAt}
 use Rattle.rules.proofs.Tests.{and-both, pick-true, sizes}
 use Rattle.readers.specs.Said.{nextLength}
-
--- a test in a row that fails
-and-false : (a : Bool) → (a && false) ≡ false
-and-false true = refl
-and-false false = refl
 
 pub few-groups : (n s : ℕ) (fit : Bool) → fit ≡ sizesFit n s → not fit ≡ false → s ≤ 8
 few-groups n s fit e h = sizes n s (sym e ∙ not-false fit h) .groups

@@ -18,7 +18,7 @@ use Rattle.rules.specs.Read.{entryAt}
 use Rattle.rules.specs.State.{Vote}
 use Rattle.rules.specs.Rebuild.{withNormal, holders}
 use Rattle.rules.specs.declared.Entry.{Entry}
-use Rattle.rules.proofs.Choice.{by-cases, fails, clash, any-at, at-any, keep-append, pick-true, pick-false}
+use Rattle.rules.proofs.Choice.{by-cases, fails, clash, any-at, at-any, keep-append, pick-true, pick-false, one-picked}
 use Rattle.rules.proofs.Order.{txn-as, key-txn, key-stamp, key-made}
 use Rattle.rules.proofs.Logs.{good-parts, one-place}
 use Rattle.entries.specs.First.{findRow}
@@ -26,24 +26,22 @@ use Rattle.entries.proofs.First.{among-row, found-row}
 use Rattle.ballots.specs.Ballots.{voteOf, countsAt, Lists}
 use Rattle.rebuild.specs.Rebuild.{lower, holdsAt}
 use Rattle.ballots.proofs.Counting.{lower-next}
+use Rattle.entries.proofs.Table.{row-read}
 
 module _ (c : ℕ) (es : List Entry) (t : List ℕ) (k : Lists c es t) where
-  pub listed-at : (i : ℕ) → i < length es → entryAt t (4 + 24 * i) ≡ entryOf es i
-  listed-at i h = sym (getD-items (entryAt t) 24 4 (length es) i noEntry h) ∙ ap (λ (xs : List Entry). entryOf xs i) (k .rows)
-
   -- the first m of them
   pub listed-take : (m : ℕ) → m ≤ length es → items (entryAt t) 24 4 m ≡ take m es
   listed-take m h =
       ext-getD noEntry (items (entryAt t) 24 4 m) (take m es) (length-items (entryAt t) 24 4 m ∙ sym (length-take-le m es h))
       (λ i l.
       let b : i < m = omega (arith, length-items (entryAt t) 24 4 m) in
-      getD-items (entryAt t) 24 4 m i noEntry b ∙ listed-at i (omega arith) ∙ sym (getD-take m es i noEntry b))
+      getD-items (entryAt t) 24 4 m i noEntry b ∙ row-read es t (k .rows) i (omega arith) ∙ sym (getD-take m es i noEntry b))
 
   -- no entry has the transaction
   pub key-missing : (e : Entry) (n i : ℕ) → n ≡ num t 0 4 → i ≡ findRow (λ j. entryAt t (4 + 24 * j)) (e .request) (e .coordinator) n → n ≤ i → false ≡ any (sameKey e) es
   key-missing e n i m f h =
       let l : length es ≡ n = omega (arith, k .count) in
-      let a : ltb i n ≡ among es e = among-row (λ j. entryAt t (4 + 24 * j)) es e n i l (λ j q. listed-at j (omega arith)) f in
+      let a : ltb i n ≡ among es e = among-row (λ j. entryAt t (4 + 24 * j)) es e n i l (λ j q. row-read es t (k .rows) j (omega arith)) f in
       sym
       (fails (any (sameKey e) es)
       (λ y.
@@ -54,8 +52,8 @@ module _ (c : ℕ) (es : List Entry) (t : List ℕ) (k : Lists c es t) where
   pub key-found : (s g : ℕ) (e x : Entry) (n i : ℕ) → goodLog s g es ≡ true → n ≡ num t 0 4 → i ≡ findRow (λ j. entryAt t (4 + 24 * j)) (e .request) (e .coordinator) n → i < n → x ≡ entryAt t (4 + 24 * i) → eqb (e .stamp) (x .stamp) ≡ any (sameKey e) es
   key-found s g e x n i y m f h q =
       let l : i < length es = omega (arith, k .count) in
-      let z : x ≡ entryOf es i = q ∙ listed-at i l in
-      let w : sameTxn e (entryOf es i) ≡ true = ap (sameTxn e) (sym (listed-at i l)) ∙ found-row (λ j. entryAt t (4 + 24 * j)) e n i f h in
+      let z : x ≡ entryOf es i = q ∙ row-read es t (k .rows) i l in
+      let w : sameTxn e (entryOf es i) ≡ true = ap (sameTxn e) (sym (row-read es t (k .rows) i l)) ∙ found-row (λ j. entryAt t (4 + 24 * j)) e n i f h in
       rw z
       (by-cases (eqb (e .stamp) (entryOf es i .stamp))
       (λ p. p ∙ sym (at-any (sameKey e) noEntry es i l (key-made e (entryOf es i) (eqb-true (e .stamp) (entryOf es i .stamp) p) w)))
@@ -78,11 +76,7 @@ module _ (top : ℕ) (vs : List (Option Vote)) (e : Entry) where
   one-holder : (a : Bool) (v : Vote) → length (keep (λ u. any (sameKey e) (u .log)) (pick a (v ∷ []) [])) ≡ pick (a && any (sameKey e) (v .log)) 1 0
   unfolding keep pick
   one-holder false v = refl
-  one-holder true v = go (any (sameKey e) (v .log))
-    where
-      go : (b : Bool) → length (pick b (v ∷ []) []) ≡ pick b 1 0
-      go true = refl
-      go false = refl
+  one-holder true v = one-picked (any (sameKey e) (v .log)) v
 
   holders-next : (r : ℕ) → r < length vs → holders (lower top vs (r + 1)) e ≡ holders (lower top vs r) e + pick (holdsAt top e (getD vs r none)) 1 0
   unfolding holdsAt

@@ -22,7 +22,7 @@ use Rattle.rules.proofs.Entries.{EntryFits, long-entry, entry}
 use Rattle.rules.proofs.Tables.{flat-long}
 use Rattle.rules.proofs.Digest.{digest-next}
 use Rattle.rules.proofs.Tests.{at-all}
-use Rattle.entries.proofs.Table.{all-drop}
+use Rattle.rules.proofs.Choice.{all-drop}
 use Rattle.places.specs.Layout.{startOf}
 use Rattle.places.proofs.Sections.{Laid, midway-laid, get-in}
 use Rattle.places.proofs.Rows.{within, get-row}

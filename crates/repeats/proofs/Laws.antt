@@ -1,6 +1,6 @@
 -- The first number that passes a test; and with it the first key that repeats an earlier one, and the row of a key.
 use mathlib.Core.Path.{_≡_, _∙_, ap, refl, sym}
-use mathlib.Core.Bool.{Bool, true, false, _&&_, _||_, not}
+use mathlib.Core.Bool.{Bool, true, false, _&&_, _||_, not, or-true}
 use Prim.Native.Nat.{ℕ, zero, suc, _+_, _<_, _≤_}
 use native.Mathlib.Decide.{decLt}
 use native.Mathlib.Numerals.{add-one}
@@ -110,10 +110,6 @@ module _ (key : ℕ → ℕ) (x : ℕ) where
   pub seen-more : (j : ℕ) → seenKey key x j ≡ false → (key j ≡ x → ⊥) → seenKey key x (j + 1) ≡ false
   unfolding seenKey
   seen-more j h e = rw (add-one j) (simp (h, ne-eqb _ _ e))
-
-  or-true : (b : Bool) → (b || true) ≡ true
-  or-true true = refl
-  or-true false = refl
 
   hit-last : (j n : ℕ) → (j < n → seenKey key x n ≡ true) → j < suc n → key j ≡ x → Dec (j < n) → seenKey key x (suc n) ≡ true
   unfolding seenKey

@@ -1,6 +1,6 @@
 -- The table of rows by key: a path, a turn at a time; what a store keeps; what a table with every row says.
 use mathlib.Core.Path.{_≡_, _∙_, ap, refl, sym}
-use mathlib.Core.Bool.{Bool, true, false, _||_}
+use mathlib.Core.Bool.{Bool, true, false, _||_, or-true}
 use mathlib.Core.List.{List, [], _∷_}
 use Prim.Native.Nat.{ℕ, zero, suc, _+_, _-_, _<_, _≤_}
 use native.Mathlib.Decide.{decLt}
@@ -10,7 +10,7 @@ use lib.Dec.{eqb, leb}
 use lib.ListN.{length, getD, set, length-set, List·getD-eq-default}
 use lib.Seq.{getD-set-same, getD-set-other}
 use Rattle.rules.specs.Choice.{pick}
-use Rattle.repeats.specs.Repeat.{repeatPlace, rowOf, Distinct}
+use Rattle.repeats.specs.Repeat.{rowOf, Distinct}
 use Rattle.repeats.specs.Table.{slotOf, ends, stop, slotAt, held, Holds, Empty, Laid}
 use Rattle.repeats.proofs.Laws.{row-is, seen-hit, repeat-here, distinct-repeat}
 
@@ -19,10 +19,6 @@ inside : (t : List ℕ) (p d e : ℕ) → p < length t → getD t p d ≡ getD t
 inside [] p d e h = absurd (omega arith)
 inside (x ∷ t) zero d e h = refl
 inside (x ∷ t) (suc p) d e h = inside t p d e (omega arith)
-
-or-true : (b : Bool) → (b || true) ≡ true
-or-true true = refl
-or-true false = refl
 
 module _ (key : ℕ → ℕ) (m : ℕ) where
   -- ---- a slot at which a path ends, or does not

@@ -2,7 +2,7 @@
 use Prim.Native.Nat.{ℕ}
 use mathlib.Core.Path.{_≡_, refl, sym, _∙_}
 use mathlib.Core.Bool.{Bool, true, false, not, true≢false, and-false}
-use mathlib.Core.List.{List, []}
+use mathlib.Core.List.{List}
 use lib.ListN.{length}
 use lib.Dec.{eqb}
 use borrow.Author.Tests.{ne-eqb, eqb-false}
@@ -17,9 +17,8 @@ use Rattle.rules.specs.declared.Shape.{Shape}
 use Rattle.rules.specs.declared.Message.{Message}
 use Rattle.places.specs.Layout.{lengthFor, Stands}
 use Rattle.places.proofs.Sections.{stands}
-use Rattle.handler.specs.Handler.{Ready}
 use Rattle.admit.specs.Refusal.{refusalOf}
-use Rattle.admit.proofs.Steps.{refused-step, handled-step, ready}
+use Rattle.admit.proofs.Steps.{refused-step, handled-step}
 
 -- bytes of another length than a state has
 pub wrong-length : (sh : Shape) (b : List ℕ) (n : ℕ) → n ≡ lengthFor sh → (length b ≡ n → ⊥) → false ≡ goodBytes sh b
@@ -50,9 +49,6 @@ pub good-stands : (sh : Shape) (b : List ℕ) (g : Bool) → g ≡ goodBytes sh 
 good-stands sh b g e f = stands sh b (is-good sh b g e f)
 
 module _ (sh : Shape) (b msg : List ℕ) (m : Message) (r : ℕ) (g : Bool) (e : g ≡ goodBytes sh b) (f : not g ≡ false) (d : m ≡ decoded (sh .n) (sh .s) msg) (q : r ≡ refusalOf sh (stateOf sh b) (tagOf m) (wireIn (sh .s) msg)) where
-  pub is-ready : r ≡ 0 → Ready sh b m msg
-  is-ready n = ready sh b msg [] m r (is-good sh b g e f) d q n
-
   pub by-refusal : (out : List ℕ) → (r ≡ 0 → ⊥) → leaves r b out ≡ stepBytes sh b msg out
   by-refusal out n = refused-step sh b msg out m r (is-good sh b g e f) d q n
 

@@ -6,7 +6,7 @@ use mathlib.Core.Option.{Option}
 use mathlib.Core.List.{List, [], _∷_, _++_}
 use native.Mathlib.Omega.{arith}
 use lib.ListN.{length, set}
-use borrow.Author.Tests.{le-ltb}
+use borrow.Author.Tests.{le-ltb, not-true, not-false}
 use Rattle.octets.specs.Bytes.{num}
 use Rattle.rules.specs.Choice.{isSome}
 use Rattle.rules.specs.Entry.{entryOf, sameTxn, stamped, among}
@@ -25,7 +25,6 @@ use Rattle.entries.specs.First.{findRow}
 use Rattle.entries.specs.Table.{Holds, Table}
 use Rattle.entries.proofs.First.{found-row}
 use Rattle.entries.proofs.Table.{entry-in, row-among}
-use Rattle.logs.proofs.Every.{when-not, unless-not}
 use Rattle.notes.specs.Notes.{said}
 use Rattle.notes.specs.declared.Point.{Point}
 use Rattle.notes.specs.declared.Point.the-variants.{Unheard, Heard}
@@ -75,12 +74,12 @@ module _ {sh : Shape} {st : State} {b : List ℕ} (m : Midway sh st b) (o : dist
     named = ap (sameTxn x) (sym (entry-in (sh .c) (st .waiting .early) t held i low)) ∙ found-row (λ j. entryAt t (4 + 24 * j)) x n i f h
 
     pub lift-waits : (r : Bool) → r ≡ agreed sh xs d → not r ≡ true → Midway sh (earlyIn st (lifted sh (st .waiting .notes) x (st .waiting .early))) b
-    lift-waits r a y = rw (lifted-waits sh (st .waiting .notes) x (st .waiting .early) o i low named (sym (rw (z, found) at a) ∙ when-not r y)) m
+    lift-waits r a y = rw (lifted-waits sh (st .waiting .notes) x (st .waiting .early) o i low named (sym (rw (z, found) at a) ∙ not-true r y)) m
 
     pub lift-here : (r : Bool) (v : ℕ) (b′ : List ℕ) → r ≡ agreed sh xs d → not r ≡ false → v ≡ greatest sh xs d → (y : Entry) → y ≡ stamped v d → Midway sh (earlyIn st (set (st .waiting .early) i y)) b′ → Midway sh (earlyIn st (lifted sh (st .waiting .notes) x (st .waiting .early))) b′
     lift-here r v b′ a u w y k l =
         let s : y ≡ stamped (greatest sh (st .waiting .notes) (entryOf (st .waiting .early) i)) (entryOf (st .waiting .early) i) = k ∙ rw (w, z) (ap (λ (c : Entry). stamped (greatest sh (st .waiting .notes) c) c) found) in
-        rw (lifted-here sh (st .waiting .notes) x (st .waiting .early) o i low named (sym (rw (z, found) at a) ∙ unless-not r u)) (rw s at l)
+        rw (lifted-here sh (st .waiting .notes) x (st .waiting .early) o i low named (sym (rw (z, found) at a) ∙ not-false r u)) (rw s at l)
 
 -- ---- an early entry added
 

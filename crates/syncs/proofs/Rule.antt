@@ -1,7 +1,7 @@
 -- What is chosen, by the words of the rule. Assumes nothing.
 use Prim.Native.Nat.{ℕ, _+_}
 use mathlib.Core.Path.{_≡_, refl, sym, ap, _∙_}
-use mathlib.Core.Bool.{Bool, true, false, _&&_, _||_, not}
+use mathlib.Core.Bool.{Bool, true, false, _&&_, not, or-false}
 use mathlib.Core.List.{List, [], _∷_, _++_}
 use native.Mathlib.Omega.{arith}
 use lib.ListN.{length, length-append}
@@ -44,10 +44,6 @@ above a b = go (leb b a) refl
     go true e = le-ltb a b (leb-true b a e)
     go false e = lt-ltb a b (omega (arith, leb-false b a e))
 
-or-none : (a : Bool) → (a || false) ≡ a
-or-none true = refl
-or-none false = refl
-
 module _ (log es : List Entry) where
   pub stays-is : keep (chosen log false (lastStamp log)) es ≡ staysEarly log es
   unfolding chosen mayFollow
@@ -55,7 +51,7 @@ module _ (log es : List Entry) where
 
   pub falls-is : keep (chosen log true (lastStamp log)) es ≡ fallsLate log es
   unfolding chosen mayFollow
-  falls-is = keep-twice (chosen log true (lastStamp log)) (λ e. not (among log e)) (λ e. not (followsLast log e)) (λ e. rw (or-none (ltb (e .stamp) (lastStamp log)), above (e .stamp) (lastStamp log))) es
+  falls-is = keep-twice (chosen log true (lastStamp log)) (λ e. not (among log e)) (λ e. not (followsLast log e)) (λ e. rw (or-false (ltb (e .stamp) (lastStamp log)), above (e .stamp) (lastStamp log))) es
 
 module _ (st : State) (log : List Entry) where
   pub late-is : keep (chosen log false 0) (st .waiting .late) ++ keep (chosen log true (lastStamp log)) (st .waiting .early) ≡ lateBy st log

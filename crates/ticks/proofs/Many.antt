@@ -9,13 +9,13 @@ use lib.Seq.{drop-at, take-suc, take-all, take-append-le, getD-take, getD-append
 use Rattle.octets.specs.Bytes.{flat}
 use Rattle.rules.specs.Kind.{rowOf}
 use Rattle.rules.specs.Choice.{pick, below}
-use Rattle.rules.specs.Entry.{noEntry, entryOf, without}
+use Rattle.rules.specs.Entry.{noEntry, entryOf}
 use Rattle.rules.specs.Wire.{Wire, wireBytes}
 use Rattle.rules.specs.Read.{lengthFor}
 use Rattle.rules.specs.Digest.{digest}
 use Rattle.rules.specs.State.{State, withLogged}
 use Rattle.rules.specs.Step.{sends, sendOut, released, placedReply, placedReplies}
-use Rattle.rules.specs.Early.{dueOf, notesWithout}
+use Rattle.rules.specs.Early.{dueOf}
 use Rattle.rules.specs.declared.Entry.{Entry}
 use Rattle.rules.proofs.Choice.{all-map}
 use Rattle.early.proofs.Kept.{without-none}
@@ -23,6 +23,10 @@ use Rattle.notes.proofs.Leaving as notes
 use Rattle.releases.specs.Releasing.{logging, earlyLeft, notesLeft}
 use Rattle.handler.proofs.Rows.{all-below, flat-ext, sends-flat, sends-below, sends-more}
 use Rattle.handler.proofs.Sends.{sent-length}
+
+-- the last of those that are taken
+pub taken-at : (ds : List Entry) (j : ℕ) → entryOf (take (j + 1) ds) j ≡ entryOf ds j
+taken-at ds j = let z : j < j + 1 = omega arith in rw getD-take
 
 -- ---- the replies
 
@@ -50,11 +54,8 @@ module _ (st : State) (ds : List Entry) where
       let n : length (log ++ take (i + 1) ds) ≡ length log + (i + 1) = length-append log (take (i + 1) ds) ∙ ap (λ (k : ℕ). length log + k) (length-take-le (i + 1) ds (omega arith)) in
       let p : suc (length log + i) ≡ length log + i + 1 = omega arith in
       let t : take (suc (length log + i)) (log ++ take (i + 1) ds) ≡ log ++ take (i + 1) ds = take-all (suc (length log + i)) (log ++ take (i + 1) ds) (omega arith) in
-      let e : entryOf (log ++ take (i + 1) ds) (length log + i) ≡ entryOf ds i = getD-append-add log (take (i + 1) ds) i noEntry ∙ taken-at i in
+      let e : entryOf (log ++ take (i + 1) ds) (length log + i) ≡ entryOf ds i = getD-append-add log (take (i + 1) ds) i noEntry ∙ taken-at ds i in
       rw (t, e, p)
-    where
-      taken-at : (j : ℕ) → entryOf (take (j + 1) ds) j ≡ entryOf ds j
-      taken-at j = let z : j < j + 1 = omega arith in rw getD-take
 
   replies-are : (i : ℕ) → i ≤ length ds → placedReplies st (take i ds) ≡ sends (reply i) (below i)
   replies-are i l = ap (λ (k : ℕ). sends (reply i) (below k)) (length-take-le i ds l)

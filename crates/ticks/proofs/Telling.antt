@@ -32,9 +32,10 @@ use Rattle.rules.proofs.Tables.{flat-long}
 use Rattle.places.specs.Layout.{startOf, Sized}
 use Rattle.places.proofs.Head.{get-head}
 use Rattle.handler.specs.Sending.{messageBytes, headedIn}
-use Rattle.handler.proofs.Sends.{sender, sent-length, message-sent, own-group, own-replica, view-in}
+use Rattle.handler.proofs.Sends.{sender, sent-length, message-sent, own-group, own-replica}
 use Rattle.releases.specs.Releasing.{Releasing}
 use Rattle.releases.proofs.LogBytes.{log-rest, log-entry, early-entry}
+use Rattle.places.proofs.Kept.{view-at}
 
 -- how long a message is
 pub placed-long : (s : ℕ) → lengthFor s 5 1 ≡ 72 + 4 * s
@@ -145,7 +146,7 @@ module _ {sh : Shape} {b : List ℕ} (m : Releasing sh b) where
   status-told out out′ at r g own view t sync h hg ho hv ht hs hh w =
       let st = stateOf sh b in
       let a : own ≡ st .site .group = ho ∙ own-group (midway-laid (m .midway)) (sender (m .midway .holds)) in
-      let v : view ≡ getD (st .view .gVec) (st .site .group) 0 = hv ∙ ap (λ (j : ℕ). num b (startOf sh atGVec + 4 * j) 4) a ∙ view-in (midway-laid (m .midway)) (sender (m .midway .holds)) (st .site .group) (m .own .group) in
+      let v : view ≡ getD (st .view .gVec) (st .site .group) 0 = hv ∙ ap (λ (j : ℕ). num b (startOf sh atGVec + 4 * j) 4) a ∙ view-at (midway-laid (m .midway)) (m .midway .holds .gVecPlaces) (m .midway .holds .gVec) (st .site .group) (m .own .group) in
       let y : headedIn b 10 g t ≡ headedIn b 10 (st .site .group) (only (getD (st .view .gVec) (st .site .group) 0 % sh .n)) = rw (hg ∙ own-group (midway-laid (m .midway)) (sender (m .midway .holds)), ht ∙ ap (λ (x : ℕ). only (x % sh .n)) v) in
       let n : sync ≡ st .logged .sync = hs ∙ sync-in in
       said out out′ (take (0 - 0) (drop 0 b)) at r 10 (st .site .group) (only (getD (st .view .gVec) (st .site .group) 0 % sh .n)) (SyncStatus h sync) (st .logged .sync ∷ []) [] (hh ∙ y) (ap (λ (x : ℕ). x ∷ []) n) refl tt refl refl w

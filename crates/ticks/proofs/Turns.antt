@@ -1,29 +1,28 @@
 -- The loop of releases, a turn at a time. Assumes nothing.
-use Prim.Native.Nat.{ℕ, _+_, _-_, _*_, _≤_, _<_}
+use Prim.Native.Nat.{ℕ, _+_, _*_, _≤_, _<_}
 use mathlib.Core.Path.{_≡_, refl, sym, ap, subst, _∙_}
 use mathlib.Core.List.{List, [], _∷_, _++_, append-nil}
 use native.Mathlib.Omega.{arith}
 use native.Mathlib.Nat.{mul-add, mul-one}
 use lib.ListN.{length, take, drop, length-append}
-use lib.Seq.{getD-append-add, getD-take, length-take-le}
+use lib.Seq.{getD-append-add, length-take-le}
 use Rattle.octets.specs.Bytes.{flat, splice}
 use Rattle.octets.proofs.Laws.{length-splice, splice-none, splice-next}
-use Rattle.rules.specs.Kind.{rowOf}
-use Rattle.rules.specs.Choice.{below, pick}
-use Rattle.rules.specs.Entry.{noEntry, entryOf, without}
+use Rattle.rules.specs.Choice.{below}
+use Rattle.rules.specs.Entry.{noEntry, entryOf}
 use Rattle.rules.specs.Wire.{wireBytes}
 use Rattle.rules.specs.Read.{lengthFor}
 use Rattle.rules.specs.Digest.{digest}
 use Rattle.rules.specs.State.{State}
 use Rattle.rules.specs.Image.{stateOf}
 use Rattle.rules.specs.Step.{sends, sendOut, placedReplies}
-use Rattle.rules.specs.Early.{dueOf, notesWithout}
+use Rattle.rules.specs.Early.{dueOf}
 use Rattle.rules.specs.declared.Entry.{Entry}
 use Rattle.rules.specs.declared.Shape.{Shape}
 use Rattle.places.proofs.Rows.{within}
 use Rattle.releases.specs.Releasing.{Releasing, Reaches, logging, earlyLeft, notesLeft, Cleared}
 use Rattle.ticks.specs.Released.{Released}
-use Rattle.ticks.proofs.Many.{dues, longer, longer-start, longer-log, longer-next, longer-rest, longer-released, released-none, replies-more, replies-length}
+use Rattle.ticks.proofs.Many.{dues, longer, longer-start, longer-log, longer-next, longer-rest, longer-released, released-none, replies-more, replies-length, taken-at}
 
 -- from the state in b, once the first i entries due by a time are at the end of the log: the state, and the replies, which end at r
 pub record Appended (sh : Shape) (b out : List ℕ) (time i r : ℕ) (b′ out′ : List ℕ) : Type 0 where
@@ -84,10 +83,7 @@ module _ {sh : Shape} {b₀ : List ℕ} (m : Releasing sh b₀) (out₀ : List �
       next-sum = hs₁ ∙ ap (λ (x : State). digest (x .logged .log ++ (entryOf (dueOf time (x .waiting .early)) i ∷ []))) (r .reached .is) ∙ ap digest (longer-log st time i less)
 
       next-entry : entryOf (stateOf sh b₁ .logged .log) (n + i) ≡ entryOf ds i
-      next-entry = ap (λ (es : List Entry). entryOf es (n + i)) next-log ∙ rw hn (getD-append-add (st .logged .log) (take (i + 1) ds) i noEntry) ∙ taken-at i
-        where
-          taken-at : (j : ℕ) → entryOf (take (j + 1) ds) j ≡ entryOf ds j
-          taken-at j = let z : j < j + 1 = omega arith in rw getD-take
+      next-entry = ap (λ (es : List Entry). entryOf es (n + i)) next-log ∙ rw hn (getD-append-add (st .logged .log) (take (i + 1) ds) i noEntry) ∙ taken-at ds i
 
       -- what its reply asks for
       pub turn-tells : Releasing sh b₁ × (n + i < length (stateOf sh b₁ .logged .log)) × (at + lengthFor (sh .s) 5 1 ≤ length out)

@@ -1,7 +1,7 @@
 -- The ways through a tick: what a leader's and a follower's releases leave. Assumes nothing.
 use Prim.Native.Nat.{ℕ, zero, suc, _+_, _-_, _*_, _≤_, _<_, min}
 use mathlib.Core.Path.{_≡_, refl, sym, ap, ap₂, _∙_}
-use mathlib.Core.Bool.{Bool, true, false, _&&_, not}
+use mathlib.Core.Bool.{Bool, true, false, _&&_, not, and-false}
 use mathlib.Core.List.{List, [], _∷_, _++_, append-nil}
 use native.Mathlib.Omega.{arith}
 use native.Mathlib.Decide.{decLe}
@@ -143,11 +143,7 @@ module _ (sh : Shape) (st : State) (time : ℕ) (ds : List Entry) where
   no-run n e =
       let t : take {A = Entry} (sh .c - length (st .logged .log)) [] ≡ [] = take-nil (sh .c - length (st .logged .log)) in
       let a : length (st .logged .log ++ []) ≡ n = ap length (append-nil (st .logged .log)) ∙ sym e in
-      pick-false (leb (sh .c) (length (st .logged .log)) && false) _ _ (and-none (leb (sh .c) (length (st .logged .log)))) ∙ rw (t, a)
-    where
-      and-none : (b : Bool) → (b && false) ≡ false
-      and-none true = refl
-      and-none false = refl
+      pick-false (leb (sh .c) (length (st .logged .log)) && false) _ _ (and-false (leb (sh .c) (length (st .logged .log)))) ∙ rw (t, a)
 
   -- nothing is due, or the first due one is told of
   pub leader-none : length ds ≡ 0 → (n : ℕ) → n ≡ length (st .logged .log) → leaderReleases sh st time ds [] ≡ done (released st time n []) []

@@ -1,12 +1,11 @@
 -- The verdict on entries, one entry after the other. Assumes nothing.
 use Prim.Native.Nat.{ℕ, zero, suc, _+_, _*_, _≤_, _<_}
-use mathlib.Core.Path.{_≡_, refl, sym, ap, ap₂, _∙_}
-use mathlib.Core.Bool.{Bool, true, false, _&&_, _||_, not}
+use mathlib.Core.Path.{_≡_, refl, sym, ap, _∙_}
+use mathlib.Core.Bool.{Bool, true, false, _&&_, _||_, not, and-true, and-false}
 use mathlib.Core.List.{List, []}
 use native.Mathlib.Omega.{arith}
-use native.Mathlib.Decide.{decLe}
 use native.Mathlib.Numerals.{add-one}
-use lib.Dec.{eqb, ltb, leb}
+use lib.Dec.{ltb, leb}
 use borrow.Author.Tests.{lt-ltb, ltb-true}
 use Rattle.rules.specs.Choice.{pick, when, allOf}
 use Rattle.rules.specs.Entry.{lastBefore, mayFollow}
@@ -18,11 +17,11 @@ use Rattle.rules.specs.declared.Header.{Header}
 use Rattle.rules.specs.declared.Verdict.{Verdict}
 use Rattle.rules.specs.declared.Verdict.the-variants.{Fine, Wrong}
 use Rattle.rules.proofs.Tests.{and-l, and-r}
+use Rattle.rules.proofs.Verdicts.{wrong-stays}
 use Rattle.fields.specs.declared.Parts.{Parts}
 use Rattle.fields.specs.Parts.{fieldsFrom, fieldsOf, headed, rowsOf}
 use Rattle.verdicts.specs.Rows.{rowIn, limitOf, standsAfter, wrongIn}
 use Rattle.verdicts.specs.declared.Look.{Look}
-use Rattle.fields.proofs.Rows.{and-true, and-false}
 use Rattle.verdicts.proofs.Fresh.{Limit, limit-is}
 
 module _ (s k : ℕ) (f : ℕ → Entry) (i : ℕ) where
@@ -33,10 +32,6 @@ module _ (s k : ℕ) (f : ℕ → Entry) (i : ℕ) where
   stands-again : seenBefore f (f i) i ≡ true → stands s k f i ≡ false
   unfolding stands mayFollow allOf
   stands-again h = rw (h, and-false (leb (lastBefore f i .stamp) (f i .stamp)))
-
-pub stamp-next : (f : ℕ → Entry) (i : ℕ) (e : Entry) → e ≡ f i → e .stamp ≡ lastBefore f (i + 1) .stamp
-unfolding lastBefore
-stamp-next f i e q = rw (add-one, q)
 
 module _ (s : ℕ) (h : Header) (f : ℕ → Entry) (whole : ℕ) where
   abbrev m : Fields
@@ -50,20 +45,11 @@ module _ (s : ℕ) (h : Header) (f : ℕ → Entry) (whole : ℕ) where
   unfolding entriesWrong andThen
   next-fine i v e q w = rw (add-one, e, ← q) w
 
-  stays : (i n a u : ℕ) → verdict i ≡ Wrong a u → i ≤ n → verdict n ≡ Wrong a u
-  unfolding entriesWrong andThen
-  stays i zero a u e l = let q : i ≡ 0 = omega arith in rw q at e
-  stays i (suc n) a u e l = go (decLe i n) (stays i n a u e)
-    where
-      go : Dec (i ≤ n) → (i ≤ n → verdict n ≡ Wrong a u) → verdict (suc n) ≡ Wrong a u
-      go (yes x) r = rw (r x)
-      go (no x) r = let q : i ≡ suc n = omega arith in rw q at e
-
   pub next-wrong : (i seen a u : ℕ) (v : Verdict) → verdict i ≡ Fine → v ≡ firstWrong (entryRows s m whole i) → v ≡ Wrong a u → i < seen → Wrong a u ≡ verdict seen
   unfolding entriesWrong andThen
   next-wrong i seen a u v e q x l =
       let w : verdict (suc i) ≡ Wrong a u = rw (e, ← q) x in
-      sym (stays (suc i) seen a u w (omega arith))
+      sym (wrong-stays verdict (λ j. firstWrong (entryRows s m whole j)) (λ j. refl) (suc i) seen a u w (omega arith))
 
   -- ---- an entry as the reader looks at it
   module _ (log : Bool) (from seen limit : ℕ) (isLog : log ≡ withLog (h .kind)) (isFrom : from ≡ entriesAt s (h .kind)) (isLimit : limit ≡ limitOf log f whole seen) where

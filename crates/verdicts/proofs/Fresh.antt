@@ -1,7 +1,7 @@
 -- How far a log is looked at: up to the first entry that repeats an earlier transaction. Assumes nothing.
 use Prim.Native.Nat.{ℕ, _≤_, _<_, min}
 use mathlib.Core.Path.{_≡_, refl, sym}
-use mathlib.Core.Bool.{Bool, true, false, _&&_}
+use mathlib.Core.Bool.{Bool, true, false, _&&_, and-false}
 use native.Mathlib.Omega.{arith}
 use lib.Dec.{ltb}
 use borrow.Author.Tests.{lt-ltb, le-ltb, ltb-true, ltb-false}
@@ -12,7 +12,6 @@ use Rattle.rules.proofs.Tests.{pick-true, pick-false}
 use Rattle.repeats.specs.Repeat.{firstTo}
 use Rattle.repeats.proofs.Laws.{First, first-to}
 use Rattle.verdicts.specs.Rows.{repeatOf, limitOf}
-use Rattle.fields.proofs.Rows.{and-false}
 
 -- ---- how far a log is looked at
 

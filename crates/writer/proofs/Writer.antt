@@ -1,16 +1,16 @@
 -- Writes one after the other are one write of the message's bytes, and how long those are. Assumes nothing.
-use Prim.Native.Nat.{ℕ, zero, suc, _+_, _-_, _*_, _/_, _≤_, _<_}
-use mathlib.Core.Path.{_≡_, refl, sym, ap, ap₂, _∙_}
+use Prim.Native.Nat.{ℕ, _+_, _-_, _*_, _/_, _≤_, _<_}
+use mathlib.Core.Path.{_≡_, refl, sym, ap, _∙_}
 use mathlib.Core.List.{List, [], _∷_, _++_, append-assoc, append-nil}
 use native.Mathlib.Omega.{arith}
 use native.Mathlib.Numerals.{add-one}
-use lib.ListN.{length, take, drop, getD, replicate, length-append, length-replicate, drop-of-length-le}
+use lib.ListN.{length, take, getD, replicate, length-append, length-replicate}
 use lib.Seq.{length-take-le, take-suc, take-at, take-all}
 use Rattle.octets.specs.Bytes.{le, flat, items, num, splice}
 use Rattle.octets.specs.Sections.{concat}
 use Rattle.octets.proofs.Laws.{Bytes, length-le, splice-next, splice-none}
-use Rattle.octets.proofs.Codecs.{Exact, length-items, peel-all, exact-number, flat-append}
-use Rattle.rules.specs.Wire.{Wire, entryBytes, headBytes, wireBytes, numbersOf}
+use Rattle.octets.proofs.Codecs.{length-items, exact-number, flat-append}
+use Rattle.rules.specs.Wire.{entryBytes, headBytes, wireBytes, numbersOf}
 use Rattle.rules.specs.Wire as Wires
 use Rattle.rules.specs.Read.{entryAt}
 use Rattle.rules.specs.Write.{wireFrom}
@@ -18,6 +18,7 @@ use Rattle.rules.specs.declared.Header.{Header}
 use Rattle.rules.specs.declared.Message.{Message}
 use Rattle.rules.specs.declared.Message.the-variants.{WrongSizes, Malformed, Transaction, Note, ReplicaSync, FastReply, SlowReply, ChangeView, Vote, StartView, SyncStatus, Commit, VerifyRequest, VerifyReply, Tick}
 use Rattle.rules.proofs.Entries.{exact-entry}
+use Rattle.rules.proofs.Case.{block-of}
 use Rattle.writer.specs.declared.Said.{Said}
 use Rattle.writer.specs.Said.{mostNumbers, saidFirst, saidNext, saidOf, numbersSaid, bareWire, sizeOf, Room}
 
@@ -128,14 +129,6 @@ numbers-said m = take-at (numbersOf m) _ (length (numbersOf m)) refl
 
 -- ---- a message
 
--- a block that is whole is the bytes of what stands in it
-block : {A : Type 0} {k : ℕ} {put : A → List ℕ} {get : List ℕ → ℕ → A} → Exact A k put get → (b : List ℕ) → Bytes b → k * (length b / k) ≡ length b → flat put (items (get b) k 0 (length b / k)) ≡ b
-block {k = k} {put = put} {get = get} c b bs e =
-    let n = length b / k in
-    let q : 0 + k * n ≡ length b = omega arith in
-    let none : drop (0 + k * n) b ≡ [] = drop-of-length-le b {i = 0 + k * n} (omega arith) in
-    sym (append-nil (flat put (items (get b) k 0 n))) ∙ rw none at (peel-all c b 0 n bs (omega arith))
-
 module _ (m : Message) (views entries : List ℕ) where
   abbrev bytes : List ℕ
   bytes = wireBytes (wireFrom m views entries)
@@ -144,8 +137,8 @@ module _ (m : Message) (views entries : List ℕ) where
     bytes-are : bytes ≡ headBytes (bareWire (Wires.headerIn m)) ++ (le 4 (length views / 4) ++ (views ++ ((le 4 (length (numbersOf m)) ++ flat (le 8) (numbersOf m)) ++ (le 4 (length entries / 24) ++ entries))))
     unfolding wireBytes wireFrom headBytes concat
     bytes-are =
-        let ev : flat (le 4) (items (λ a. num views a 4) 4 0 (length views / 4)) ≡ views = block (exact-number 4) views bv wv in
-        let ee : flat entryBytes (items (entryAt entries) 24 0 (length entries / 24)) ≡ entries = block exact-entry entries be we in
+        let ev : flat (le 4) (items (λ a. num views a 4) 4 0 (length views / 4)) ≡ views = block-of (exact-number 4) views bv wv in
+        let ee : flat entryBytes (items (entryAt entries) 24 0 (length entries / 24)) ≡ entries = block-of exact-entry entries be we in
         simp (ev, ee, length-items, append-assoc, append-nil)
 
     pub length-bytes : length bytes ≡ sizeOf m views entries

@@ -4,11 +4,12 @@ use Prim.Native.Nat.{_+_, _-_, _≤_, min}
 use mathlib.Core.Path.{_≡_, sym, ap, _∙_}
 use mathlib.Core.Bool.{true}
 use native.Mathlib.Omega.{arith}
+use borrow.Author.Tests.{not-true, not-false}
 use Rattle.octets.specs.Bytes.{num, items}
 use Rattle.rules.specs.Choice.{every}
 use Rattle.rules.specs.Read.{entryAt}
 use Rattle.notes.specs.Notes.{notesAt}
-use Rattle.logs.proofs.Every.{when-not, unless-not, every-start, every-next, every-stop, every-end}
+use Rattle.logs.proofs.Every.{every-start, every-next, every-stop, every-end}
 use Rattle.good.specs.Known.{notedRight}
 use Rattle.good.proofs.Tables.{each-is}
 use borrow.Author.Needs.{needs}
@@ -46,7 +47,7 @@ noted-right-requires : tie.Need-noted-right-requires Inv-loop μ-loop
 noted-right-requires c κs = search needs
 
 returns : tie.Need-returns Inv-loop μ-loop
-returns c = each-is _ _ _ _ (c .before .before .before .before .before .loop .inv .1) _ _ (every-stop _ _ _ _ (c .before .before .before .before .before .loop .i) _ (c .before .before .before .before .loop-test .taken) (sym (c .before .noted-right .ensures ∙ ap (notedRight _ _ _) (c .before .before .before .entry-at .ensures)) ∙ when-not _ (c .if1 .taken)))
+returns c = each-is _ _ _ _ (c .before .before .before .before .before .loop .inv .1) _ _ (every-stop _ _ _ _ (c .before .before .before .before .before .loop .i) _ (c .before .before .before .before .loop-test .taken) (sym (c .before .noted-right .ensures ∙ ap (notedRight _ _ _) (c .before .before .before .entry-at .ensures)) ∙ not-true _ (c .if1 .taken)))
 
 add-i : tie.Need-add-i Inv-loop μ-loop
 add-i c = search needs
@@ -55,7 +56,7 @@ loop-less : tie.Need-loop-less Inv-loop μ-loop
 loop-less c = search needs
 
 loop-again : tie.Need-loop-again Inv-loop μ-loop
-loop-again c = (omega arith, c .before .before .before .before .before .loop .inv .1, every-next _ _ _ _ (c .before .before .before .before .before .loop .i) (c .before .before .before .before .before .loop .inv .2) (sym (c .before .noted-right .ensures ∙ ap (notedRight _ _ _) (c .before .before .before .entry-at .ensures)) ∙ unless-not _ (c .if1 .left)))
+loop-again c = (omega arith, c .before .before .before .before .before .loop .inv .1, every-next _ _ _ _ (c .before .before .before .before .before .loop .i) (c .before .before .before .before .before .loop .inv .2) (sym (c .before .noted-right .ensures ∙ ap (notedRight _ _ _) (c .before .before .before .entry-at .ensures)) ∙ not-false _ (c .if1 .left)))
 
 returns-2 : tie.Need-returns-2 Inv-loop μ-loop
 returns-2 c = each-is _ _ _ _ (c .before .loop .inv .1) _ _ (every-end _ _ _ _ (c .before .loop .i) _ (c .before .loop .inv .2) (c .before .loop .inv .0) (c .loop-test .left))

@@ -1,9 +1,9 @@
 -- `good::good` meets its contract: each way through it. Assumes nothing.
 -- Made by tools/answers from the file `answers` beside it: change that one.
 use mathlib.Core.Path.{sym, _∙_}
+use borrow.Author.Tests.{not-false}
 use Rattle.octets.proofs.Laws.{bytes-known}
 use Rattle.places.proofs.Sections.{fits}
-use Rattle.logs.proofs.Every.{unless-not}
 use Rattle.good.proofs.Whole.{not-permitted, wrong-length, not-formed, head-unfit, notes-unfit, notes-formed, all-good, formed}
 use borrow.Author.Needs.{needs}
 use Rattle.good.proofs.good.Statement.{statement}
@@ -16,31 +16,31 @@ returns : tie.Need-returns
 returns c = not-permitted _ _ _ (c .before .shape-fits .ensures) (c .if1 .taken)
 
 places-of-requires : tie.Need-places-of-requires
-places-of-requires c κs = fits _ (sym (c .before .shape-fits .ensures) ∙ unless-not _ (c .if1 .left))
+places-of-requires c κs = fits _ (sym (c .before .shape-fits .ensures) ∙ not-false _ (c .if1 .left))
 
 returns-2 : tie.Need-returns-2
 returns-2 c = wrong-length _ _ _ (c .before .before .places-of .ensures .end) (c .if2 .taken)
 
 tables-form-requires : tie.Need-tables-form-requires
-tables-form-requires c κs = record { fits = (fits _ (sym (c .before .before .before .before .shape-fits .ensures) ∙ unless-not _ (c .before .before .before .if1 .left))); size = (c .if2 .left ∙ c .before .before .places-of .ensures .end) }
+tables-form-requires c κs = record { fits = (fits _ (sym (c .before .before .before .before .shape-fits .ensures) ∙ not-false _ (c .before .before .before .if1 .left))); size = (c .if2 .left ∙ c .before .before .places-of .ensures .end) }
 
 returns-3 : tie.Need-returns-3
 returns-3 c = not-formed _ _ (c .before .before .if2 .left ∙ c .before .before .before .before .places-of .ensures .end) _ (c .before .tables-form .ensures) (c .if3 .taken)
 
 head-fits-requires : tie.Need-head-fits-requires
-head-fits-requires c κs = record { fits = (fits _ (sym (c .before .before .before .before .before .before .shape-fits .ensures) ∙ unless-not _ (c .before .before .before .before .before .if1 .left))); size = (c .before .before .if2 .left ∙ c .before .before .before .before .places-of .ensures .end) }
+head-fits-requires c κs = record { fits = (fits _ (sym (c .before .before .before .before .before .before .shape-fits .ensures) ∙ not-false _ (c .before .before .before .before .before .if1 .left))); size = (c .before .before .if2 .left ∙ c .before .before .before .before .places-of .ensures .end) }
 
 returns-4 : tie.Need-returns-4
 returns-4 c = head-unfit _ _ (c .before .before .before .before .if2 .left ∙ c .before .before .before .before .before .before .places-of .ensures .end) (bytes-known (c .before .before .before .before .before .before .before .before .before .before .before .args .state .now) (λ i. (c .before .before .before .before .before .before .before .before .before .before .shared-slice-known .given) i .fits)) _ (c .before .head-fits .ensures) (c .if4 .taken)
 
 notes-fit-requires : tie.Need-notes-fit-requires
-notes-fit-requires c κs = record { fits = (fits _ (sym (c .before .before .before .before .before .before .before .before .shape-fits .ensures) ∙ unless-not _ (c .before .before .before .before .before .before .before .if1 .left))); size = (c .before .before .before .before .if2 .left ∙ c .before .before .before .before .before .before .places-of .ensures .end) }
+notes-fit-requires c κs = record { fits = (fits _ (sym (c .before .before .before .before .before .before .before .before .shape-fits .ensures) ∙ not-false _ (c .before .before .before .before .before .before .before .if1 .left))); size = (c .before .before .before .before .if2 .left ∙ c .before .before .before .before .before .before .places-of .ensures .end) }
 
 returns-5 : tie.Need-returns-5
 returns-5 c = notes-unfit _ _ (c .before .before .before .before .before .before .if2 .left ∙ c .before .before .before .before .before .before .before .before .places-of .ensures .end) (bytes-known (c .before .before .before .before .before .before .before .before .before .before .before .before .before .args .state .now) (λ i. (c .before .before .before .before .before .before .before .before .before .before .before .before .shared-slice-known .given) i .fits)) _ (c .before .notes-fit .ensures) (c .if5 .taken)
 
 rest-good-requires : tie.Need-rest-good-requires
-rest-good-requires c κs = formed _ _ (record { fits = (fits _ (sym (c .before .before .before .before .before .before .before .before .before .before .before .shape-fits .ensures) ∙ unless-not _ (c .before .before .before .before .before .before .before .before .before .before .if1 .left))); size = (c .before .before .before .before .before .before .before .if2 .left ∙ c .before .before .before .before .before .before .before .before .before .places-of .ensures .end) }) (bytes-known (c .before .before .before .before .before .before .before .before .before .before .before .before .before .before .args .state .now) (λ i. (c .before .before .before .before .before .before .before .before .before .before .before .before .before .shared-slice-known .given) i .fits)) (sym (c .before .before .before .before .before .before .tables-form .ensures) ∙ unless-not _ (c .before .before .before .before .before .if3 .left)) (notes-formed _ _ _ (c .before .before .notes-fit .ensures) (c .before .if5 .left)) (sym (c .before .before .before .before .head-fits .ensures) ∙ unless-not _ (c .before .before .before .if4 .left))
+rest-good-requires c κs = formed _ _ (record { fits = (fits _ (sym (c .before .before .before .before .before .before .before .before .before .before .before .shape-fits .ensures) ∙ not-false _ (c .before .before .before .before .before .before .before .before .before .before .if1 .left))); size = (c .before .before .before .before .before .before .before .if2 .left ∙ c .before .before .before .before .before .before .before .before .before .places-of .ensures .end) }) (bytes-known (c .before .before .before .before .before .before .before .before .before .before .before .before .before .before .args .state .now) (λ i. (c .before .before .before .before .before .before .before .before .before .before .before .before .before .shared-slice-known .given) i .fits)) (sym (c .before .before .before .before .before .before .tables-form .ensures) ∙ not-false _ (c .before .before .before .before .before .if3 .left)) (notes-formed _ _ _ (c .before .before .notes-fit .ensures) (c .before .if5 .left)) (sym (c .before .before .before .before .head-fits .ensures) ∙ not-false _ (c .before .before .before .if4 .left))
 
 same-length : tie.Need-same-length
 same-length c = search needs

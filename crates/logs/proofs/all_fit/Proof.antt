@@ -4,11 +4,12 @@ use Prim.Native.Nat.{_-_, _≤_}
 use mathlib.Core.Path.{_≡_, sym, ap, _∙_}
 use mathlib.Core.Bool.{true}
 use native.Mathlib.Omega.{arith}
+use borrow.Author.Tests.{not-true, not-false}
 use Rattle.octets.specs.Bytes.{items}
 use Rattle.rules.specs.Choice.{every}
 use Rattle.rules.specs.Read.{entryAt}
 use Rattle.logs.specs.Place.{fits}
-use Rattle.logs.proofs.Every.{when-not, unless-not, every-start, every-next, every-stop, every-end}
+use Rattle.logs.proofs.Every.{every-start, every-next, every-stop, every-end}
 use borrow.Author.Needs.{needs}
 use Rattle.logs.proofs.all_fit.Statement.{statement}
 use Rattle.logs.proofs.all_fit.Tie as tie
@@ -35,7 +36,7 @@ fits-after-requires : tie.Need-fits-after-requires Inv-loop μ-loop
 fits-after-requires c κs = search needs
 
 returns : tie.Need-returns Inv-loop μ-loop
-returns c = every-stop _ _ _ _ (c .before .before .before .before .loop .i) _ (c .before .before .before .loop-test .taken) (sym (c .before .fits-after .ensures ∙ ap (fits _ _ _ _) (c .before .before .entry-at .ensures)) ∙ when-not _ (c .if1 .taken))
+returns c = every-stop _ _ _ _ (c .before .before .before .before .loop .i) _ (c .before .before .before .loop-test .taken) (sym (c .before .fits-after .ensures ∙ ap (fits _ _ _ _) (c .before .before .entry-at .ensures)) ∙ not-true _ (c .if1 .taken))
 
 add-i : tie.Need-add-i Inv-loop μ-loop
 add-i c = search needs
@@ -44,7 +45,7 @@ loop-less : tie.Need-loop-less Inv-loop μ-loop
 loop-less c = search needs
 
 loop-again : tie.Need-loop-again Inv-loop μ-loop
-loop-again c = (omega arith, every-next _ _ _ _ (c .before .before .before .before .loop .i) (c .before .before .before .before .loop .inv .1) (sym (c .before .fits-after .ensures ∙ ap (fits _ _ _ _) (c .before .before .entry-at .ensures)) ∙ unless-not _ (c .if1 .left)))
+loop-again c = (omega arith, every-next _ _ _ _ (c .before .before .before .before .loop .i) (c .before .before .before .before .loop .inv .1) (sym (c .before .fits-after .ensures ∙ ap (fits _ _ _ _) (c .before .before .entry-at .ensures)) ∙ not-false _ (c .if1 .left)))
 
 returns-2 : tie.Need-returns-2 Inv-loop μ-loop
 returns-2 c = every-end _ _ _ _ (c .before .loop .i) _ (c .before .loop .inv .1) (c .before .loop .inv .0) (c .loop-test .left)

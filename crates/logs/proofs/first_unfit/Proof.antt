@@ -4,10 +4,11 @@ use Prim.Native.Nat.{_≤_, _-_}
 use mathlib.Core.Path.{_≡_}
 use native.Mathlib.Omega.{arith}
 use Rattle.rules.specs.Entry.{lastBefore}
+use Rattle.rules.proofs.Verdicts.{stamp-next}
 use Rattle.repeats.specs.Repeat.{firstTo}
 use Rattle.repeats.proofs.Laws.{first-start, first-pass, first-stop, first-end}
 use Rattle.logs.specs.Place.{rowAt, unfitAt}
-use Rattle.logs.proofs.Place.{unfit-row, stamp-start, stamp-next}
+use Rattle.logs.proofs.Place.{unfit-row, stamp-start}
 use borrow.Author.Needs.{needs}
 use Rattle.logs.proofs.first_unfit.Statement.{statement}
 use Rattle.logs.proofs.first_unfit.Tie as tie

@@ -11,10 +11,10 @@ use Rattle.rules.specs.Choice.{keep}
 use Rattle.rules.specs.Entry.{placeAll}
 use Rattle.rules.specs.Image.{tableAt}
 use Rattle.entries.specs.Table.{Holds}
-use Rattle.entries.proofs.Table.{is-table}
+use Rattle.entries.proofs.Table.{is-table, row-read}
 use Rattle.ballots.specs.Ballots.{votesIn, voteOf}
 use Rattle.rebuild.specs.Rebuild.{isNew}
-use Rattle.rebuild.proofs.Holders.{counts-some, listed-at}
+use Rattle.rebuild.proofs.Holders.{counts-some}
 use Rattle.rebuild.proofs.New.{new-later}
 use Rattle.rebuild.proofs.Climbing.{climbs-on, climbs-rise}
 use Rattle.rebuild.proofs.Added.{as-new, log-start, log-turn, log-stop, log-end, from-passed, from-stopped, from-added}
@@ -67,7 +67,7 @@ same-length : tie.Need-same-length Inv-loop μ-loop
 same-length c = omega (arith, c .before .before .before .before .before .before .before .before .before .before .before .before .before .before .before .before .before .before .pre .2 .size)
 
 returns-2 : tie.Need-returns-2 Inv-loop μ-loop
-returns-2 c = from-stopped _ _ _ _ _ (c .before .before .before .before .before .before .before .before .before .before .before .before .counted .ensures (c .before .before .before .before .before .before .before .before .before .before .before .before .before .before .before .before .before .before .args .message .now)) _ _ _ (c .before .before .before .before .before .before .before .before .before .before .before .if1 .left) (log-stop _ _ _ _ _ _ _ _ (c .before .before .before .before .before .before .before .before .loop .inv .2) (below _ _ _ (c .before .before .before .before .before .before .before .loop-test .taken) (c .before .before .before .before .before .before .before .before .loop .inv .1)) (c .before .before .before .before .before .before .entry-at .ensures ∙ listed-at _ _ _ (c .before .before .before .before .before .before .before .before .before .before .log-of .ensures) _ (below _ _ _ (c .before .before .before .before .before .before .before .loop-test .taken) (c .before .before .before .before .before .before .before .before .loop .inv .1))) (c .before .before .before .add-entry .result) (as-new _ _ _ _ _ _ (c .before .before .before .before .before .is-new .ensures) (c .before .before .before .add-entry .ensures)) (c .if2 .taken))
+returns-2 c = from-stopped _ _ _ _ _ (c .before .before .before .before .before .before .before .before .before .before .before .before .counted .ensures (c .before .before .before .before .before .before .before .before .before .before .before .before .before .before .before .before .before .before .args .message .now)) _ _ _ (c .before .before .before .before .before .before .before .before .before .before .before .if1 .left) (log-stop _ _ _ _ _ _ _ _ (c .before .before .before .before .before .before .before .before .loop .inv .2) (below _ _ _ (c .before .before .before .before .before .before .before .loop-test .taken) (c .before .before .before .before .before .before .before .before .loop .inv .1)) (c .before .before .before .before .before .before .entry-at .ensures ∙ row-read _ _ (c .before .before .before .before .before .before .before .before .before .before .log-of .ensures .rows) _ (below _ _ _ (c .before .before .before .before .before .before .before .loop-test .taken) (c .before .before .before .before .before .before .before .before .loop .inv .1))) (c .before .before .before .add-entry .result) (as-new _ _ _ _ _ _ (c .before .before .before .before .before .is-new .ensures) (c .before .before .before .add-entry .ensures)) (c .if2 .taken))
 
 add-i : tie.Need-add-i Inv-loop μ-loop
 add-i c = omega arith
@@ -76,7 +76,7 @@ loop-less : tie.Need-loop-less Inv-loop μ-loop
 loop-less c = omega arith
 
 loop-again : tie.Need-loop-again Inv-loop μ-loop
-loop-again c = (omega arith, c .before .before .before .before .before .before .before .before .loop .inv .1, log-turn _ _ _ _ _ _ _ _ (c .before .before .before .before .before .before .before .before .loop .inv .2) (below _ _ _ (c .before .before .before .before .before .before .before .loop-test .taken) (c .before .before .before .before .before .before .before .before .loop .inv .1)) (c .before .before .before .before .before .before .entry-at .ensures ∙ listed-at _ _ _ (c .before .before .before .before .before .before .before .before .before .before .log-of .ensures) _ (below _ _ _ (c .before .before .before .before .before .before .before .loop-test .taken) (c .before .before .before .before .before .before .before .before .loop .inv .1))) (c .before .before .before .add-entry .result) (as-new _ _ _ _ _ _ (c .before .before .before .before .before .is-new .ensures) (c .before .before .before .add-entry .ensures)) (c .if2 .left))
+loop-again c = (omega arith, c .before .before .before .before .before .before .before .before .loop .inv .1, log-turn _ _ _ _ _ _ _ _ (c .before .before .before .before .before .before .before .before .loop .inv .2) (below _ _ _ (c .before .before .before .before .before .before .before .loop-test .taken) (c .before .before .before .before .before .before .before .before .loop .inv .1)) (c .before .before .before .before .before .before .entry-at .ensures ∙ row-read _ _ (c .before .before .before .before .before .before .before .before .before .before .log-of .ensures .rows) _ (below _ _ _ (c .before .before .before .before .before .before .before .loop-test .taken) (c .before .before .before .before .before .before .before .before .loop .inv .1))) (c .before .before .before .add-entry .result) (as-new _ _ _ _ _ _ (c .before .before .before .before .before .is-new .ensures) (c .before .before .before .add-entry .ensures)) (c .if2 .left))
 
 same-length-2 : tie.Need-same-length-2 Inv-loop μ-loop
 same-length-2 c = omega arith

@@ -3,7 +3,7 @@
 use mathlib.Core.Path.{refl, _∙_}
 use native.Mathlib.Omega.{arith}
 use Rattle.ballots.proofs.Votes.{votes-long}
-use Rattle.rebuild.proofs.Holders.{listed-at}
+use Rattle.entries.proofs.Table.{row-read}
 use Rattle.rebuild.proofs.Whole.{takes-none, takes-some, based-none, based-some, cut}
 use borrow.Author.Needs.{needs}
 use Rattle.rebuild.proofs.take_prefix.Statement.{statement}
@@ -43,7 +43,7 @@ same-length-2 : tie.Need-same-length-2
 same-length-2 c = search needs
 
 returns-2 : tie.Need-returns-2
-returns-2 c = let l = votes-long _ _ (c .before .before .before .before .before .before .before .before .before .before .before .before .before .args .message .now) _ (c .before .before .before .before .before .before .before .before .before .before .before .before .before .pre .0 .sent) in let t = c .before .before .before .before .before .before .before .before .before .before .before .before .before .pre .2 in let k = c .before .before .before .before .before .before .before .before .before .best-vote .ensures (c .before .before .before .before .before .before .before .before .before .before .before .before .before .args .message .now) in let w = cut _ _ _ _ (c .before .before .before .before .before .before .before .before .before .before .before .before .before .pre .0) _ _ k (c .before .before .before .before .before .before .if1 .left) _ (c .before .before .before .before .before .log-of .ensures) in (refl, based-some _ _ (c .before .before .before .before .before .before .before .before .before .before .before .before .before .args .count) _ l t k _ _ (c .before .before .before .before .before .before .if1 .left) refl (w .within) (c .entry-at .ensures ∙ listed-at _ _ _ (c .before .before .before .before .before .log-of .ensures) _ (omega (arith, w .some, w .within))), takes-some _ _ (c .before .before .before .before .before .before .before .before .before .before .before .before .before .args .count) _ l t k _ _ _ (c .before .before .before .before .before .log-of .ensures) (w .within) (c .before .before .before .take-over .ensures))
+returns-2 c = let l = votes-long _ _ (c .before .before .before .before .before .before .before .before .before .before .before .before .before .args .message .now) _ (c .before .before .before .before .before .before .before .before .before .before .before .before .before .pre .0 .sent) in let t = c .before .before .before .before .before .before .before .before .before .before .before .before .before .pre .2 in let k = c .before .before .before .before .before .before .before .before .before .best-vote .ensures (c .before .before .before .before .before .before .before .before .before .before .before .before .before .args .message .now) in let w = cut _ _ _ _ (c .before .before .before .before .before .before .before .before .before .before .before .before .before .pre .0) _ _ k (c .before .before .before .before .before .before .if1 .left) _ (c .before .before .before .before .before .log-of .ensures) in (refl, based-some _ _ (c .before .before .before .before .before .before .before .before .before .before .before .before .before .args .count) _ l t k _ _ (c .before .before .before .before .before .before .if1 .left) refl (w .within) (c .entry-at .ensures ∙ row-read _ _ (c .before .before .before .before .before .log-of .ensures .rows) _ (omega (arith, w .some, w .within))), takes-some _ _ (c .before .before .before .before .before .before .before .before .before .before .before .before .before .args .count) _ l t k _ _ _ (c .before .before .before .before .before .log-of .ensures) (w .within) (c .before .before .before .take-over .ensures))
 
 pub take-prefix-spec : {M : Type 1} → statement M
 take-prefix-spec =

@@ -1,6 +1,8 @@
 -- `rooms::step_in` meets its contract: one law for each way through it. Assumes nothing.
 -- Made by tools/answers from the file `answers` beside it: change that one.
-use Rattle.rooms.proofs.Ways.{not-good, good-stands, by-refusal, is-ready, by-handler}
+use mathlib.Core.List.{[]}
+use Rattle.admit.proofs.Steps.{ready}
+use Rattle.rooms.proofs.Ways.{not-good, is-good, good-stands, by-refusal, by-handler}
 use borrow.Author.Needs.{needs}
 use Rattle.rooms.proofs.step_in.Statement.{statement}
 use Rattle.rooms.proofs.step_in.Tie as tie
@@ -33,7 +35,7 @@ returns-2 : tie.Need-returns-2
 returns-2 c = by-refusal _ _ _ _ _ _ (c .before .before .before .before .before .before .before .before .before .before .good2 .ensures) (c .before .before .before .before .before .before .before .if1 .left) (c .before .before .before .before .before .read .ensures) (c .before .refusal .ensures) _ (c .if2 .taken)
 
 handle-requires : tie.Need-handle-requires
-handle-requires c κs = is-ready _ _ _ _ _ _ (c .before .before .before .before .before .before .before .before .before .before .before .before .before .good2 .ensures) (c .before .before .before .before .before .before .before .before .before .before .if1 .left) (c .before .before .before .before .before .before .before .before .read .ensures) (c .before .before .before .before .refusal .ensures) (c .before .before .before .if2 .left)
+handle-requires c κs = ready _ _ _ [] _ _ (is-good _ _ _ (c .before .before .before .before .before .before .before .before .before .before .before .before .before .good2 .ensures) (c .before .before .before .before .before .before .before .before .before .before .if1 .left)) (c .before .before .before .before .before .before .before .before .read .ensures) (c .before .before .before .before .refusal .ensures) (c .before .before .before .if2 .left)
 
 same-length-5 : tie.Need-same-length-5
 same-length-5 c = search needs

@@ -7,9 +7,10 @@ use native.Mathlib.Omega.{arith}
 use Rattle.rules.specs.Entry.{lastBefore}
 use Rattle.rules.specs.Read.{entriesWrong}
 use Rattle.rules.specs.declared.Verdict.the-variants.{Fine}
+use Rattle.rules.proofs.Verdicts.{stamp-next}
 use Rattle.fields.specs.Parts.{fieldsFrom, headed}
 use Rattle.verdicts.specs.Rows.{rowIn}
-use Rattle.verdicts.proofs.Entries.{stamp-next, entry-is, next-fine, next-wrong, repeat-wrong, all-fine}
+use Rattle.verdicts.proofs.Entries.{entry-is, next-fine, next-wrong, repeat-wrong, all-fine}
 use Rattle.verdicts.proofs.Fresh.{limit-within}
 use borrow.Author.Needs.{needs}
 use Rattle.verdicts.proofs.entries_wrong.Statement.{statement}
