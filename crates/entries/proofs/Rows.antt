@@ -12,7 +12,7 @@ use Rattle.rules.specs.Read.{entryAt}
 use Rattle.rules.specs.declared.Entry.{Entry}
 use Rattle.repeats.specs.Repeat.{rowOf}
 use Rattle.repeats.specs.Rows.{countOf, spotOf, keyOf, Inside}
-use Rattle.repeats.specs.Table.{Indexed}
+use Rattle.repeats.specs.Slots.{Indexed}
 use Rattle.repeats.specs.declared.Spots.{Spots}
 use Rattle.repeats.proofs.Places.{spot-first}
 use Rattle.repeats.proofs.Slots.{indexed-agree}
