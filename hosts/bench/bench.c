@@ -47,7 +47,7 @@ typedef struct {
     bool chosen; /* measured with chosen transactions too */
     enum amount early, late;
     enum amount held; /* each early entry's notes at a normal leader, else votes or replies */
-    enum amount adds;        /* entries that the step adds to the log */
+    enum amount adds; /* entries that the step adds to the log */
     enum named names;
     uint8_t view;                              /* the message's, where it is another than the state's */
     bool elsewhere, no_room;                   /* to another site; without an outgoing buffer */
