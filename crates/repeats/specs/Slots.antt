@@ -1,5 +1,5 @@
 -- The slots that are lent: by what rows are found, how many slots the table has, and the table; or the rows in order behind these two.
-use Prim.Native.Nat.{ℕ, _+_, _<_, _≤_}
+use Prim.Native.Nat.{ℕ, _+_, _≤_}
 use mathlib.Core.Path.{_≡_}
 use mathlib.Core.List.{List}
 use lib.ListN.{length, getD, take, drop}

@@ -1,11 +1,10 @@
 -- `repeats::path_end` meets its contract. The loop's invariant: the path that is left ends where the whole does. Assumes nothing.
 -- Made by tools/answers from the file `answers` beside it: change that one.
-use mathlib.Core.Path.{_≡_, _∙_, ap, sym}
-use Prim.Native.Nat.{ℕ, _+_, _-_, _≤_, _<_}
-use lib.ListN.{length, getD}
+use mathlib.Core.Path.{_≡_, _∙_, sym}
+use Prim.Native.Nat.{_+_, _-_, _≤_}
 use native.Mathlib.Omega.{arith}
-use Rattle.repeats.specs.Rows.{countOf, keyOf, Inside}
-use Rattle.repeats.specs.Table.{slotOf, stop, slotAt}
+use Rattle.repeats.specs.Rows.{countOf, keyOf}
+use Rattle.repeats.specs.Table.{stop, slotAt}
 use Rattle.repeats.proofs.Table.{stop-none, path-starts, path-free, path-row, path-on}
 use borrow.Author.Needs.{needs}
 use Rattle.repeats.proofs.path_end.Statement.{statement}
