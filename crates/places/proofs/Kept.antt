@@ -15,7 +15,7 @@ use Rattle.octets.proofs.Sections.{part-whole}
 use Rattle.octets.proofs.Codecs.{All, number, length-items, peel-all, exact-number}
 use Rattle.rules.specs.Choice.{pick, count, isSome}
 use Rattle.rules.specs.State.{Vote, State, held, inView, withChange, withHeard}
-use Rattle.rules.specs.Image.{tableLength, voteLength, replyLength, lengths, zeroBytes, headSection, pointBytes, tableBytes, voteBytes, replyBytes, sections, pointAt, tableAt, voteAt, replyAt, atGVec, atHeard, atReplies, atVotes}
+use Rattle.rules.specs.Image.{tableLength, voteLength, replyLength, lengths, zeroBytes, headSection, pointBytes, tableBytes, voteBytes, replyBytes, sections, pointAt, tableAt, voteAt, replyAt, atGVec, atHeard, atReplies, atVotes, atEnd}
 use Rattle.rules.specs.declared.Entry.{Entry}
 use Rattle.rules.specs.declared.Shape.{Shape}
 use Rattle.rules.proofs.Tests.{all-1, all-at}
@@ -52,7 +52,7 @@ even-views = each (λ v. length (le 4 v) ≡ 4) (length-le 4)
 
 module _ {sh : Shape} {st : State} {b : List ℕ} (l : Laid sh st b) where
   -- place r of a section that is a row of n things, each of k bytes
-  put-place : {A : Type 0} {b′ : List ℕ} (put : A → List ℕ) (k n i r : ℕ) (xs : List A) (y : A) (next : State) → i < 10 → getD (sections sh st) i [] ≡ flat put xs → getD (lengths sh) i 0 ≡ k * n → 0 < k → Even put k xs → length (put y) ≡ k → r < n → set (sections sh st) i (flat put (set xs r y)) ≡ sections sh next → b′ ≡ splice b (startOf sh i + k * r) (put y) → Laid sh next b′
+  put-place : {A : Type 0} {b′ : List ℕ} (put : A → List ℕ) (k n i r : ℕ) (xs : List A) (y : A) (next : State) → i < atEnd sh → getD (sections sh st) i [] ≡ flat put xs → getD (lengths sh) i 0 ≡ k * n → 0 < k → Even put k xs → length (put y) ≡ k → r < n → set (sections sh st) i (flat put (set xs r y)) ≡ sections sh next → b′ ≡ splice b (startOf sh i + k * r) (put y) → Laid sh next b′
   put-place put k n i r xs y next h s z p f e j q w =
       let m : length xs ≡ n = places-row put k xs n p f (ap length (sym s) ∙ long-at l i ∙ z) in
       let u : r < length xs = omega arith in
@@ -77,7 +77,7 @@ module _ {sh : Shape} {st : State} {b : List ℕ} (l : Laid sh st b) where
   put-reply j es f e h = put-place (replyBytes (sh .c)) (replyLength (sh .c)) (sh .s) 9 j (st .change .replies) (some es) (withChange (st .change .votes) (st .change .draft) (st .change .boundary) (set (st .change .replies) j (some es)) st) (lit< tt) refl refl (omega arith) f (reply-long (sh .c) es e) h refl
 
   -- zeros over a section of which zeros are the form
-  put-zeros : {b′ : List ℕ} (next : State) (i n : ℕ) (x : List ℕ) → i < 10 → x ≡ zeroBytes n → n ≡ getD (lengths sh) i 0 → set (sections sh st) i x ≡ sections sh next → b′ ≡ splice b (startOf sh i) (zeroBytes n) → Laid sh next b′
+  put-zeros : {b′ : List ℕ} (next : State) (i n : ℕ) (x : List ℕ) → i < atEnd sh → x ≡ zeroBytes n → n ≡ getD (lengths sh) i 0 → set (sections sh st) i x ≡ sections sh next → b′ ≡ splice b (startOf sh i) (zeroBytes n) → Laid sh next b′
   put-zeros next i n x h e r q w = put-all l next i (startOf sh i) x h refl (ap length e ∙ length-replicate {A = ℕ} n 0 ∙ r) q (w ∙ ap (splice b (startOf sh i)) (sym e))
 
   pub clear-heard : {b′ : List ℕ} → b′ ≡ splice b (startOf sh atHeard) (replicate (9 * sh .n) 0) → Laid sh (withHeard (replicate (sh .n) none) st) b′
@@ -177,7 +177,7 @@ module _ {sh : Shape} {st : State} {b : List ℕ} (m : Midway sh st b) where
   heard-point r p h e = point-is b (startOf sh atHeard + 9 * r) p (heard-at r h ∙ e)
 
   -- inside place r of a section that is a row of n things, each of k bytes
-  get-place : {A : Type 0} (put : A → List ℕ) (k n i r j g : ℕ) (xs : List A) (d : A) → i < 10 → getD (sections sh st) i [] ≡ flat put xs → getD (lengths sh) i 0 ≡ k * n → Even put k xs → length xs ≡ n → r < n → j + g ≤ k → part b (startOf sh i + k * r + j) g ≡ part (put (getD xs r d)) j g
+  get-place : {A : Type 0} (put : A → List ℕ) (k n i r j g : ℕ) (xs : List A) (d : A) → i < atEnd sh → getD (sections sh st) i [] ≡ flat put xs → getD (lengths sh) i 0 ≡ k * n → Even put k xs → length xs ≡ n → r < n → j + g ≤ k → part b (startOf sh i + k * r + j) g ≡ part (put (getD xs r d)) j g
   get-place put k n i r j g xs d h q z f e u v =
       let w : k * r + j + g ≤ getD (lengths sh) i 0 = omega (arith, within k r n u) in
       let y : r < length xs = omega arith in

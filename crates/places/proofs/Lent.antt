@@ -8,7 +8,7 @@ use lib.ListN.{take, drop, getD, set}
 use lib.Dec.{lit<}
 use Rattle.octets.specs.Bytes.{part}
 use Rattle.rules.specs.State.{Note, Vote, State, withChange, withLogged, withWaiting}
-use Rattle.rules.specs.Image.{tableLength, noteLength, voteLength, replyLength, lengths, headSection, tableBytes, sections, atDraft, atEarly, atLate, atLog, atNotes, atReplies, atVotes}
+use Rattle.rules.specs.Image.{tableLength, noteLength, voteLength, replyLength, lengths, headSection, tableBytes, sections, atDraft, atEarly, atLate, atLog, atNotes, atReplies, atVotes, atEnd}
 use Rattle.rules.specs.declared.Entry.{Entry}
 use Rattle.rules.specs.declared.Shape.{Shape}
 use Rattle.rules.proofs.Tables.{TableFits, NotesFit}
@@ -29,7 +29,7 @@ notes-fit sh h = record { room = h .room; counted = omega (arith, h .small); eac
 
 module _ {sh : Shape} {st : State} {b : List ℕ} (l : Laid sh st b) where
   -- ---- lent
-  table-lent : (i at n : ℕ) (es : List Entry) → i < 10 → getD (sections sh st) i [] ≡ tableBytes (sh .c) es → tableLength (sh .c) ≡ getD (lengths sh) i 0 → Fits sh → TableFits (sh .c) es → at ≡ startOf sh i → n ≡ tableLength (sh .c) → Holds (sh .c) es (take n (drop at b))
+  table-lent : (i at n : ℕ) (es : List Entry) → i < atEnd sh → getD (sections sh st) i [] ≡ tableBytes (sh .c) es → tableLength (sh .c) ≡ getD (lengths sh) i 0 → Fits sh → TableFits (sh .c) es → at ≡ startOf sh i → n ≡ tableLength (sh .c) → Holds (sh .c) es (take n (drop at b))
   table-lent i at n es h q z s f e m = hold (sh .c) es (take n (drop at b)) (lent l i at n h e (m ∙ z) ∙ q) (f .room) (s .small) (f .each)
 
   pub log-lent : (at n : ℕ) → Fits sh → TableFits (sh .c) (st .logged .log) → at ≡ startOf sh atLog → n ≡ tableLength (sh .c) → Holds (sh .c) (st .logged .log) (take n (drop at b))
@@ -45,7 +45,7 @@ module _ {sh : Shape} {st : State} {b : List ℕ} (l : Laid sh st b) where
   draft-lent at n = table-lent 8 at n (st .change .draft) (lit< tt) refl refl
 
   -- ---- come home
-  table-back : {b′ x : List ℕ} (next : State) (i at n : ℕ) (es : List Entry) → i < 10 → tableLength (sh .c) ≡ getD (lengths sh) i 0 → set (sections sh st) i (tableBytes (sh .c) es) ≡ sections sh next → Holds (sh .c) es x → at ≡ startOf sh i → n ≡ tableLength (sh .c) → b′ ≡ take at b ++ (x ++ drop n (drop at b)) → Laid sh next b′
+  table-back : {b′ x : List ℕ} (next : State) (i at n : ℕ) (es : List Entry) → i < atEnd sh → tableLength (sh .c) ≡ getD (lengths sh) i 0 → set (sections sh st) i (tableBytes (sh .c) es) ≡ sections sh next → Holds (sh .c) es x → at ≡ startOf sh i → n ≡ tableLength (sh .c) → b′ ≡ take at b ++ (x ++ drop n (drop at b)) → Laid sh next b′
   table-back {x = x} next i at n es h z q k e m w = home l next i at n x h e (m ∙ z) (k .size ∙ sym m) (ap (set (sections sh st) i) (k .bytes) ∙ q) w
 
   pub log-home : {b′ x : List ℕ} (at n : ℕ) (es : List Entry) → Holds (sh .c) es x → at ≡ startOf sh atLog → n ≡ tableLength (sh .c) → b′ ≡ take at b ++ (x ++ drop n (drop at b)) → Laid sh (withLogged es (st .logged .sync) (st .logged .commit) st) b′

@@ -6,7 +6,7 @@ use lib.ListN.{length, getD, set}
 use lib.Dec.{lit<}
 use Rattle.octets.specs.Bytes.{part, splice}
 use Rattle.rules.specs.State.{Note, State, withChange, withLogged, withWaiting}
-use Rattle.rules.specs.Image.{tableLength, noteLength, lengths, headSection, tableBytes, notesSection, sections, atDraft, atEarly, atLate, atLog, atNotes}
+use Rattle.rules.specs.Image.{tableLength, noteLength, lengths, headSection, tableBytes, notesSection, sections, atDraft, atEarly, atLate, atLog, atNotes, atEnd}
 use Rattle.rules.specs.declared.Entry.{Entry}
 use Rattle.rules.specs.declared.Shape.{Shape}
 use Rattle.rules.proofs.Tables.{table-long}
@@ -31,7 +31,7 @@ module _ {sh : Shape} {st : State} {b : List ℕ} (l : Laid sh st b) where
   draft-part = get-all l 8 (startOf sh atDraft) (tableLength (sh .c)) (lit< tt) refl refl
 
   -- ---- written
-  put-table : {b′ : List ℕ} (next : State) (i : ℕ) (es : List Entry) → i < 10 → tableLength (sh .c) ≡ getD (lengths sh) i 0 → set (sections sh st) i (tableBytes (sh .c) es) ≡ sections sh next → length es ≤ sh .c → b′ ≡ splice b (startOf sh i) (tableBytes (sh .c) es) → Laid sh next b′
+  put-table : {b′ : List ℕ} (next : State) (i : ℕ) (es : List Entry) → i < atEnd sh → tableLength (sh .c) ≡ getD (lengths sh) i 0 → set (sections sh st) i (tableBytes (sh .c) es) ≡ sections sh next → length es ≤ sh .c → b′ ≡ splice b (startOf sh i) (tableBytes (sh .c) es) → Laid sh next b′
   put-table next i es h e q r w = put-all l next i (startOf sh i) (tableBytes (sh .c) es) h refl (rw (table-long (sh .c) es r) e) q w
 
   pub put-log : {b′ : List ℕ} (es : List Entry) → length es ≤ sh .c → b′ ≡ splice b (startOf sh atLog) (tableBytes (sh .c) es) → Laid sh (withLogged es (st .logged .sync) (st .logged .commit) st) b′

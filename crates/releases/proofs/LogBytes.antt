@@ -14,7 +14,7 @@ use Rattle.rules.specs.Entry.{noEntry, entryOf}
 use Rattle.rules.specs.Wire.{entryBytes}
 use Rattle.rules.specs.Read.{entryAt}
 use Rattle.rules.specs.State.{State}
-use Rattle.rules.specs.Image.{tableLength, lengths, stateLength, tableBytes, sections, stateOf, atEarly, atLog}
+use Rattle.rules.specs.Image.{tableLength, lengths, stateLength, tableBytes, sections, stateOf, atEarly, atLog, atEnd}
 use Rattle.rules.specs.Digest.{basis, digestFrom, digest}
 use Rattle.rules.specs.declared.Entry.{Entry}
 use Rattle.rules.specs.declared.Shape.{Shape}
@@ -66,7 +66,7 @@ module _ (c : ℕ) (es : List Entry) where
 
 module _ {sh : Shape} {st : State} {b : List ℕ} (l : Laid sh st b) where
   -- in the table of section k
-  in-section : (k at end i : ℕ) (es : List Entry) → k < 10 → getD (sections sh st) k [] ≡ tableBytes (sh .c) es → getD (lengths sh) k 0 ≡ tableLength (sh .c) → length es ≤ sh .c
+  in-section : (k at end i : ℕ) (es : List Entry) → k < atEnd sh → getD (sections sh st) k [] ≡ tableBytes (sh .c) es → getD (lengths sh) k 0 ≡ tableLength (sh .c) → length es ≤ sh .c
       → at ≡ startOf sh k + (4 + 24 * i) → end ≡ at + 24 → i < length es → take (end - at) (drop at b) ≡ entryBytes (entryOf es i)
   unfolding part
   in-section k at end i es hk hs hl r e q h =
