@@ -23,7 +23,7 @@ use Rattle.rules.proofs.Tables.{flat-long}
 use Rattle.rules.proofs.Digest.{digest-next}
 use Rattle.rules.proofs.Tests.{at-all}
 use Rattle.rules.proofs.Choice.{all-drop}
-use Rattle.places.specs.Layout.{startOf}
+use Rattle.places.specs.Layout.{longest, startOf}
 use Rattle.places.proofs.Sections.{Laid, midway-laid, get-in}
 use Rattle.places.proofs.Rows.{within, get-row}
 use Rattle.releases.specs.Releasing.{Releasing, Reaches, logging}
@@ -86,7 +86,7 @@ module _ {sh : Shape} {st : State} {b : List ℕ} (l : Laid sh st b) where
   log-rest r n k at m h e q = rw q (get-in l 3 (4 + 24 * n) at (24 * k) (lit< tt) e (omega arith) ∙ rest-in (sh .c) (st .logged .log) n k h)
 
 -- where an entry of early stands
-pub early-within : (sh : Shape) (p i : ℕ) → p ≡ startOf sh atEarly → i < sh .c → stateLength sh ≤ 2187586 → (p + (4 + 24 * i) ≡ startOf sh atEarly + (4 + 24 * i)) × (p + (4 + 24 * i) + 24 ≤ stateLength sh) × (p + (4 + 24 * i) ≤ 2187586)
+pub early-within : (sh : Shape) (p i : ℕ) → p ≡ startOf sh atEarly → i < sh .c → stateLength sh ≤ longest → (p + (4 + 24 * i) ≡ startOf sh atEarly + (4 + 24 * i)) × (p + (4 + 24 * i) + 24 ≤ stateLength sh) × (p + (4 + 24 * i) ≤ longest)
 early-within sh p i e l s = let w : 24 * i + 24 ≤ 24 * sh .c = within 24 i (sh .c) l in (omega arith, omega arith, omega arith)
 
 -- ---- the digest
