@@ -5,11 +5,12 @@ use rules::Message;
 use rules::Shape;
 use rules::refusal;
 ghost use mathlib.Core.Path.{_≡_};
-ghost use mathlib.Core.Bool.{false};
-ghost use Rattle.rules.specs.Read.{decoded};
-ghost use Rattle.rules.specs.Write.{written, writes};
-ghost use Rattle.rules.specs.Image.{goodBytes};
-ghost use Rattle.rules.specs.Bytes.{left, stepBytes};
+ghost use lib.Dec.{eqb};
+ghost use lib.ListN.{length};
+ghost use Rattle.places.specs.Layout.{lengthFor};
+ghost use Rattle.wire.specs.Statements.{Reads, Writes};
+ghost use Rattle.good.specs.Statements.{Judges};
+ghost use Rattle.rooms.specs.Statements.{Steps};
 
 // The longest message whose log the 512 slots serve, and the longest that the 2,400 serve: two slots for an entry, and a path's length.
 const SHORT_MESSAGE: usize = 4096;
@@ -20,14 +21,14 @@ const MIDDLE_MESSAGE: usize = 28000;
 
 // Whether the bytes are as long as a state of these sizes: what is not is refused before any room is taken.
 fn has_length(shape: Shape, state: &[u8]) -> bool
-    ensures { λ r. ⌜ (r ≡ false → false ≡ goodBytes shape (now (state .entry))) ⌝ }
+    ensures { λ r. ⌜ r ≡ eqb (length (now (state .entry))) (lengthFor shape) ⌝ }
 {
     state.len() as u64 == fresh::state_length(shape.n, shape.s, shape.c)
 }
 
 // With room for a capacity of 16: 48 rows at most.
 fn good_few(shape: Shape, state: &[u8]) -> bool
-    ensures { λ r. ⌜ r ≡ goodBytes shape (now (state .entry)) ⌝ }
+    ensures { λ r. ⌜ Judges shape (now (state .entry)) r ⌝ }
 {
     let mut slots = [0u16; 512];
     good::good(shape, state, &mut slots)
@@ -35,7 +36,7 @@ fn good_few(shape: Shape, state: &[u8]) -> bool
 
 // With room for a capacity of 256: 768 rows.
 fn good_more(shape: Shape, state: &[u8]) -> bool
-    ensures { λ r. ⌜ r ≡ goodBytes shape (now (state .entry)) ⌝ }
+    ensures { λ r. ⌜ Judges shape (now (state .entry)) r ⌝ }
 {
     let mut slots = [0u16; 2400];
     good::good(shape, state, &mut slots)
@@ -43,7 +44,7 @@ fn good_more(shape: Shape, state: &[u8]) -> bool
 
 // With room for the largest capacity.
 fn good_many(shape: Shape, state: &[u8]) -> bool
-    ensures { λ r. ⌜ r ≡ goodBytes shape (now (state .entry)) ⌝ }
+    ensures { λ r. ⌜ Judges shape (now (state .entry)) r ⌝ }
 {
     let mut slots = [0u16; 33032];
     good::good(shape, state, &mut slots)
@@ -51,7 +52,7 @@ fn good_many(shape: Shape, state: &[u8]) -> bool
 
 // Whether the bytes are those of a good state.
 pub fn good(shape: Shape, state: &[u8]) -> bool
-    ensures { λ r. ⌜ r ≡ goodBytes shape (now (state .entry)) ⌝ }
+    ensures { λ r. ⌜ Judges shape (now (state .entry)) r ⌝ }
 {
     if !has_length(shape, state) {
         return false;
@@ -69,7 +70,7 @@ pub fn good(shape: Shape, state: &[u8]) -> bool
 
 // With room for a short message.
 fn read_few(n: u64, s: u64, message: &[u8]) -> Message
-    ensures { λ r. ⌜ r ≡ decoded n s (now (message .entry)) ⌝ }
+    ensures { λ r. ⌜ Reads n s (now (message .entry)) r ⌝ }
 {
     let mut slots = [0u16; 512];
     wire::read(n, s, message, &mut slots)
@@ -77,7 +78,7 @@ fn read_few(n: u64, s: u64, message: &[u8]) -> Message
 
 // With room for one of a thousand entries.
 fn read_more(n: u64, s: u64, message: &[u8]) -> Message
-    ensures { λ r. ⌜ r ≡ decoded n s (now (message .entry)) ⌝ }
+    ensures { λ r. ⌜ Reads n s (now (message .entry)) r ⌝ }
 {
     let mut slots = [0u16; 2400];
     wire::read(n, s, message, &mut slots)
@@ -85,7 +86,7 @@ fn read_more(n: u64, s: u64, message: &[u8]) -> Message
 
 // With room for any that a group of the largest capacity sends.
 fn read_many(n: u64, s: u64, message: &[u8]) -> Message
-    ensures { λ r. ⌜ r ≡ decoded n s (now (message .entry)) ⌝ }
+    ensures { λ r. ⌜ Reads n s (now (message .entry)) r ⌝ }
 {
     let mut slots = [0u16; 33032];
     wire::read(n, s, message, &mut slots)
@@ -93,7 +94,7 @@ fn read_many(n: u64, s: u64, message: &[u8]) -> Message
 
 // What the bytes of a message say.
 pub fn read(n: u64, s: u64, message: &[u8]) -> Message
-    ensures { λ r. ⌜ r ≡ decoded n s (now (message .entry)) ⌝ }
+    ensures { λ r. ⌜ Reads n s (now (message .entry)) r ⌝ }
 {
     if message.len() <= SHORT_MESSAGE {
         return read_few(n, s, message);
@@ -108,7 +109,7 @@ pub fn read(n: u64, s: u64, message: &[u8]) -> Message
 
 // With room for a few entries.
 fn write_few(n: u64, s: u64, m: Message, views: &[u8], entries: &[u8], out: &mut [u8]) -> Answer
-    ensures { λ r. ⌜ written r (now (out .exit)) ≡ writes n s m (now (views .entry)) (now (entries .entry)) (now (out .entry)) ⌝ }
+    ensures { λ r. ⌜ Writes n s m (now (views .entry)) (now (entries .entry)) (now (out .entry)) r (now (out .exit)) ⌝ }
 {
     let mut slots = [0u16; 512];
     wire::write(n, s, m, views, entries, out, &mut slots)
@@ -116,7 +117,7 @@ fn write_few(n: u64, s: u64, m: Message, views: &[u8], entries: &[u8], out: &mut
 
 // With room for a thousand.
 fn write_more(n: u64, s: u64, m: Message, views: &[u8], entries: &[u8], out: &mut [u8]) -> Answer
-    ensures { λ r. ⌜ written r (now (out .exit)) ≡ writes n s m (now (views .entry)) (now (entries .entry)) (now (out .entry)) ⌝ }
+    ensures { λ r. ⌜ Writes n s m (now (views .entry)) (now (entries .entry)) (now (out .entry)) r (now (out .exit)) ⌝ }
 {
     let mut slots = [0u16; 2400];
     wire::write(n, s, m, views, entries, out, &mut slots)
@@ -124,7 +125,7 @@ fn write_more(n: u64, s: u64, m: Message, views: &[u8], entries: &[u8], out: &mu
 
 // With room for a log of the largest capacity.
 fn write_many(n: u64, s: u64, m: Message, views: &[u8], entries: &[u8], out: &mut [u8]) -> Answer
-    ensures { λ r. ⌜ written r (now (out .exit)) ≡ writes n s m (now (views .entry)) (now (entries .entry)) (now (out .entry)) ⌝ }
+    ensures { λ r. ⌜ Writes n s m (now (views .entry)) (now (entries .entry)) (now (out .entry)) r (now (out .exit)) ⌝ }
 {
     let mut slots = [0u16; 33032];
     wire::write(n, s, m, views, entries, out, &mut slots)
@@ -132,7 +133,7 @@ fn write_many(n: u64, s: u64, m: Message, views: &[u8], entries: &[u8], out: &mu
 
 // Writes a message with these views and entries.
 pub fn write(n: u64, s: u64, m: Message, views: &[u8], entries: &[u8], out: &mut [u8]) -> Answer
-    ensures { λ r. ⌜ written r (now (out .exit)) ≡ writes n s m (now (views .entry)) (now (entries .entry)) (now (out .entry)) ⌝ }
+    ensures { λ r. ⌜ Writes n s m (now (views .entry)) (now (entries .entry)) (now (out .entry)) r (now (out .exit)) ⌝ }
 {
     if entries.len() <= SHORT_MESSAGE {
         return write_few(n, s, m, views, entries, out);
@@ -153,7 +154,7 @@ fn step_in(
     out: &mut [u8],
     slots: &mut [u16],
 ) -> Answer
-    ensures { λ r. ⌜ left r (now (state .exit)) (now (out .exit)) ≡ stepBytes shape (now (state .entry)) (now (message .entry)) (now (out .entry)) ⌝ }
+    ensures { λ r. ⌜ Steps shape (now (state .entry)) (now (message .entry)) (now (out .entry)) r (now (state .exit)) (now (out .exit)) ⌝ }
 {
     if !good::good(shape, state, slots) {
         return Answer::Refused(refusal::WRONG_STATE);
@@ -168,7 +169,7 @@ fn step_in(
 
 // With room for a capacity of 16 and a short message.
 fn step_few(shape: Shape, state: &mut [u8], message: &[u8], out: &mut [u8]) -> Answer
-    ensures { λ r. ⌜ left r (now (state .exit)) (now (out .exit)) ≡ stepBytes shape (now (state .entry)) (now (message .entry)) (now (out .entry)) ⌝ }
+    ensures { λ r. ⌜ Steps shape (now (state .entry)) (now (message .entry)) (now (out .entry)) r (now (state .exit)) (now (out .exit)) ⌝ }
 {
     let mut slots = [0u16; 512];
     step_in(shape, state, message, out, &mut slots)
@@ -176,7 +177,7 @@ fn step_few(shape: Shape, state: &mut [u8], message: &[u8], out: &mut [u8]) -> A
 
 // With room for a capacity of 256, four logs of it for a rebuild, and a message of a thousand entries.
 fn step_more(shape: Shape, state: &mut [u8], message: &[u8], out: &mut [u8]) -> Answer
-    ensures { λ r. ⌜ left r (now (state .exit)) (now (out .exit)) ≡ stepBytes shape (now (state .entry)) (now (message .entry)) (now (out .entry)) ⌝ }
+    ensures { λ r. ⌜ Steps shape (now (state .entry)) (now (message .entry)) (now (out .entry)) r (now (state .exit)) (now (out .exit)) ⌝ }
 {
     let mut slots = [0u16; 2400];
     step_in(shape, state, message, out, &mut slots)
@@ -184,7 +185,7 @@ fn step_more(shape: Shape, state: &mut [u8], message: &[u8], out: &mut [u8]) -> 
 
 // With room for the largest capacity, and four logs of it for a rebuild.
 fn step_many(shape: Shape, state: &mut [u8], message: &[u8], out: &mut [u8]) -> Answer
-    ensures { λ r. ⌜ left r (now (state .exit)) (now (out .exit)) ≡ stepBytes shape (now (state .entry)) (now (message .entry)) (now (out .entry)) ⌝ }
+    ensures { λ r. ⌜ Steps shape (now (state .entry)) (now (message .entry)) (now (out .entry)) r (now (state .exit)) (now (out .exit)) ⌝ }
 {
     let mut slots = [0u16; 33032];
     step_in(shape, state, message, out, &mut slots)
@@ -192,7 +193,7 @@ fn step_many(shape: Shape, state: &mut [u8], message: &[u8], out: &mut [u8]) -> 
 
 // One step: the next state's bytes and the outgoing messages, or the lowest number of the table that applies and all as it came.
 pub fn step(shape: Shape, state: &mut [u8], message: &[u8], out: &mut [u8]) -> Answer
-    ensures { λ r. ⌜ left r (now (state .exit)) (now (out .exit)) ≡ stepBytes shape (now (state .entry)) (now (message .entry)) (now (out .entry)) ⌝ }
+    ensures { λ r. ⌜ Steps shape (now (state .entry)) (now (message .entry)) (now (out .entry)) r (now (state .exit)) (now (out .exit)) ⌝ }
 {
     if !has_length(shape, state) {
         return Answer::Refused(refusal::WRONG_STATE);

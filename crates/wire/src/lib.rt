@@ -8,6 +8,7 @@ ghost use Rattle.rules.specs.Read as reading;
 ghost use Rattle.rules.specs.Wire as kinds;
 ghost use Rattle.rules.specs.Write as writing;
 ghost use Rattle.wire.specs.Parts.{allRight};
+ghost use Rattle.wire.specs.Statements.{Reads, Writes};
 use fields::Parts;
 use kinds::entries_at;
 use kinds::length_for;
@@ -31,7 +32,7 @@ fn whole_in(len: usize, from: usize) -> usize
 
 // The message that the bytes are, or where they stop being one.
 pub fn read(n: u64, s: u64, b: &[u8], slots: &mut [u16]) -> Message
-    ensures { λ r. ⌜ r ≡ reading.decoded n s (now (b .entry)) ⌝ }
+    ensures { λ r. ⌜ Reads n s (now (b .entry)) r ⌝ }
 {
     if !group::sizes_fit(n, s) {
         return Message::WrongSizes;
@@ -127,7 +128,7 @@ pub fn write(
     out: &mut [u8],
     slots: &mut [u16],
 ) -> Answer
-    ensures { λ r. ⌜ writing.written r (now (out .exit)) ≡ writing.writes n s m (now (views .entry)) (now (entries .entry)) (now (out .entry)) ⌝ }
+    ensures { λ r. ⌜ Writes n s m (now (views .entry)) (now (entries .entry)) (now (out .entry)) r (now (out .exit)) ⌝ }
 {
     if !group::sizes_fit(n, s) {
         return Answer::Refused(refusal::WRONG_STATE);
