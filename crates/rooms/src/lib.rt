@@ -5,11 +5,13 @@ use rules::Message;
 use rules::Shape;
 use rules::refusal;
 ghost use mathlib.Core.Path.{_≡_};
-ghost use mathlib.Core.Bool.{false};
-ghost use Rattle.rules.specs.Read.{decoded};
+ghost use mathlib.Core.Bool.{true, false};
+ghost use Rattle.rules.specs.Wire.{tagOf};
+ghost use Rattle.rules.specs.Read.{wireIn, decoded};
 ghost use Rattle.rules.specs.Write.{written, writes};
-ghost use Rattle.rules.specs.Image.{goodBytes};
+ghost use Rattle.rules.specs.Image.{stateOf, goodBytes};
 ghost use Rattle.rules.specs.Bytes.{left, stepBytes};
+ghost use Rattle.admit.specs.Refusal.{refusalOf};
 
 // The longest message whose log the 512 slots serve, and the longest that the 2,400 serve: two slots for an entry, and a path's length.
 const SHORT_MESSAGE: usize = 4096;
@@ -145,21 +147,20 @@ pub fn write(n: u64, s: u64, m: Message, views: &[u8], entries: &[u8], out: &mut
 
 // ---- a step
 
-// One step by the slots that are lent: the tests in the order of the table, and then the handler of the message's kind.
-fn step_in(
+// What a good state answers to a message that is read: the tests in the order of the table, and then the handler of the message's kind.
+fn answer(
     shape: Shape,
     state: &mut [u8],
+    m: Message,
+    number: u8,
     message: &[u8],
     out: &mut [u8],
     slots: &mut [u16],
 ) -> Answer
+    requires { ⌜ (goodBytes shape (now state) ≡ true) × (m ≡ decoded (shape .n) (shape .s) (now message))
+        × (number ≡ refusalOf shape (stateOf shape (now state)) (tagOf m) (wireIn (shape .s) (now message))) ⌝ }
     ensures { λ r. ⌜ left r (now (state .exit)) (now (out .exit)) ≡ stepBytes shape (now (state .entry)) (now (message .entry)) (now (out .entry)) ⌝ }
 {
-    if !good::good(shape, state, slots) {
-        return Answer::Refused(refusal::WRONG_STATE);
-    }
-    let m = wire::read(shape.n, shape.s, message, slots);
-    let number = admit::refusal(shape, state, m, message);
     if number != 0 {
         return Answer::Refused(number);
     }
@@ -171,7 +172,12 @@ fn step_few(shape: Shape, state: &mut [u8], message: &[u8], out: &mut [u8]) -> A
     ensures { λ r. ⌜ left r (now (state .exit)) (now (out .exit)) ≡ stepBytes shape (now (state .entry)) (now (message .entry)) (now (out .entry)) ⌝ }
 {
     let mut slots = [0u16; 512];
-    step_in(shape, state, message, out, &mut slots)
+    if !good::good(shape, state, &mut slots) {
+        return Answer::Refused(refusal::WRONG_STATE);
+    }
+    let m = wire::read(shape.n, shape.s, message, &mut slots);
+    let number = admit::refusal(shape, state, m, message);
+    answer(shape, state, m, number, message, out, &mut slots)
 }
 
 // With room for a capacity of 256, four logs of it for a rebuild, and a message of a thousand entries.
@@ -179,7 +185,12 @@ fn step_more(shape: Shape, state: &mut [u8], message: &[u8], out: &mut [u8]) -> 
     ensures { λ r. ⌜ left r (now (state .exit)) (now (out .exit)) ≡ stepBytes shape (now (state .entry)) (now (message .entry)) (now (out .entry)) ⌝ }
 {
     let mut slots = [0u16; 2400];
-    step_in(shape, state, message, out, &mut slots)
+    if !good::good(shape, state, &mut slots) {
+        return Answer::Refused(refusal::WRONG_STATE);
+    }
+    let m = wire::read(shape.n, shape.s, message, &mut slots);
+    let number = admit::refusal(shape, state, m, message);
+    answer(shape, state, m, number, message, out, &mut slots)
 }
 
 // With room for the largest capacity, and four logs of it for a rebuild.
@@ -187,7 +198,12 @@ fn step_many(shape: Shape, state: &mut [u8], message: &[u8], out: &mut [u8]) -> 
     ensures { λ r. ⌜ left r (now (state .exit)) (now (out .exit)) ≡ stepBytes shape (now (state .entry)) (now (message .entry)) (now (out .entry)) ⌝ }
 {
     let mut slots = [0u16; 33032];
-    step_in(shape, state, message, out, &mut slots)
+    if !good::good(shape, state, &mut slots) {
+        return Answer::Refused(refusal::WRONG_STATE);
+    }
+    let m = wire::read(shape.n, shape.s, message, &mut slots);
+    let number = admit::refusal(shape, state, m, message);
+    answer(shape, state, m, number, message, out, &mut slots)
 }
 
 // One step: the next state's bytes and the outgoing messages, or the lowest number of the table that applies and all as it came.
@@ -197,11 +213,17 @@ pub fn step(shape: Shape, state: &mut [u8], message: &[u8], out: &mut [u8]) -> A
     if !has_length(shape, state) {
         return Answer::Refused(refusal::WRONG_STATE);
     }
-    if (shape.c <= 16) & (message.len() <= SHORT_MESSAGE) {
-        return step_few(shape, state, message, out);
+    if 256 < shape.c {
+        return step_many(shape, state, message, out);
     }
-    if (shape.c <= 256) & (message.len() <= MIDDLE_MESSAGE) {
+    if MIDDLE_MESSAGE < message.len() {
+        return step_many(shape, state, message, out);
+    }
+    if 16 < shape.c {
         return step_more(shape, state, message, out);
     }
-    step_many(shape, state, message, out)
+    if SHORT_MESSAGE < message.len() {
+        return step_more(shape, state, message, out);
+    }
+    step_few(shape, state, message, out)
 }
