@@ -42,10 +42,3 @@ is-good sh b false e f = absurd (true≢false f)
 
 pub good-stands : (sh : Shape) (b : List ℕ) (g : Bool) → g ≡ goodBytes sh b → not g ≡ false → Stands sh (stateOf sh b) b
 good-stands sh b g e f = stands sh b (is-good sh b g e f)
-
-module _ (sh : Shape) (b msg : List ℕ) (m : Message) (r : ℕ) (g : Bool) (e : g ≡ goodBytes sh b) (f : not g ≡ false) (d : m ≡ decoded (sh .n) (sh .s) msg) (q : r ≡ refusalOf sh (stateOf sh b) (tagOf m) (wireIn (sh .s) msg)) where
-  pub by-refusal : (out : List ℕ) → (r ≡ 0 → ⊥) → leaves r b out ≡ stepBytes sh b msg out
-  by-refusal out n = refused-step sh b msg out m r (is-good sh b g e f) d q n
-
-  pub by-handler : (out : List ℕ) (x : Left) → r ≡ 0 → x ≡ closes sh b out (handle (tagOf m) sh (stateOf sh b) (wireIn (sh .s) msg)) → x ≡ stepBytes sh b msg out
-  by-handler out x n h = h ∙ handled-step sh b msg out m r (is-good sh b g e f) d q n
