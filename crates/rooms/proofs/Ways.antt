@@ -8,18 +8,12 @@ use lib.Dec.{eqb}
 use borrow.Author.Tests.{not-true}
 use Rattle.rules.specs.Choice.{pick}
 use Rattle.rules.specs.Group.{shapeFits}
-use Rattle.rules.specs.Wire.{tagOf}
-use Rattle.rules.specs.Read.{wireIn, decoded}
 use Rattle.rules.specs.Image.{stateOf, goodBytes}
-use Rattle.rules.specs.Step.{handle}
-use Rattle.rules.specs.Bytes.{Left, leaves, closes, stepBytes}
+use Rattle.rules.specs.Bytes.{leaves, stepBytes}
 use Rattle.rules.specs.declared.Shape.{Shape}
-use Rattle.rules.specs.declared.Message.{Message}
 use Rattle.rules.proofs.Good.{sizes-unfit, length-unfit}
 use Rattle.places.specs.Layout.{lengthFor, Stands}
 use Rattle.places.proofs.Sections.{stands}
-use Rattle.admit.specs.Refusal.{refusalOf}
-use Rattle.admit.proofs.Steps.{refused-step, handled-step}
 
 -- bytes of another length than a state of these sizes has
 pub wrong-length : (sh : Shape) (b : List ℕ) (r : Bool) → r ≡ eqb (length b) (lengthFor sh) → not r ≡ true → false ≡ goodBytes sh b
