@@ -14,7 +14,7 @@ use Rattle.rules.specs.Entry.{noEntry, entryOf}
 use Rattle.rules.specs.Wire.{entryBytes}
 use Rattle.rules.specs.Read.{entryAt}
 use Rattle.rules.specs.State.{State}
-use Rattle.rules.specs.Image.{tableLength, lengths, stateLength, tableBytes, sections, stateOf, atEarly, atLog}
+use Rattle.rules.specs.Image.{tableLength, lengths, stateLength, tableBytes, sections, stateOf, atEarly, atLog, atEnd}
 use Rattle.rules.specs.Digest.{basis, digestFrom, digest}
 use Rattle.rules.specs.declared.Entry.{Entry}
 use Rattle.rules.specs.declared.Shape.{Shape}
@@ -23,7 +23,7 @@ use Rattle.rules.proofs.Tables.{flat-long}
 use Rattle.rules.proofs.Digest.{digest-next}
 use Rattle.rules.proofs.Tests.{at-all}
 use Rattle.rules.proofs.Choice.{all-drop}
-use Rattle.places.specs.Layout.{startOf, Midway}
+use Rattle.places.specs.Layout.{longest, startOf, Midway}
 use Rattle.places.proofs.Sections.{midway-laid, get-in}
 use Rattle.places.proofs.Rows.{within, get-row}
 use Rattle.releases.specs.Releasing.{Releasing, Reaches, logging}
@@ -66,7 +66,7 @@ module _ (c : ℕ) (es : List Entry) where
 
 module _ {sh : Shape} {st : State} {b : List ℕ} (g : Midway sh st b) where
   -- in the table of section k
-  in-section : (k at end i : ℕ) (es : List Entry) → k < 10 → getD (sections sh st) k [] ≡ tableBytes (sh .c) es → getD (lengths sh) k 0 ≡ tableLength (sh .c) → length es ≤ sh .c
+  in-section : (k at end i : ℕ) (es : List Entry) → k < atEnd sh → getD (sections sh st) k [] ≡ tableBytes (sh .c) es → getD (lengths sh) k 0 ≡ tableLength (sh .c) → length es ≤ sh .c
       → at ≡ startOf sh k + (4 + 24 * i) → end ≡ at + 24 → i < length es → take (end - at) (drop at b) ≡ entryBytes (entryOf es i)
   unfolding part
   in-section k at end i es hk hs hl r e q h =
@@ -86,7 +86,7 @@ module _ {sh : Shape} {st : State} {b : List ℕ} (g : Midway sh st b) where
   log-rest n k at m h e q = rw q (get-in (midway-laid g) 3 (4 + 24 * n) at (24 * k) (lit< tt) e (omega (arith, g .holds .log .room)) ∙ rest-in (sh .c) (st .logged .log) n k h)
 
 -- where an entry of early stands
-pub early-within : (sh : Shape) (p i : ℕ) → p ≡ startOf sh atEarly → i < sh .c → stateLength sh ≤ 2187586 → (p + (4 + 24 * i) ≡ startOf sh atEarly + (4 + 24 * i)) × (p + (4 + 24 * i) + 24 ≤ stateLength sh) × (p + (4 + 24 * i) ≤ 2187586)
+pub early-within : (sh : Shape) (p i : ℕ) → p ≡ startOf sh atEarly → i < sh .c → stateLength sh ≤ longest → (p + (4 + 24 * i) ≡ startOf sh atEarly + (4 + 24 * i)) × (p + (4 + 24 * i) + 24 ≤ stateLength sh) × (p + (4 + 24 * i) ≤ longest)
 early-within sh p i e l s = let w : 24 * i + 24 ≤ 24 * sh .c = within 24 i (sh .c) l in (omega arith, omega arith, omega arith)
 
 -- ---- the digest

@@ -1,16 +1,18 @@
 -- What a host is given, from the answer beside it. Assumes nothing.
-use Prim.Native.Nat.{ℕ, _+_, _*_, _%_, _^_, _<_}
+use Prim.Native.Nat.{ℕ, zero, suc, _+_, _*_, _%_, _^_, _<_}
 use mathlib.Core.Path.{_≡_, refl, sym, ap, _∙_}
 use mathlib.Core.Bool.{Bool, true, false, _&&_, not, true≢false}
 use mathlib.Core.List.{List, [], _∷_}
 use native.Mathlib.Omega.{arith}
 use lib.ListN.{length}
 use lib.Dec.{eqb, ltb}
+use denote.Enum.Declared as declared
+use types.Run.{OneOf, miss}
 use borrow.Author.Tests.{ltb-true, eq-eqb, ne-eqb, not-true, not-false}
 use Rattle.rules.specs.Choice.{pick, allOf}
 use Rattle.rules.specs.Group.{sizesFit}
-use Rattle.rules.specs.Kind.{numbersIn}
-use Rattle.rules.specs.Wire.{caseWith}
+use Rattle.rules.specs.Kind.{kinds, numbersIn}
+use Rattle.rules.specs.Wire.{caseWith, answerOf}
 use Rattle.rules.specs.Image.{goodBytes}
 use Rattle.rules.specs.Write.{Written, written, writes}
 use Rattle.rules.specs.Bytes.{Left, left}
@@ -18,9 +20,27 @@ use Rattle.rules.specs.declared.Shape.{Shape}
 use Rattle.rules.specs.declared.Message.{Message}
 use Rattle.rules.specs.declared.Answer.{Answer}
 use Rattle.rules.specs.declared.Answer.the-variants.{Done, Refused}
+use Rattle.rules.proofs.Message.{the-type}
+use Rattle.rules.proofs.Case.{each-case}
 use Rattle.rules.proofs.Tests.{split}
 use Rattle.fresh.proofs.Promises.{left-state, left-out}
 use Rattle.replica.specs.Face.{coded, codeOf, Gives, Puts, Given, narrow, headerOf, fits, writesFrom}
+
+-- of a match that has an arm for each of the two cases that are no message: in the arm for the others
+abbrev upwards : ℕ → ℕ → List ℕ
+upwards k zero = []
+upwards k (suc n) = k ∷ upwards (k + 1) n
+
+abbrev Others : ℕ → Type 0
+Others t = OneOf (upwards 2 (length kinds)) t
+
+past-two : (t : ℕ) → Others t → 1 < t
+past-two zero o = absurd (miss (upwards 2 (length kinds)) 0 tt o)
+past-two (suc zero) o = absurd (miss (upwards 2 (length kinds)) 1 tt o)
+past-two (suc (suc t)) o = omega arith
+
+pub other-answer : (m : Message) → Others (declared.tagOf the-type m) → 0 ≡ answerOf m
+other-answer m o = sym (each-case m .answer (past-two (declared.tagOf the-type m) o))
 
 code-left : (a : Answer) (b out : List ℕ) → codeOf a ≡ coded (left a b out .number) (left a b out .sent)
 code-left (Done sent) b out = refl

@@ -107,19 +107,7 @@ pub extern "C" fn jallumere_read(n: u64, s: u64, message: &[u8]) -> u64
     match m {
         Message::WrongSizes => 1,
         Message::Malformed(_) => 2,
-        Message::Transaction(_, _, _) => 0,
-        Message::Note(_) => 0,
-        Message::ReplicaSync(_) => 0,
-        Message::FastReply(_, _, _, _) => 0,
-        Message::SlowReply(_, _) => 0,
-        Message::ChangeView(_) => 0,
-        Message::Vote(_, _, _) => 0,
-        Message::StartView(_) => 0,
-        Message::SyncStatus(_, _) => 0,
-        Message::Commit(_, _) => 0,
-        Message::VerifyRequest(_, _) => 0,
-        Message::VerifyReply(_) => 0,
-        Message::Tick(_, _) => 0,
+        _ => 0,
     }
 }
 

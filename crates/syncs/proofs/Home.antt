@@ -53,7 +53,7 @@ module _ {sh : Shape} {st : State} {b : List ℕ} (g : Midway sh st b) (at n : �
         size = length-append x y ∙ ap₂ _+_ lx ly;
       })
 
-  pub both-home : (es ls : List Entry) (x : List ℕ) → BothHold (sh .c) es ls x → Laid sh (withWaiting (record { early = es; late = ls; notes = st .waiting .notes }) st) (take at b ++ (x ++ drop n (drop at b)))
+  pub both-home : (es ls : List Entry) (x : List ℕ) → BothHold (sh .c) es ls x → Laid sh (withWaiting es ls (st .waiting .notes) st) (take at b ++ (x ++ drop n (drop at b)))
   both-home es ls x h =
       let u : List ℕ = tableBytes (sh .c) es in
       let v : List ℕ = tableBytes (sh .c) ls in
@@ -90,7 +90,7 @@ module _ {sh : Shape} {st : State} {b : List ℕ} (s : Stands sh st b) (log : Li
     abbrev b₁ : List ℕ
     b₁ = take at b ++ (x ++ drop n (drop at b))
 
-    laid₁ : Laid sh (withWaiting (record { early = staysEarly log (st .waiting .early); late = lateBy st log; notes = st .waiting .notes }) st) b₁
+    laid₁ : Laid sh (withWaiting (staysEarly log (st .waiting .early)) (lateBy st log) (st .waiting .notes) st) b₁
     laid₁ =
         both-home (stands-midway s) at n e m (staysEarly log (st .waiting .early)) (lateBy st log) x
         (rw (buffers.early-is both, buffers.late-is both, hl, stays-is log (st .waiting .early), late-is st log) at k)

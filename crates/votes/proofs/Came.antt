@@ -141,5 +141,5 @@ pub draft-taken : (sh : Shape) (b b₁ b₂ b₃ t : List ℕ) (draft number bou
 draft-taken sh b b₁ b₂ b₃ t draft number boundary h d n w₁ w₂ w₃ = rw (w₃, w₂, w₁, d, table-row (sh .c) t number h n)
 
 module _ {sh : Shape} {st : State} {b : List ℕ} (l : Laid sh st b) where
-  pub drafted : {b′ : List ℕ} (es : List Entry) (boundary : ℕ) → length es ≤ sh .c → b′ ≡ draftedIn sh b es boundary → Laid sh (inView (record { gView = st .view .gView; gVec = st .view .gVec; normal = st .view .normal; status = 3 }) (withChange (record { votes = st .change .votes; draft = es; boundary = boundary; replies = st .change .replies }) st)) b′
+  pub drafted : {b′ : List ℕ} (es : List Entry) (boundary : ℕ) → length es ≤ sh .c → b′ ≡ draftedIn sh b es boundary → Laid sh (inView (st .view .gView) (st .view .gVec) (st .view .normal) 3 (withChange (st .change .votes) es boundary (st .change .replies) st)) b′
   drafted es boundary r w = put-status (put-boundary (put-draft l es r refl) boundary refl) 3 w
