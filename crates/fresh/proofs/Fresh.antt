@@ -74,7 +74,7 @@ module _ (sh : Shape) (k r : ℕ) (b : List ℕ) where
       = and-both (shapeFits sh) (ltb k (sh .s) && (ltb r (sh .n) && eqb (length b) (stateLength sh))) z
       (and-both (ltb k (sh .s)) (ltb r (sh .n) && eqb (length b) (stateLength sh)) (lt-ltb k (sh .s) hk)
       (and-both (ltb r (sh .n)) (eqb (length b) (stateLength sh)) (lt-ltb r (sh .n) hr) (eq-eqb (length b) (stateLength sh) l))) in
-      ap (λ (x : List ℕ). record { refused = false; number = 0; sent = 0; state = x; out = [] }) (f .bytes) ∙ sym (pick-true asked _ _ t)
+      ap (λ (x : List ℕ). record { refused = false; number = 0; offset = 0; sent = 0; state = x; out = [] }) (f .bytes) ∙ sym (pick-true asked _ _ t)
 
   not-asked : asked ≡ false → left (Refused 1) b [] ≡ startBytes sh k r b
   unfolding startBytes

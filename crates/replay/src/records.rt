@@ -49,7 +49,7 @@ fn broken(mut run: Run, why: &[u8]) -> Run {
 fn number_of(answer: Answer) -> u8 {
     match answer {
         Answer::Done(_) => 0,
-        Answer::Refused(number) => number,
+        Answer::Refused(number, 0) => number,
     }
 }
 
@@ -57,7 +57,7 @@ fn number_of(answer: Answer) -> u8 {
 fn length_of(answer: Answer) -> usize {
     match answer {
         Answer::Done(length) => length,
-        Answer::Refused(_) => 0,
+        Answer::Refused(_, 0) => 0,
     }
 }
 

@@ -76,4 +76,4 @@ fits g numbers = narrow g && eqb (length numbers) (numbersIn (g .kind))
 unfoldable pub writesFrom : ℕ → ℕ → Given → List ℕ → List ℕ → List ℕ → List ℕ → Written
 writesFrom n s g numbers views entries out =
     pick (fits g numbers) (writes n s (caseWith (headerOf g) numbers) views entries out)
-    (record { refused = true; number = pick (sizesFit n s) 2 1; sent = 0; out = out })
+    (record { refused = true; number = pick (sizesFit n s) 2 1; offset = 0; sent = 0; out = out })

@@ -25,7 +25,7 @@ fn code(answer: Answer) -> u64
 {
     match answer {
         Answer::Done(sent) => (sent as u64) << 8,
-        Answer::Refused(number) => number as u64,
+        Answer::Refused(number, 0) => number as u64,
     }
 }
 

@@ -156,12 +156,12 @@ fn step_in(
     ensures { λ r. ⌜ left r (now (state .exit)) (now (out .exit)) ≡ stepBytes shape (now (state .entry)) (now (message .entry)) (now (out .entry)) ⌝ }
 {
     if !good::good(shape, state, slots) {
-        return Answer::Refused(refusal::WRONG_STATE);
+        return Answer::Refused(refusal::WRONG_STATE, 0);
     }
     let m = wire::read(shape.n, shape.s, message, slots);
     let number = admit::refusal(shape, state, m, message);
     if number != 0 {
-        return Answer::Refused(number);
+        return Answer::Refused(number, 0);
     }
     dispatch::handle(shape, state, m, message, out, slots)
 }
@@ -195,7 +195,7 @@ pub fn step(shape: Shape, state: &mut [u8], message: &[u8], out: &mut [u8]) -> A
     ensures { λ r. ⌜ left r (now (state .exit)) (now (out .exit)) ≡ stepBytes shape (now (state .entry)) (now (message .entry)) (now (out .entry)) ⌝ }
 {
     if !has_length(shape, state) {
-        return Answer::Refused(refusal::WRONG_STATE);
+        return Answer::Refused(refusal::WRONG_STATE, 0);
     }
     if (shape.c <= 16) & (message.len() <= SHORT_MESSAGE) {
         return step_few(shape, state, message, out);

@@ -144,7 +144,7 @@ module _ (n s : ℕ) (m : Message) (views entries : List ℕ) where
 
   -- ---- the writer's answers
   module _ (out : List ℕ) (t : Bool) (et : t ≡ sizesFit n s) where
-    pub sizes-wrong : not t ≡ true → record { refused = true; number = 1; sent = 0; out = out } ≡ writes n s m views entries out
+    pub sizes-wrong : not t ≡ true → record { refused = true; number = 1; offset = 0; sent = 0; out = out } ≡ writes n s m views entries out
     unfolding writes pick
     sizes-wrong h = rw (sym et ∙ not-true t h)
 
@@ -152,7 +152,7 @@ module _ (n s : ℕ) (m : Message) (views entries : List ℕ) where
       fit : sizesFit n s ≡ true
       fit = sym et ∙ not-false t right
 
-      pub parts-wrong : not r ≡ true → record { refused = true; number = 2; sent = 0; out = out } ≡ writes n s m views entries out
+      pub parts-wrong : not r ≡ true → record { refused = true; number = 2; offset = 0; sent = 0; out = out } ≡ writes n s m views entries out
       unfolding writes pick
       parts-wrong h = rw (fit, sym er ∙ not-true r h)
 
@@ -179,13 +179,13 @@ module _ (n s : ℕ) (m : Message) (views entries : List ℕ) where
             record { wholeViews = are .wholeViews; wholeEntries = are .wholeEntries; fewViews = small .0; fewEntries = small .1; room = omega arith }
 
         module _ (bv : Bytes views) (be : Bytes entries) where
-          pub no-room : (size : ℕ) → size ≡ sizeOf m views entries → length out < size → record { refused = true; number = 9; sent = 0; out = out } ≡ writes n s m views entries out
+          pub no-room : (size : ℕ) → size ≡ sizeOf m views entries → length out < size → record { refused = true; number = 9; offset = 0; sent = 0; out = out } ≡ writes n s m views entries out
           unfolding writes pick
           no-room size e h =
               let l = length-bytes m views entries (are .wholeViews) (are .wholeEntries) bv be in
               rw (fit, sym er ∙ not-false r ok, lt-leb (length (wireBytes (wireFrom m views entries))) (length out) (omega arith))
 
-          pub all-done : (size end : ℕ) (o : List ℕ) → size ≡ sizeOf m views entries → size ≤ length out → end ≡ 0 + length (wireBytes (wireFrom m views entries)) → o ≡ splice out 0 (wireBytes (wireFrom m views entries)) → record { refused = false; number = 0; sent = end; out = o } ≡ writes n s m views entries out
+          pub all-done : (size end : ℕ) (o : List ℕ) → size ≡ sizeOf m views entries → size ≤ length out → end ≡ 0 + length (wireBytes (wireFrom m views entries)) → o ≡ splice out 0 (wireBytes (wireFrom m views entries)) → record { refused = false; number = 0; offset = 0; sent = end; out = o } ≡ writes n s m views entries out
           unfolding writes pick
           all-done size end o e h q w =
               let l = length-bytes m views entries (are .wholeViews) (are .wholeEntries) bv be in

@@ -130,13 +130,13 @@ pub fn write(
     ensures { λ r. ⌜ writing.written r (now (out .exit)) ≡ writing.writes n s m (now (views .entry)) (now (entries .entry)) (now (out .entry)) ⌝ }
 {
     if !group::sizes_fit(n, s) {
-        return Answer::Refused(refusal::WRONG_STATE);
+        return Answer::Refused(refusal::WRONG_STATE, 0);
     }
     if !parts_formed(n, s, m, views, entries, slots) {
-        return Answer::Refused(refusal::MALFORMED);
+        return Answer::Refused(refusal::MALFORMED, 0);
     }
     if out.len() < size_of(m, views.len(), entries.len()) {
-        return Answer::Refused(refusal::NO_ROOM);
+        return Answer::Refused(refusal::NO_ROOM, 0);
     }
     let end = writer::put_message(out, 0, m, views, entries);
     Answer::Done(end)
