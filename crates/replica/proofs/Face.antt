@@ -24,7 +24,7 @@ use Rattle.replica.specs.Face.{coded, codeOf, Gives, Puts, Given, narrow
 
 code-left : (a : Answer) (b out : List ℕ) → codeOf a ≡ coded (left a b out .number) (left a b out .sent)
 code-left (Done sent) b out = refl
-code-left (Refused number) b out = refl
+code-left (Refused number offset) b out = refl
 
 pub gives : (a : Answer) (b out : List ℕ) (l : Left) (r : ℕ) → left a b out ≡ l → r ≡ codeOf a → Gives l r b out
 gives a b out l r e c =
@@ -36,11 +36,11 @@ gives a b out l r e c =
 
 code-written : (a : Answer) (out : List ℕ) → codeOf a ≡ coded (written a out .number) (written a out .sent)
 code-written (Done sent) out = refl
-code-written (Refused number) out = refl
+code-written (Refused number offset) out = refl
 
 written-out : (a : Answer) (out : List ℕ) → written a out .out ≡ out
 written-out (Done sent) out = refl
-written-out (Refused number) out = refl
+written-out (Refused number offset) out = refl
 
 module _ (n s : ℕ) (g : Given) (numbers views entries out : List ℕ) (x : Bool) (e : x ≡ narrow g) where
   abbrev leaves : Written
