@@ -1,6 +1,6 @@
 -- The ways through a step. Assumes nothing.
 use Prim.Native.Nat.{ℕ}
-use mathlib.Core.Path.{_≡_, refl, sym, _∙_}
+use mathlib.Core.Path.{_≡_, refl, sym, ap, _∙_}
 use mathlib.Core.Bool.{Bool, true, false, not, true≢false, and-false}
 use mathlib.Core.List.{List}
 use lib.ListN.{length}
@@ -17,8 +17,8 @@ use Rattle.rules.specs.declared.Shape.{Shape}
 use Rattle.rules.specs.declared.Message.{Message}
 use Rattle.places.specs.Layout.{lengthFor, Stands}
 use Rattle.places.proofs.Sections.{stands}
-use Rattle.admit.specs.Refusal.{refusalOf}
-use Rattle.admit.proofs.Steps.{refused-step, handled-step}
+use Rattle.admit.specs.Refusal.{refusalOf, wrongAt}
+use Rattle.admit.proofs.Steps.{refused-step, malformed-step, handled-step}
 
 -- bytes of another length than a state has
 pub wrong-length : (sh : Shape) (b : List ℕ) (n : ℕ) → n ≡ lengthFor sh → (length b ≡ n → ⊥) → false ≡ goodBytes sh b
@@ -49,8 +49,11 @@ pub good-stands : (sh : Shape) (b : List ℕ) (g : Bool) → g ≡ goodBytes sh 
 good-stands sh b g e f = stands sh b (is-good sh b g e f)
 
 module _ (sh : Shape) (b msg : List ℕ) (m : Message) (r : ℕ) (g : Bool) (e : g ≡ goodBytes sh b) (f : not g ≡ false) (d : m ≡ decoded (sh .n) (sh .s) msg) (q : r ≡ refusalOf sh (stateOf sh b) (tagOf m) (wireIn (sh .s) msg)) where
-  pub by-refusal : (out : List ℕ) → (r ≡ 0 → ⊥) → leaves r b out ≡ stepBytes sh b msg out
-  by-refusal out n = refused-step sh b msg out m r (is-good sh b g e f) d q n
+  pub by-offset : (out : List ℕ) (at : ℕ) → at ≡ wrongAt m msg → r ≡ 2 → record { refused = true; number = r; offset = at; sent = 0; state = b; out = out } ≡ stepBytes sh b msg out
+  by-offset out at a n = ap (λ (x : ℕ). record { refused = true; number = x; offset = at; sent = 0; state = b; out = out }) n ∙ malformed-step sh b msg out m r (is-good sh b g e f) d q at a n
+
+  pub by-refusal : (out : List ℕ) → (r ≡ 2 → ⊥) → (r ≡ 0 → ⊥) → leaves r b out ≡ stepBytes sh b msg out
+  by-refusal out o n = refused-step sh b msg out m r (is-good sh b g e f) d q n o
 
   pub by-handler : (out : List ℕ) (x : Left) → r ≡ 0 → x ≡ closes sh b out (handle (tagOf m) sh (stateOf sh b) (wireIn (sh .s) msg)) → x ≡ stepBytes sh b msg out
   by-handler out x n h = h ∙ handled-step sh b msg out m r (is-good sh b g e f) d q n

@@ -10,6 +10,7 @@ ghost use Rattle.rules.specs.Read.{decoded};
 ghost use Rattle.rules.specs.Write.{written, writes};
 ghost use Rattle.rules.specs.Image.{goodBytes};
 ghost use Rattle.rules.specs.Bytes.{left, stepBytes};
+ghost use Rattle.admit.specs.Refusal.{wrongAt};
 
 // The longest message whose log the 512 slots serve, and the longest that the 2,400 serve: two slots for an entry, and a path's length.
 const SHORT_MESSAGE: usize = 4096;
@@ -145,6 +146,16 @@ pub fn write(n: u64, s: u64, m: Message, views: &[u8], entries: &[u8], out: &mut
 
 // ---- a step
 
+// Where a message is wrong: at 0 where it says that its kind is one that no site takes.
+fn wrong_at(m: Message, message: &[u8]) -> usize
+    ensures { λ r. ⌜ r ≡ wrongAt m (now (message .entry)) ⌝ }
+{
+    if kinds::to_outside(octets::look8(message, 0)) {
+        return 0;
+    }
+    wire::decode::offset_of(m)
+}
+
 // One step by the slots that are lent: the tests in the order of the table, and then the handler of the message's kind.
 fn step_in(
     shape: Shape,
@@ -160,6 +171,9 @@ fn step_in(
     }
     let m = wire::read(shape.n, shape.s, message, slots);
     let number = admit::refusal(shape, state, m, message);
+    if number == refusal::MALFORMED {
+        return Answer::Refused(number, wrong_at(m, message));
+    }
     if number != 0 {
         return Answer::Refused(number, 0);
     }
