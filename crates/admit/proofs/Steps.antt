@@ -102,9 +102,10 @@ module _ (sh : Shape) (b msg out : List ℕ) (m : Message) (r : ℕ) (g : goodBy
   none : (at : ℕ) → read (sh .n) (sh .s) msg ≡ malformed at → (r ≡ 2) × (leavesAt (wrongAt m msg) b out ≡ here-then)
   unfolding stepRead
   none at e =
-      let m-is = case (malformed at) e in
-      (q ∙ none-two sh (stateOf sh b) (tagOf m) (wireIn (sh .s) msg) (ap tagOf m-is),
-      sym (ap (stepRead sh b out (num msg 0 1)) e ∙ ap (λ (x : Message). leavesAt (wrongAt x msg) b out) (sym m-is)))
+      let m-is = case (malformed at) e in (
+        q ∙ none-two sh (stateOf sh b) (tagOf m) (wireIn (sh .s) msg) (ap tagOf m-is),
+        sym (ap (stepRead sh b out (num msg 0 1)) e ∙ ap (λ (x : Message). leavesAt (wrongAt x msg) b out) (sym m-is)),
+      )
 
   abbrev judged : ℕ → Left
   judged x = closes sh b out (pick (eqb x 0) (handle (tagOf m) sh (stateOf sh b) (wireIn (sh .s) msg)) (refused x))

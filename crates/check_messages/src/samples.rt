@@ -63,7 +63,7 @@ pub fn answer_of(m: Message) -> u64 {
 pub fn number_of(answer: Answer) -> u64 {
     match answer {
         Answer::Done(_) => 0,
-        Answer::Refused(number, 0) => number as u64,
+        Answer::Refused(number, _) => number as u64,
     }
 }
 
@@ -71,7 +71,7 @@ pub fn number_of(answer: Answer) -> u64 {
 pub fn length_of(answer: Answer) -> usize {
     match answer {
         Answer::Done(length) => length,
-        Answer::Refused(_, 0) => 0,
+        Answer::Refused(_, _) => 0,
     }
 }
 

@@ -98,7 +98,10 @@ fn parts_wrong(
     let at = entries_at(s, header.kind);
     let head = field(said.tag == header.kind, 0, 1, head_wrong(n, s, p));
     let body = field(whole, 12, 16, body_wide(s, p, &room[0..most]));
-    let so_far = and_then(head, and_then(body, field(counted, at, at + 4, Verdict::Fine)));
+    let so_far = and_then(
+        head,
+        and_then(body, field(counted, at, at + 4, Verdict::Fine)),
+    );
     match so_far {
         Verdict::Fine => {}
         Verdict::Wrong(a, u) => return Verdict::Wrong(a, u),
