@@ -9,7 +9,7 @@ use native.Mathlib.Nat.{not-suc-le-zero, le-refl}
 use lib.ListN.{length, take, drop, length-append, length-take}
 use lib.Seq.{length-take-le, take-take, take-append-le}
 use lib.Dec.{eqb, ltb}
-use borrow.Author.Tests.{eqb-true, eqb-false, lt-ltb, ltb-true, leb-true, le-leb, lt-leb, ne-eqb}
+use borrow.Author.Tests.{eqb-true, eqb-false, lt-ltb, ltb-true, leb-true, leb-false}
 use Rattle.octets.specs.Bytes.{unle, part, num}
 use Rattle.octets.proofs.Laws.{num-part}
 use Rattle.octets.proofs.Codecs.{All}
@@ -376,25 +376,20 @@ module _ {n s : ℕ} {v : List ℕ} {w : Wire} {x : ℕ} {b : List ℕ} (h : Beg
 -- ---- what is judged
 
 judged-cut : (len end x : ℕ) (u : Wire) (v : Verdict) → len ≡ x → x < end → Told (λ a u. x < u) v → judged len end u v ≡ malformed x
-unfolding judged pick
-judged-cut len end x u Fine e l t =
-    let m : min len end ≡ x = omega arith in
-    rw (ne-eqb len end (λ q. omega arith), m)
-judged-cut len end x u (Wrong a z) e l t = rw (lt-leb z len (omega arith), e)
+unfolding judged
+judged-cut len end x u Fine e l t = by-test (λ (r : Read). r ≡ malformed x) (eqb len end) (λ q. absurd (omega (arith, eqb-true len end q))) (λ q. ap malformed (omega arith))
+judged-cut len end x u (Wrong a y) e l t = by-test (λ (p : ℕ). malformed p ≡ malformed x) _ (λ q. absurd (omega (arith, leb-true _ len q, t))) (λ q. ap malformed e)
 
 judged-behind : (len end x : ℕ) (u : Wire) (v : Verdict) → end ≡ x → x < len → Told (λ a u. ⊥) v → judged len end u v ≡ malformed x
-unfolding judged pick
-judged-behind len end x u Fine e l t =
-    let m : min len end ≡ x = omega arith in
-    rw (ne-eqb len end (λ q. omega arith), m)
-judged-behind len end x u (Wrong a z) e l t = absurd t
+unfolding judged
+judged-behind len end x u Fine e l t = by-test (λ (r : Read). r ≡ malformed x) (eqb len end) (λ q. absurd (omega (arith, eqb-true len end q))) (λ q. ap malformed (omega arith))
+judged-behind len end x u (Wrong a y) e l t = absurd t
 
 judged-at : (len end x z : ℕ) (u : Wire) (v : Verdict) → z ≤ len → Reached x z v → Told (λ a u. x ≤ a) v → judged len end u v ≡ malformed x
-unfolding judged pick
+unfolding judged
 judged-at len end x z u Fine l r t = absurd r
 judged-at len end x z u (Wrong a y) l r t =
-    let q : a ≡ x = omega (arith, r .0, t) in
-    rw (le-leb y len (omega (arith, r .1)), q)
+    by-test (λ (p : ℕ). malformed p ≡ malformed x) _ (λ q. ap malformed (omega (arith, r .0, t))) (λ q. absurd (omega (arith, leb-false _ len q, r .1)))
 
 empty : (n s : ℕ) → read n s [] ≡ malformed 0
 unfolding read verdictIn messageWrong fieldsAt firstWrong andThen judged pick num part unle any
