@@ -24,7 +24,7 @@ use Rattle.rules.specs.declared.Message.{Message}
 use Rattle.rules.specs.declared.Verdict.{Verdict}
 use Rattle.rules.specs.declared.Verdict.the-variants.{Fine, Wrong}
 use Rattle.rules.proofs.Tests.{and-r, and-both, join, _also_, each-of, all-items, at-all, sizes}
-use Rattle.rules.proofs.Verdicts.{then-fine, front-fine, body-ext, entries-ext}
+use Rattle.rules.proofs.Verdicts.{then-fine, front-fine, body-ext, entries-wrong-ext}
 use Rattle.rules.proofs.Messages.{formed-fits}
 use Rattle.rules.proofs.Case.{PartsAre, parts-fine, parts-are}
 use Rattle.fields.specs.declared.Parts.{Parts}
@@ -82,7 +82,7 @@ module _ (n s : ℕ) (m : Message) (views entries : List ℕ) where
   entries-same =
       sym (entries-head s parts (numbersOf m) (rowIn entries 0) count count)
       ∙ simp length-items
-      (entries-ext n s (fieldsFrom parts (numbersOf m) (rowIn entries 0)) (λ i. getD (numbersOf m) i 0) (λ i. getD (numbersOf m) i 0) (rowIn entries 0) (entryOf (items (entryAt entries) 24 0 count)) (λ i h. refl) count count (λ j l. sym (getD-items (entryAt entries) 24 0 count j noEntry l)))
+      (entries-wrong-ext n s (fieldsFrom parts (numbersOf m) (rowIn entries 0)) (λ i. getD (numbersOf m) i 0) (λ i. getD (numbersOf m) i 0) (rowIn entries 0) (entryOf (items (entryAt entries) 24 0 count)) (λ i h. refl) count count (λ j l. sym (getD-items (entryAt entries) 24 0 count j noEntry l)))
 
   -- what comes before the entries
   abbrev at : ℕ
