@@ -1,9 +1,9 @@
 -- Of a case that is neither of the two that are no message: the reader's answer is 0, with offset 0. Assumes nothing.
-use Prim.Native.Nat.{ℕ}
+use Prim.Native.Nat.{ℕ, zero, suc, _+_}
 use mathlib.Core.Path.{_≡_, refl, sym, subst}
 use mathlib.Core.Bool.{not}
 use mathlib.Core.Logic.{_⊎_, inl, inr}
-use mathlib.Core.List.{List}
+use mathlib.Core.List.{List, [], _∷_}
 use lib.Dec.{T}
 use types.Run.{OneOf, miss}
 use mir.Val.{hasKey}
@@ -12,6 +12,11 @@ use Rattle.rules.specs.Wire.{answerOf, offsetIn}
 use Rattle.rules.specs.declared.Message.{Message}
 use Rattle.rules.specs.declared.Message.the-variants as m
 use Rattle.rules.proofs.Message.{the-type}
+
+-- n places from k on
+abbrev pub placesFrom : ℕ → ℕ → List ℕ
+placesFrom k zero = []
+placesFrom k (suc n) = k ∷ placesFrom (k + 1) n
 
 abbrev Place : Message → ℕ → Type 0
 Place x n = declared.tagOf the-type x ≡ n
