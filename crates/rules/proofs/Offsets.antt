@@ -1,4 +1,5 @@
--- Where a message is wrong, apart from the fold that finds it. Assumes nothing.
+-- Where a message is wrong, apart from the fold that finds it: a well-formed message that is cut gives its length (cut), bytes behind it give where they begin (behind),
+-- and bytes that are its own up to a field that is wrong give where that field begins (first-wrong). Assumes nothing.
 use Prim.Native.Nat.{ℕ, zero, suc, _+_, _*_, _≤_, _<_, min}
 use mathlib.Core.Path.{_≡_, refl, sym, ap, subst, _∙_}
 use mathlib.Core.Bool.{Bool, true, false, _&&_, true≢false}
@@ -103,6 +104,7 @@ all-among P (q ∷ rs) h r (List·Memᴰ·tail i) = all-among P rs (h .1) r i
 
 -- ---- what is told of a wrong field
 
+-- if one is told, this holds of where it begins and ends
 abbrev Told : (ℕ → ℕ → Type 0) → Verdict → Type 0
 Told P Fine = Unit {0}
 Told P (Wrong a u) = P a u
@@ -112,7 +114,7 @@ unfolding firstWrong
 rows-told P [] h = tt
 rows-told P (r ∷ rs) h = by-test (Told P) (r .right) (λ t. rows-told P rs (λ q i. h q (List·Memᴰ·tail i))) (h r (List·Memᴰ·head refl))
 
--- one is, no later than this
+-- one is told, which begins by x and ends by e
 abbrev Reached : ℕ → ℕ → Verdict → Type 0
 Reached x e Fine = ⊥
 Reached x e (Wrong a u) = (a ≤ x) × (u ≤ e)
