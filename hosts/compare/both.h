@@ -357,6 +357,13 @@ static void try_start(uint64_t group, uint64_t replica) {
     starts[compare_sides("start", answers, pattern, at.length, 0, (letter){0}) != JALLUMERE_DONE]++;
 }
 
+/* Whether a message with these fields can be put into bytes, which are then read. */
+static bool has_bytes(const message *made, size_t views_length, size_t entries_length) {
+    const uint64_t bytes = made->kind | made->to_group | made->to_mask | made->from_group | made->from_replica;
+    return bytes <= UINT8_MAX && made->view <= UINT32_MAX && views_length == 4 * made->view_count &&
+           entries_length == ENTRY_LENGTH * made->count;
+}
+
 static uint64_t try_write(const message *made, size_t views_length, size_t entries_length, size_t room) {
     static __typeof__(jallumere_write) *const writers[SIDES] = {jallumere_write, model_write};
     static const unsigned columns[ANSWERS] = {[0] = 3, [1] = 4, [2] = 5, [9] = 6};
@@ -376,6 +383,11 @@ static uint64_t try_write(const message *made, size_t views_length, size_t entri
     uint64_t answer = compare_sides("write", answers, NULL, 0, room, given);
     counts[MESSAGES][is_kind(made->kind) ? made->kind : 0][columns[JALLUMERE_NUMBER(answer)]]++;
     count_offset(answer, 2, made->kind, SIZE_MAX, SIZE_MAX);
+    if (has_bytes(made, views_length, entries_length)) {
+        uint64_t read = model_read(at.n, at.s, given.bytes, given.length), number = JALLUMERE_NUMBER(answer);
+        if (read != (number == JALLUMERE_DONE || number == JALLUMERE_NO_ROOM ? JALLUMERE_DONE : answer))
+            end_with_difference("write", "the reader says otherwise of these bytes", given.bytes, given.length);
+    }
     free(given.bytes);
     return answer;
 }

@@ -282,7 +282,8 @@ static void run_shares(void) {
     }
 }
 
-/* Logs beyond the greatest capacity, for the reader: good ones, and with a transaction twice, close by or apart. */
+/* Logs beyond the greatest capacity, for the reader: good ones, and with a transaction twice, close by or apart; and
+ * these with an entry spoilt. */
 static void try_long_logs(void) {
     static const uint64_t counts[] = {4096, 4097, 6000, 8193, 9000};
     static uint8_t views[8], entries[ENTRY_LENGTH * 9000], room[LETTER_ROOM];
@@ -300,8 +301,12 @@ static void try_long_logs(void) {
         if (i % 3 != 0)
             memcpy(entries + ENTRY_LENGTH * other + AT_TRANSACTION, entries + ENTRY_LENGTH * one + AT_TRANSACTION,
                    TRANSACTION_LENGTH);
-        compose(&told, &made);
-        try_read(told);
+        for (unsigned j = 0; j < 5; j++) {
+            compose(&told, &made);
+            if (j != 0)
+                spoil_entry(&told);
+            try_read(told);
+        }
     }
 }
 
