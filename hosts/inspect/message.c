@@ -8,7 +8,7 @@
 
 #define NOWHERE SIZE_MAX
 
-enum { NAME_ROOM = 48, WORDS_ROOM = 200, COUNT_SHOWN = 16 };
+enum { NAME_ROOM = 48, WORDS_ROOM = 200, COUNT_MOST = 16 };
 
 /* The message, the sizes it is read by, its fields as far as they have been read, and of each whole entry of a log the
  * first that has its transaction. What is no kind has no form. */
@@ -18,27 +18,19 @@ static uint64_t n, s;
 static message told;
 static const form *shape = &forms[0];
 
-/* The field that is read now; the first wrong one, and why. */
+/* The field that is read now; whether the message has ended before it; the first wrong one, and why. */
 static struct {
-    bool prints, marked;
+    bool prints, marked, ended;
     size_t field, found;
     char name[NAME_ROOM], why[WORDS_ROOM];
 } now;
 
 /* ---- fields ------------------------------------------------------------------------------------------ */
 
-__attribute__((format(printf, 1, 2))) static void name_field(const char *format, ...) {
-    va_list words;
-    va_start(words, format);
-    vsnprintf(now.name, NAME_ROOM, format, words);
-    va_end(words);
-    now.field = at;
-}
-
-/* What a field says. */
+/* What the field says. */
 __attribute__((format(printf, 1, 2))) static void print_line(const char *format, ...) {
     va_list words;
-    if (!now.prints)
+    if (!now.prints || now.ended)
         return;
     va_start(words, format);
     printf("%8zu  %-26s ", now.field, now.name);
@@ -50,7 +42,7 @@ __attribute__((format(printf, 1, 2))) static void print_line(const char *format,
 /* What it has to satisfy. The first that fails is remembered, and marked under the line of its field. */
 __attribute__((format(printf, 2, 3))) static void require(bool holds, const char *format, ...) {
     va_list words;
-    if (holds)
+    if (holds || now.ended)
         return;
     if (now.found == NOWHERE) {
         va_start(words, format);
@@ -64,21 +56,28 @@ __attribute__((format(printf, 2, 3))) static void require(bool holds, const char
     }
 }
 
-/* The next field, which has been named, as a number; false where the message ends before it does. */
-static bool take(size_t width, uint64_t *value) {
-    size_t there = length - at;
+/* The next field, as a number; 0 where the message ends before it does, and for all that would follow. */
+__attribute__((format(printf, 2, 3))) static uint64_t take(unsigned width, const char *format, ...) {
+    const size_t there = length - at;
+    va_list words;
+    if (now.ended)
+        return 0;
+    va_start(words, format);
+    vsnprintf(now.name, NAME_ROOM, format, words);
+    va_end(words);
+    now.field = at;
     if (there >= width) {
-        *value = load(bytes + at, (unsigned)width);
         at += width;
-        return true;
+        return load(bytes + now.field, width);
     }
     if (there != 0)
-        print_line("%zu of %zu bytes", there, width);
+        print_line("%zu of %u bytes", there, width);
     now.field = at = length;
     require(length != 0, "the message has no bytes");
-    require(there == 0, "the message ends here, after %zu of the %zu bytes of the %s", there, width, now.name);
+    require(there == 0, "the message ends here, after %zu of the %u bytes of the %s", there, width, now.name);
     require(false, "the message ends here, before the %s", now.name);
-    return false;
+    now.ended = true;
+    return 0;
 }
 
 /* The numbers in a set, one behind the other. */
@@ -90,86 +89,60 @@ static const char *list(uint64_t set, char room[WORDS_ROOM]) {
     return room;
 }
 
+/* ---- the header, views and numbers -------------------------------------------------------------------- */
+
 /* A group or a replica, which is 255 outside. */
-static bool read_place(const char *name, uint64_t *value, bool outside, uint64_t limit) {
-    name_field("%s", name);
-    if (!take(1, value))
-        return false;
-    print_line("%ju%s", *value, *value == JALLUMERE_OUTSIDE ? ", outside every group" : "");
-    require(!outside || *value == JALLUMERE_OUTSIDE, "%ju is not 255, and a %s %s outside every group", *value,
+static uint64_t read_place(const char *name, bool outside, uint64_t limit) {
+    uint64_t value = take(1, "%s", name);
+    print_line("%ju%s", value, value == JALLUMERE_OUTSIDE ? ", outside every group" : "");
+    require(!outside || value == JALLUMERE_OUTSIDE, "%ju is not 255, and a %s %s outside every group", value,
             shape->name, shape->path == INBOUND ? "comes from" : "goes");
-    require(outside || *value < limit, "%ju is out of range 0..%ju", *value, limit - 1);
-    return true;
+    require(outside || value < limit, "%ju is out of range 0..%ju", value, limit - 1);
+    return value;
 }
 
-/* ---- the header and the numbers ----------------------------------------------------------------------- */
-
-static bool read_header(void) {
+static void read_header(void) {
     char room[WORDS_ROOM];
-    name_field("kind");
-    if (!take(1, &told.kind))
-        return false;
+    told.kind = take(1, "kind");
     print_line("%ju, %s", told.kind, kind_name(told.kind));
     require(is_kind(told.kind), "there is no kind %ju", told.kind);
     shape = &forms[is_kind(told.kind) ? told.kind : 0];
     const bool in = shape->path == INBOUND, out = shape->path == OUTBOUND;
-    if (!read_place("destination group", &told.to_group, out, s))
-        return false;
-    name_field("destination mask");
-    if (!take(1, &told.to_mask))
-        return false;
+    told.to_group = read_place("destination group", out, s);
+    told.to_mask = take(1, "destination mask");
     print_line("%#jx%s%s", told.to_mask, out ? "" : ": replicas ", out ? "" : list(told.to_mask, room));
     require(!out || told.to_mask == 1, "a %s goes outside every group, and its mask is 1", shape->name);
     require(out || told.to_mask != 0, "the mask is empty");
     require(out || told.to_mask >> n == 0, "the mask names replicas past %ju, the last of %ju", n - 1, n);
-    if (!read_place("sender's group", &told.from_group, in, s) ||
-        !read_place("sender's replica", &told.from_replica, in, n))
-        return false;
-    name_field("three zeros");
-    if (!take(3, &told.zeros))
-        return false;
-    print_line("%02x %02x %02x", bytes[5], bytes[6], bytes[7]);
+    told.from_group = read_place("sender's group", in, s);
+    told.from_replica = read_place("sender's replica", in, n);
+    told.zeros = take(3, "three zeros");
+    print_line("%#jx", told.zeros);
     require(told.zeros == 0, "these three bytes are 0 in every message");
-    name_field("gView");
-    if (!take(4, &told.view))
-        return false;
+    told.view = take(4, "gView");
     print_line("%ju", told.view);
     require(shape->has_views || told.view == 0, "a %s has gView 0", shape->name);
-    return true;
-}
-
-static bool read_count(const char *name, uint64_t *count) {
-    name_field("%s", name);
-    if (!take(4, count))
-        return false;
-    print_line("%ju", *count);
-    return true;
 }
 
 /* Behind a wrong count that is large nothing can be told apart. */
-static bool can_go_on(uint64_t count) {
-    if (count > COUNT_SHOWN && now.prints)
+static void pass_count(uint64_t count) {
+    if (count > COUNT_MOST && now.prints && !now.ended)
         printf("%8zu  %zu bytes, which cannot be told apart behind such a count\n", at, length - at);
-    return count <= COUNT_SHOWN;
+    now.ended = now.ended || count > COUNT_MOST;
 }
 
-static bool read_views(void) {
-    uint64_t view;
-    if (!read_count("gVec's count", &told.view_count))
-        return false;
+static void read_views(void) {
+    told.view_count = take(4, "gVec's count");
+    print_line("%ju", told.view_count);
     require(!shape->has_views || told.view_count == s,
             "the count is %ju, and a %s has a view for each of the %ju groups", told.view_count, shape->name, s);
     require(shape->has_views || told.view_count == 0, "the count is %ju, and a %s has no gVec", told.view_count,
             shape->name);
-    if (!can_go_on(told.view_count))
-        return false;
-    for (uint64_t group = 0; group < told.view_count; group++) {
-        name_field("view of group %ju", group);
-        if (!take(4, &view))
-            return false;
+    pass_count(told.view_count);
+    for (uint64_t group = 0; group < told.view_count && !now.ended; group++) {
+        uint64_t view = take(4, "view of group %ju", group);
         print_line("%ju, so replica %ju leads", view, view % n);
     }
-    return true;
 }
 
 /* What the rules limit; of two that disagree the later is wrong. */
@@ -189,7 +162,7 @@ static void check_number(uint64_t i) {
         require(first <= GREATEST_TIMESTAMP, "time %ju is out of range 0..2^63-1", first);
 }
 
-static bool read_numbers(void) {
+static void read_numbers(void) {
     static const char *const names[KINDS][NUMBERS_MOST] = {
         [JALLUMERE_TRANSACTION] = {"send time", "bound"},
         [JALLUMERE_FAST_REPLY] = {"placed", "position", "digest"},
@@ -200,23 +173,20 @@ static bool read_numbers(void) {
         [JALLUMERE_VERIFY_REQUEST] = {"boundary"},
         [JALLUMERE_TICK] = {"time"},
     };
-    uint64_t beyond;
-    if (!read_count("numbers' count", &told.number_count))
-        return false;
+    told.number_count = take(4, "numbers' count");
+    print_line("%ju", told.number_count);
     require(told.number_count == shape->numbers, "the count is %ju, and a %s has %u number%s", told.number_count,
             shape->name, shape->numbers, shape->numbers == 1 ? "" : "s");
-    if (!can_go_on(told.number_count))
-        return false;
-    for (uint64_t i = 0; i < told.number_count; i++) {
+    pass_count(told.number_count);
+    for (uint64_t i = 0; i < told.number_count && !now.ended; i++) {
         bool named = i < shape->numbers;
-        name_field("%s", named ? names[told.kind][i] : "number");
-        if (!take(8, named ? &told.numbers[i] : &beyond))
-            return false;
-        print_line(i == 2 ? "%#018jx" : "%ju", named ? told.numbers[i] : beyond);
-        if (named)
+        uint64_t number = take(8, "%s", named ? names[told.kind][i] : "number");
+        print_line(i == 2 ? "%#018jx" : "%ju", number);
+        if (named) {
+            told.numbers[i] = number;
             check_number(i);
+        }
     }
-    return true;
 }
 
 /* ---- entries ----------------------------------------------------------------------------------------- */
@@ -245,7 +215,13 @@ static void find_firsts(size_t count) {
     free(order);
 }
 
-/* Of an entry's mask. */
+static void check_timestamp(uint64_t timestamp) {
+    if (told.kind == JALLUMERE_TRANSACTION)
+        require(timestamp == 0, "timestamp %ju is not 0, and a transaction has none yet", timestamp);
+    else
+        require(timestamp - 1 < GREATEST_TIMESTAMP, "timestamp %ju is out of range 1..2^63-1", timestamp);
+}
+
 static void check_mask(uint64_t mask) {
     char room[WORDS_ROOM];
     require(mask != 0, "the mask is empty");
@@ -254,19 +230,12 @@ static void check_mask(uint64_t mask) {
             "the mask lacks group %ju, to which the message is addressed", told.to_group);
 }
 
-static void check_timestamp(uint64_t timestamp) {
-    if (told.kind == JALLUMERE_TRANSACTION)
-        require(timestamp == 0, "timestamp %ju is not 0, and a transaction has none yet", timestamp);
-    else
-        require(timestamp - 1 < GREATEST_TIMESTAMP, "timestamp %ju is out of range 1..2^63-1", timestamp);
-}
-
-/* A whole entry of a log, in one line: with it the log is still good. */
+/* A whole entry of a log, in one line: whether the log is still good with it. */
 static void check_in_log(uint64_t i) {
     char room[WORDS_ROOM];
     const entry read = read_entry(bytes + at);
     const uint64_t before = i == 0 ? 0 : load(bytes + at - ENTRY_LENGTH, 8);
-    name_field("entry %ju", i + 1);
+    take(0, "entry %ju", i + 1);
     print_line("at %ju, transaction %ju.%ju, groups %s, command %#018jx", read.timestamp, read.coordinator,
                read.request, list(read.mask, room), read.command);
     check_timestamp(read.timestamp);
@@ -277,57 +246,54 @@ static void check_in_log(uint64_t i) {
 }
 
 /* An entry field by field, which may be cut. */
-static bool read_fields(uint64_t i) {
+static void read_fields(uint64_t i) {
     static const char *const names[] = {"", "timestamp", "command", "request", "coordinator", "mask"};
     char room[WORDS_ROOM];
-    uint64_t value;
-    for (unsigned which = JALLUMERE_ENTRY_TIMESTAMP; which <= JALLUMERE_ENTRY_MASK; which++) {
-        name_field("%s of entry %ju", names[which], i + 1);
-        if (!take(entry_fields[which].width, &value))
-            return false;
-        if (which == JALLUMERE_ENTRY_MASK)
-            print_line("%#jx: groups %s", value, list(value, room));
-        else
-            print_line(which == JALLUMERE_ENTRY_COMMAND ? "%#018jx" : "%ju", value);
+    for (unsigned which = JALLUMERE_ENTRY_TIMESTAMP; which < JALLUMERE_ENTRY_MASK; which++) {
+        uint64_t value = take(entry_fields[which].width, "%s of entry %ju", names[which], i + 1);
+        print_line(which == JALLUMERE_ENTRY_COMMAND ? "%#018jx" : "%ju", value);
         if (which == JALLUMERE_ENTRY_TIMESTAMP)
             check_timestamp(value);
         require(which != JALLUMERE_ENTRY_REQUEST || value != 0, "request 0 is out of range 1..2^32-1");
         require(which != JALLUMERE_ENTRY_COORDINATOR || value != 65535, "coordinator 65535 is out of range 0..65534");
     }
-    check_mask(value);
-    require(shape->sender != OTHER_LEADER || holds(value, told.from_group & 63),
+    uint64_t mask = take(2, "mask of entry %ju", i + 1);
+    print_line("%#jx: groups %s", mask, list(mask, room));
+    check_mask(mask);
+    require(shape->sender != OTHER_LEADER || holds(mask, told.from_group & 63),
             "the mask lacks group %ju, which the message comes from", told.from_group);
-    return true;
 }
 
-/* A log's entry has one line where it is whole and none of its fields alone is wrong. */
-static bool read_one(uint64_t i) {
-    const bool in_log = shape->entries == ANY_LOG && length - at >= ENTRY_LENGTH;
-    if (!in_log || (now.prints && now.found > at && now.found < at + ENTRY_LENGTH))
-        return read_fields(i);
-    size_t behind = at + ENTRY_LENGTH;
-    check_in_log(i);
-    if (!now.prints)
-        return read_fields(i);
-    at = behind;
-    return true;
+/* A log's entry is printed in one line where it is whole and none of its fields alone is wrong. */
+static void read_one(uint64_t i) {
+    const size_t behind = at + ENTRY_LENGTH;
+    const bool field_wrong = now.prints && now.found > at && now.found < behind;
+    const bool one_line = shape->entries == ANY_LOG && behind <= length && !field_wrong;
+    if (one_line)
+        check_in_log(i);
+    if (one_line && now.prints)
+        at = behind;
+    else
+        read_fields(i);
 }
 
-static bool read_entries(void) {
-    if (!read_count("entries' count", &told.count))
-        return false;
+/* Of a long row the ends are printed, and what is near to the place that is wrong. */
+static void read_entries(void) {
+    told.count = take(4, "entries' count");
+    print_line("%ju", told.count);
     require(shape->entries == ANY_LOG || told.count == shape->entries, "the count is %ju, and a %s has %s", told.count,
             shape->name, shape->entries == ONE_ENTRY ? "one entry" : "no entries");
     require(told.kind != JALLUMERE_VOTE || told.numbers[1] <= told.count,
             "sync point %ju lies beyond the %ju entries that are counted", told.numbers[1], told.count);
     const size_t whole = (length - at) / ENTRY_LENGTH, there = told.count < whole ? told.count : whole;
+    uint64_t hidden = 0;
     entries = bytes + at;
-    if (shape->entries == ANY_LOG && firsts == NULL)
+    if (firsts == NULL)
         find_firsts(there);
-    for (uint64_t i = 0, hidden = 0; i < told.count; i++) {
-        bool ends = i < SHOWN_ENTRIES / 2 || i + SHOWN_ENTRIES / 2 >= there;
+    for (uint64_t i = 0; i < told.count && !now.ended; i++) {
         bool near = now.found != NOWHERE && at < now.found + ENTRY_LENGTH && now.found < at + 2 * ENTRY_LENGTH;
-        if (now.prints && !show_all && there > SHOWN_ENTRIES && !ends && !near) {
+        bool end = there <= SHOWN_ENTRIES || i < SHOWN_ENTRIES / 2 || i + SHOWN_ENTRIES / 2 >= there;
+        if (now.prints && !show_all && !end && !near) {
             hidden++;
             at += ENTRY_LENGTH;
             continue;
@@ -335,20 +301,22 @@ static bool read_entries(void) {
         if (hidden != 0)
             printf("%8s  ... %ju more (--all shows them)\n", "", hidden);
         hidden = 0;
-        if (!read_one(i))
-            return false;
+        read_one(i);
     }
-    return true;
 }
 
 /* All fields, as far as they go, and what is behind them. */
 static void read_all(bool prints) {
     now.prints = prints;
-    now.marked = false;
+    now.marked = now.ended = false;
     at = 0;
-    if (!read_header() || !read_views() || !read_numbers() || !read_entries() || at == length)
+    read_header();
+    read_views();
+    read_numbers();
+    read_entries();
+    if (now.ended || at == length)
         return;
-    name_field("behind the end");
+    take(0, "behind the end");
     print_line("%zu bytes", length - at);
     require(false, "the message ends before this byte by its counts, and %zu bytes follow%s", length - at,
             jallumere_message_length(n, s, bytes + at, length - at) != 0 ? ", which begin with another message" : "");
@@ -356,11 +324,10 @@ static void read_all(bool prints) {
 
 /* ---- sizes and the verdict ---------------------------------------------------------------------------- */
 
-/* Takes the sizes asked for, or the first in which the message is well formed, or else those in which it goes furthest;
- * gives the core's answer and tells how they were found. */
-static uint64_t take_sizes(char told_how[WORDS_ROOM]) {
-    uint64_t taken = 0;
-    unsigned formed = 0;
+/* Takes the sizes asked for, or the first in which the message is well formed, or else those in which it is right
+ * furthest; gives the core's answer and tells how they were found. */
+static uint64_t take_sizes(const char **how) {
+    uint64_t taken = 0, formed = 0;
     for (uint64_t sites = 3; sites <= REPLICAS_MOST; sites += 2)
         for (uint64_t groups = 1; groups <= GROUPS_MOST; groups++) {
             if (asked_n != 0 && (sites != asked_n || groups != asked_s))
@@ -374,21 +341,19 @@ static uint64_t take_sizes(char told_how[WORDS_ROOM]) {
             }
             formed += good;
         }
-    if (asked_n != 0)
-        told_how[0] = 0;
-    else if (formed != 0)
-        sprintf(told_how, "; not given, so taken as the first of %u in which it is well formed", formed);
-    else
-        sprintf(told_how, "; not given, so taken as the first of those in which it is right furthest");
+    *how = asked_n != 0  ? ""
+           : formed == 1 ? " (the only sizes in which it is well formed)"
+           : formed != 0 ? " (not given: the first sizes in which it is well formed)"
+                         : " (not given: the first of those sizes in which it is right furthest)";
     return taken;
 }
 
 bool report_message(const uint8_t *given, size_t given_length) {
-    char how[WORDS_ROOM];
+    const char *how;
     bytes = given;
     length = given_length;
     now.found = NOWHERE;
-    uint64_t answer = take_sizes(how);
+    uint64_t answer = take_sizes(&how);
     size_t wrong = answer == JALLUMERE_DONE ? NOWHERE : JALLUMERE_OFFSET(answer);
     read_all(false);
     if (wrong == NOWHERE)
@@ -402,13 +367,9 @@ bool report_message(const uint8_t *given, size_t given_length) {
     printf("\n%-14s %ju sites in a group, %ju group%s%s\n%-14s %zu bytes\n\n", "sizes", n, s, s == 1 ? "" : "s", how,
            "length", length);
     read_all(true);
-    if (now.found == wrong)
-        return wrong == NOWHERE;
-    printf("\nDISAGREEMENT: this report finds ");
-    if (now.found == NOWHERE)
-        printf("nothing wrong.\n");
-    else
-        printf("the message wrong at byte %zu: %s.\n", now.found, now.why);
-    printf("The core decides; one of the two is wrong and should be reported.\n");
+    if (now.found != wrong)
+        printf("\nDISAGREEMENT: this report finds %s%s.\nThe core decides; one of the two is wrong and should be "
+               "reported.\n",
+               now.found == NOWHERE ? "nothing wrong" : "that ", now.found == NOWHERE ? "" : now.why);
     return wrong == NOWHERE;
 }

@@ -280,19 +280,27 @@ inspected() { # WORDS STATUS FIRST-LINE A-LINE SIZES: what inspect says of the f
     check "$1: core and report agree" not printed DISAGREEMENT
 }
 
+make_tick() { printf '\27\0\2\377\377\0\0\0\0\0\0\0\0\0\0\0\1\0\0\0\5\0\0\0\0\0\0\0\0\0\0\0' >tick; }
+
+# A core that is the model but for its reader, which finds everything wrong at byte 3.
+make_other_core() {
+    gcc -O0 -I "$tree/include" -I "$tree/hosts/common" -Djallumere_read=of_the_model -c -o one.o "$tree/hosts/model/core.c"
+    echo 'unsigned long jallumere_read(void) { return 2 + 256 * 3; }' | gcc -x c -c -o two.o - && ar rcs other.a one.o two.o
+}
+
 # A tick of 32 bytes, a replica sync with two entries of group 0, and what is wrong with them.
 test_message() {
     local good='The message is well formed.' wrong='The message is NOT well formed: it is wrong at byte'
     local sizes='--sites 3 --groups 1'
     fresh_tree
-    printf '\27\0\2\377\377\0\0\0\0\0\0\0\0\0\0\0\1\0\0\0\5\0\0\0\0\0\0\0\0\0\0\0' >tick
+    make_tick
     printf '\4\0\6\0\0\0\0\0\0\0\0\0\1\0\0\0\0\0\0\0\0\0\0\0\2\0\0\0' >log
     printf '\11\0\0\0\0\0\0\0\115\0\0\0\0\0\0\0\1\0\0\0\11\0\1\0' >>log
     printf '\10\0\0\0\0\0\0\0\115\0\0\0\0\0\0\0\2\0\0\0\11\0\1\0' >>log
     cp tick message
     inspected "a tick" 0 "$good" '^ *20  time  *5$' "$sizes"
     check "a tick has nothing marked" not printed WRONG
-    inspected "a tick without sizes" 0 "$good" 'the first of 24 in which it is well formed' ''
+    inspected "a tick without sizes" 0 "$good" '3 sites in a group, 1 group (not given: the first sizes in which it is well formed)' ''
     (head -c 8 tick && printf '\1' && tail -c 23 tick) >message
     inspected "a wrong field" 1 "$wrong 8." '^ *^ WRONG at byte 8: a tick has gView 0$' "$sizes"
     head -c 27 tick >message
@@ -316,11 +324,28 @@ test_message() {
     inspected "a text" 1 "$wrong 0." 'WRONG at byte 0: there is no kind 115' ''
     JALLUMERE_CORE=model jallumere inspect --message - <tick
     check "a message comes from the standard input" is_status 0
-    gcc -O0 -I "$tree/include" -I "$tree/hosts/common" -Djallumere_read=of_the_model -c -o one.o "$tree/hosts/model/core.c"
-    echo 'unsigned long jallumere_read(void) { return 2 + 256 * 3; }' | gcc -x c -c -o two.o - && ar rcs other.a one.o two.o
+    make_other_core
     JALLUMERE_CORE=other.a jallumere inspect --message tick
     check "the verdict is the core's" is_status 1
     check "a core that says otherwise is told" printed '^DISAGREEMENT: this report finds nothing wrong.$'
+}
+
+# A tick as it is and one byte short, each with what is expected of the reader.
+test_traces() {
+    fresh_tree
+    make_tick
+    (printf '\5\3\1\40\0\0\0' && cat tick && printf '\0\0\0\0\0\5\3\1\37\0\0\0' && head -c 31 tick && printf '\2\37\0\0\0') >messages
+    JALLUMERE_CORE=model jallumere compare --traces messages
+    check "recorded messages are compared" is_status 0
+    check "recorded messages are counted" printed ' 2 recorded messages, 0 differences$'
+    (head -c 83 messages && printf '\36\0\0\0') >others
+    JALLUMERE_CORE=model jallumere compare --traces others
+    check "another offset is a difference" is_status 1
+    check "another offset is told" printed 'expected answer 2 and offset 30, given 2 and 31$'
+    make_other_core
+    JALLUMERE_CORE=other.a jallumere compare --traces messages
+    check "a core with another offset is told" printed '^DIFFERENCE in read: the core answers 770 (2 + 256 \* 3), the model 0 '
+    check "a core with another offset ends the comparison" is_status 1
 }
 
 test_missing() {
@@ -588,7 +613,7 @@ PATH=$room/native:$PATH
 make_rt
 make_tools
 make_bare_commands
-[ $# -gt 0 ] || set -- help bad_words first_command not_proved other_core message missing arm 'lock with' 'lock without' signals closed_pipe read_only bench \
+[ $# -gt 0 ] || set -- help bad_words first_command not_proved other_core message traces missing arm 'lock with' 'lock without' signals closed_pipe read_only bench \
     replay_and_gate progress terminal
 for name in "$@"; do
     # shellcheck disable=SC2086
