@@ -56,7 +56,7 @@ enum jallumere_kind {
 enum jallumere_answer {
     JALLUMERE_DONE = 0,
     JALLUMERE_WRONG_STATE = 1,        /* a size, own number or length is wrong, or the state is not good */
-    JALLUMERE_MALFORMED = 2,          /* the bytes are no message, or a kind 5 or 6 was given to a step; with an offset */
+    JALLUMERE_MALFORMED = 2,          /* the bytes are no message, or a step was given a kind 5 or 6; with an offset */
     JALLUMERE_NOT_ADDRESSED_HERE = 3, /* another group, or a mask without this replica */
     JALLUMERE_WRONG_VIEW = 4,         /* of another view, or of one that is not greater where it must be */
     JALLUMERE_WRONG_STATUS = 5,       /* the status does not take this kind */
