@@ -35,7 +35,7 @@ static void try_writing(letter told) {
     else if (edited == 3)
         made.number_count = below(NUMBERS_MOST + 1);
     else if (edited == 2)
-        views_length = below(views_length + 1);
+        views_length = chance(50) ? below(views_length + 1) : views_length + 1 + below(3); /* the numbers' count */
     else if (edited == 1)
         entries_length = below(entries_length + 1);
     uint64_t answer = try_write(&made, views_length, entries_length, told.length + below(40));
