@@ -17,7 +17,7 @@
 #include <stdint.h>
 
 /* The version of this interface: major * 10000 + minor * 100 + patch. */
-#define JALLUMERE_VERSION 10100
+#define JALLUMERE_VERSION 20000
 
 /* What stands in the place of a group's or a replica's number for whatever is outside every group. */
 #define JALLUMERE_OUTSIDE 255

@@ -36,7 +36,7 @@ mod raw;
 pub use names::{Answer, Core, Field, Kind, Refusal, Status};
 
 /// The version of the interface that this crate is written for: major * 10000 + minor * 100 + patch.
-pub const VERSION: u64 = 10_100;
+pub const VERSION: u64 = 20_000;
 
 /// Group and replica of whatever stands outside every group: coordinators, clocks, the view manager.
 pub const OUTSIDE: u64 = 255;

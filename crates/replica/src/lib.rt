@@ -48,7 +48,7 @@ fn code(answer: Answer) -> u64
 pub extern "C" fn jallumere_version() -> u64
     ensures { λ r. ⌜ IsVersion r ⌝ }
 {
-    10100
+    20000
 }
 
 // 0: this is the proved core, and not the implementation that it is compared with.
