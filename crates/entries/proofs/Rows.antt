@@ -12,10 +12,10 @@ use Rattle.rules.specs.Read.{entryAt}
 use Rattle.rules.specs.declared.Entry.{Entry}
 use Rattle.repeats.specs.Repeat.{rowOf}
 use Rattle.repeats.specs.Rows.{countOf, spotOf, keyOf, Inside}
-use Rattle.repeats.specs.Table.{Indexed}
+use Rattle.repeats.specs.Slots.{Indexed}
 use Rattle.repeats.specs.declared.Spots.{Spots}
 use Rattle.repeats.proofs.Places.{spot-first}
-use Rattle.repeats.proofs.Slots.{indexed-agree}
+use Rattle.repeats.proofs.Slots.{unserved, indexed-agree}
 use Rattle.entries.specs.First.{findRow}
 use Rattle.entries.specs.Rows.{entrySpots, keyIn, FoundTo, Found}
 use Rattle.entries.proofs.Keys.{key-at, keyed-at, row-keyed}
@@ -26,7 +26,7 @@ found-agree es ds n slots h f = indexed-agree (keyIn es) (keyIn ds) n h slots f
 
 -- no slots serve, and so find all
 pub found-empty : (es : List Entry) → Found es []
-found-empty es = record { served = λ l. absurd (omega arith) }
+found-empty es = unserved (keyIn es) (length es) [] (omega arith)
 
 module _ (b : List ℕ) (at n : ℕ) (inside : at + 24 * n ≤ length b) (few : n ≤ 4096) (sp : Spots) (e : sp ≡ entrySpots at n) where
   abbrev es : List Entry

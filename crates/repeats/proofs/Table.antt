@@ -106,41 +106,41 @@ module _ (key : ℕ → ℕ) (m : ℕ) where
   stop-kept t u x l h (suc n) p k = kept-turn t u x p n (h p) (stop-kept t u x l h n (p + 1)) (ends key m t x p) refl k
 
 -- row i went in: no taken slot was changed, and the table has it for its key
-pub record Went (key : ℕ → ℕ) (m hash i : ℕ) (t u : List ℕ) : Type 0 where
+pub record Went (key : ℕ → ℕ) (m i : ℕ) (t u : List ℕ) : Type 0 where
   pub kept : (p : ℕ) → getD t p m < m → getD u p m ≡ getD t p m
-  pub here : held key m hash u (key i) ≡ i
+  pub here : held key m u (key i) ≡ i
 
-module _ (key : ℕ → ℕ) (m hash : ℕ) where
+module _ (key : ℕ → ℕ) (m : ℕ) where
   -- a path begins
-  pub path-starts : (t : List ℕ) (x p : ℕ) → p ≡ slotOf hash (length t) x → stop key m t x (p + 0) (64 - 0) ≡ slotAt key m hash t x
+  pub path-starts : (t : List ℕ) (x p : ℕ) → p ≡ slotOf (length t) x → stop key m t x (p + 0) (64 - 0) ≡ slotAt key m t x
   unfolding slotAt
-  path-starts t x p e = let z : p + 0 ≡ slotOf hash (length t) x = omega arith in rw z
+  path-starts t x p e = let z : p + 0 ≡ slotOf (length t) x = omega arith in rw z
 
   module _ (t u : List ℕ) (l : length u ≡ length t) (w : (p : ℕ) → getD t p m < m → getD u p m ≡ getD t p m) where
     still-not : (x p : ℕ) → ends key m t x p ≡ false → ends key m u x p ≡ false
     unfolding ends
     still-not x p h = rw (w p (not-free key m t x p h)) h
 
-    slot-kept : (x : ℕ) → ends key m u x (slotAt key m hash t x) ≡ true → slotAt key m hash u x ≡ slotAt key m hash t x
+    slot-kept : (x : ℕ) → ends key m u x (slotAt key m t x) ≡ true → slotAt key m u x ≡ slotAt key m t x
     unfolding slotAt
-    slot-kept x h = rw l (stop-kept key m t u x l (still-not x) 64 (slotOf hash (length t) x) h)
+    slot-kept x h = rw l (stop-kept key m t u x l (still-not x) 64 (slotOf (length t) x) h)
 
     -- what the table has, it has still
-    held-kept : (i : ℕ) → i < m → held key m hash t (key i) ≡ i → held key m hash u (key i) ≡ i
+    held-kept : (i : ℕ) → i < m → held key m t (key i) ≡ i → held key m u (key i) ≡ i
     unfolding held
     held-kept i h e =
-        let p : ℕ = slotAt key m hash t (key i) in
+        let p : ℕ = slotAt key m t (key i) in
         let v : getD u p m ≡ i = w p (rw e h) ∙ e in
         ap (λ (q : ℕ). getD u q m) (slot-kept (key i) (ends-row key m u (key i) p (ap key v))) ∙ v
 
   -- ---- a store into the free slot at the end of its path
-  went : (t : List ℕ) (i x p : ℕ) → i < m → x ≡ key i → p ≡ slotAt key m hash t x → p < length t → m ≤ getD t p 0 → Went key m hash i t (set t p i)
+  went : (t : List ℕ) (i x p : ℕ) → i < m → x ≡ key i → p ≡ slotAt key m t x → p < length t → m ≤ getD t p 0 → Went key m i t (set t p i)
   unfolding held
   went t i x p h ex ep l f =
       let z : getD t p 0 ≡ getD t p m = inside t p 0 m l in
       let v : getD (set t p i) p m ≡ i = getD-set-same t p i m l in
       let k : (q : ℕ) → getD t q m < m → getD (set t p i) q m ≡ getD t q m = λ q g. getD-set-other t p q i m (λ e. let y : getD t q m ≡ getD t p m = ap (λ (r : ℕ). getD t r m) e in absurd (omega arith)) in
-      let s : slotAt key m hash t (key i) ≡ p = ap (slotAt key m hash t) (sym ex) ∙ sym ep in
+      let s : slotAt key m t (key i) ≡ p = ap (slotAt key m t) (sym ex) ∙ sym ep in
       record {
         kept = k;
         here = ap (λ (q : ℕ). getD (set t p i) q m)
@@ -148,64 +148,64 @@ module _ (key : ℕ → ℕ) (m hash : ℕ) where
       }
 
   -- ---- the first i rows are there, each for its key
-  pub holds-none : (t : List ℕ) → Holds key m hash t 0
+  pub holds-none : (t : List ℕ) → Holds key m t 0
   unfolding Holds
   holds-none t j h = absurd (omega arith)
 
-  holds-last : (u : List ℕ) (i j : ℕ) → (j < i → held key m hash u (key j) ≡ j) → held key m hash u (key i) ≡ i → j < i + 1 → Dec (j < i) → held key m hash u (key j) ≡ j
+  holds-last : (u : List ℕ) (i j : ℕ) → (j < i → held key m u (key j) ≡ j) → held key m u (key i) ≡ i → j < i + 1 → Dec (j < i) → held key m u (key j) ≡ j
   holds-last u i j old new l (yes h) = old h
   holds-last u i j old new l (no h) = let e : j ≡ i = omega (arith, h) in rw e new
 
   -- one row more, in the free slot at the end of its path
-  pub holds-more : (t : List ℕ) (i x p : ℕ) → i < m → x ≡ key i → p ≡ slotAt key m hash t x → p < length t → m ≤ getD t p 0 → Holds key m hash t i → Holds key m hash (set t p i) (i + 1)
+  pub holds-more : (t : List ℕ) (i x p : ℕ) → i < m → x ≡ key i → p ≡ slotAt key m t x → p < length t → m ≤ getD t p 0 → Holds key m t i → Holds key m (set t p i) (i + 1)
   unfolding Holds
   holds-more t i x p h ex ep l f g j k =
-      let w : Went key m hash i t (set t p i) = went t i x p h ex ep l f in
+      let w : Went key m i t (set t p i) = went t i x p h ex ep l f in
       holds-last (set t p i) i j (λ n. held-kept t (set t p i) (length-set t p i) (w .kept) j (omega arith) (g j n)) (w .here) k (decLt j i)
 
   -- a key has one row only
-  pub holds-distinct : (t : List ℕ) (i : ℕ) → Holds key m hash t i → Distinct key i
+  pub holds-distinct : (t : List ℕ) (i : ℕ) → Holds key m t i → Distinct key i
   unfolding Distinct Holds
-  holds-distinct t n w i j hi hj e = sym (w i hi) ∙ ap (held key m hash t) e ∙ w j hj
+  holds-distinct t n w i j hi hj e = sym (w i hi) ∙ ap (held key m t) e ∙ w j hj
 
   -- ---- what a table with every row says
-  module _ (t : List ℕ) (w : Holds key m hash t m) where
-    none-held : (x : ℕ) → m ≤ held key m hash t x → m ≡ rowOf key x m
+  module _ (t : List ℕ) (w : Holds key m t m) where
+    none-held : (x : ℕ) → m ≤ held key m t x → m ≡ rowOf key x m
     unfolding Holds
     none-held x h =
         sym (row-is key x m m (omega arith)
-        (λ i k e. let z : held key m hash t x ≡ i = ap (held key m hash t) (sym e) ∙ w i k in omega arith)
+        (λ i k e. let z : held key m t x ≡ i = ap (held key m t) (sym e) ∙ w i k in omega arith)
         (λ k. absurd (omega arith)))
 
     -- the path of x runs out of slots
-    pub find-out : (x p : ℕ) → p ≡ slotAt key m hash t x → length t ≤ p → m ≡ rowOf key x m
+    pub find-out : (x p : ℕ) → p ≡ slotAt key m t x → length t ≤ p → m ≡ rowOf key x m
     unfolding held
     find-out x p e h =
-        let z : held key m hash t x ≡ m = ap (λ (q : ℕ). getD t q m) (sym e) ∙ List·getD-eq-default t m {n = p} h in
+        let z : held key m t x ≡ m = ap (λ (q : ℕ). getD t q m) (sym e) ∙ List·getD-eq-default t m {n = p} h in
         none-held x (omega arith)
 
     -- it ends at a free slot
-    pub find-free : (x p e : ℕ) → p ≡ slotAt key m hash t x → p < length t → e ≡ getD t p 0 → m ≤ e → m ≡ rowOf key x m
+    pub find-free : (x p e : ℕ) → p ≡ slotAt key m t x → p < length t → e ≡ getD t p 0 → m ≤ e → m ≡ rowOf key x m
     unfolding held
     find-free x p e ep l ee h =
-        let z : held key m hash t x ≡ e = ap (λ (q : ℕ). getD t q m) (sym ep) ∙ inside t p m 0 l ∙ sym ee in
+        let z : held key m t x ≡ e = ap (λ (q : ℕ). getD t q m) (sym ep) ∙ inside t p m 0 l ∙ sym ee in
         none-held x (omega arith)
 
   -- a path that ends at a taken slot ends at the row of its key
-  row-there : (t : List ℕ) (x p e : ℕ) → p ≡ slotAt key m hash t x → p < length t → e ≡ getD t p 0 → e < m → key e ≡ x
+  row-there : (t : List ℕ) (x p e : ℕ) → p ≡ slotAt key m t x → p < length t → e ≡ getD t p 0 → e < m → key e ≡ x
   unfolding slotAt
   row-there t x p e ep l ee h =
       let z : getD t p m ≡ e = inside t p m 0 l ∙ sym ee in
-      let s : ends key m t x p ≡ true = rw ep (stop-ends key m t x (slotOf hash (length t) x) 64 (rw (← ep) l)) in
+      let s : ends key m t x p ≡ true = rw ep (stop-ends key m t x (slotOf (length t) x) 64 (rw (← ep) l)) in
       ap key (sym z) ∙ taken-ends key m t x p (omega arith) s
 
   -- where every row is in, that is the row
-  pub find-row : (t : List ℕ) → Holds key m hash t m → (x p e : ℕ) → p ≡ slotAt key m hash t x → p < length t → e ≡ getD t p 0 → e < m → e ≡ rowOf key x m
+  pub find-row : (t : List ℕ) → Holds key m t m → (x p e : ℕ) → p ≡ slotAt key m t x → p < length t → e ≡ getD t p 0 → e < m → e ≡ rowOf key x m
   unfolding held Holds
   find-row t w x p e ep l ee h =
-      let y : held key m hash t x ≡ e = ap (λ (q : ℕ). getD t q m) (sym ep) ∙ inside t p m 0 l ∙ sym ee in
+      let y : held key m t x ≡ e = ap (λ (q : ℕ). getD t q m) (sym ep) ∙ inside t p m 0 l ∙ sym ee in
       sym (row-is key x m e (omega arith)
-      (λ i k q. let v : held key m hash t x ≡ i = ap (held key m hash t) (sym q) ∙ w i (omega arith) in omega arith)
+      (λ i k q. let v : held key m t x ≡ i = ap (held key m t) (sym q) ∙ w i (omega arith) in omega arith)
       (λ k. row-there t x p e ep l ee h))
 
 -- ---- a table that is emptied, slot after slot
@@ -262,31 +262,31 @@ module _ (m : ℕ) where
       let lt : q < length t = omega (arith, length-set t p i) in
       only-set t i p q l w lt h (decLt q p) (decLt p q)
 
-module _ (key : ℕ → ℕ) (m hash : ℕ) (t₀ : List ℕ) where
+module _ (key : ℕ → ℕ) (m : ℕ) (t₀ : List ℕ) where
   -- no slot on a path was free
-  pub laid-full : (u : List ℕ) (r : ℕ) → m < r → Laid key m hash t₀ u r
+  pub laid-full : (u : List ℕ) (r : ℕ) → m < r → Laid key m t₀ u r
   laid-full u r h = record { placed = λ e l. absurd (omega arith); whole = λ e. absurd (omega arith) }
 
   -- all are in
-  pub laid-all : (u : List ℕ) (r i : ℕ) → r ≡ m → i ≡ m → Holds key m hash u i → Laid key m hash t₀ u r
+  pub laid-all : (u : List ℕ) (r i : ℕ) → r ≡ m → i ≡ m → Holds key m u i → Laid key m t₀ u r
   laid-all u r i er ei w =
-      let v : Holds key m hash u m = rw ei at w in
-      record { placed = λ e l. er ∙ sym (distinct-repeat key m (holds-distinct key m hash u m v)); whole = λ e. v }
+      let v : Holds key m u m = rw ei at w in
+      record { placed = λ e l. er ∙ sym (distinct-repeat key m (holds-distinct key m u m v)); whole = λ e. v }
 
   -- row i meets its own key
-  pub laid-again : (u : List ℕ) (i x p e : ℕ) → i < m → x ≡ key i → p ≡ slotAt key m hash u x → p < length u → e ≡ getD u p 0 → e < m → Holds key m hash u i → (Empty t₀ → Only m u i) → Laid key m hash t₀ u i
+  pub laid-again : (u : List ℕ) (i x p e : ℕ) → i < m → x ≡ key i → p ≡ slotAt key m u x → p < length u → e ≡ getD u p 0 → e < m → Holds key m u i → (Empty t₀ → Only m u i) → Laid key m t₀ u i
   unfolding Only
   laid-again u i x p e h ex ep l ee k w o =
       record {
         placed = λ n q.
             let lo : e < i = let y : getD u p 0 < i = o n p l (omega arith) in omega arith in
-            sym (repeat-here key m i h (distinct-repeat key i (holds-distinct key m hash u i w)) (seen-hit key (key i) e i lo (row-there key m hash u x p e ep l ee k ∙ ex)));
+            sym (repeat-here key m i h (distinct-repeat key i (holds-distinct key m u i w)) (seen-hit key (key i) e i lo (row-there key m u x p e ep l ee k ∙ ex)));
         whole = λ q. absurd (omega arith);
       }
 
 -- ---- a table asks for the first m keys alone
 
-module _ (key other : ℕ → ℕ) (m hash : ℕ) (h : (i : ℕ) → i < m → key i ≡ other i) where
+module _ (key other : ℕ → ℕ) (m : ℕ) (h : (i : ℕ) → i < m → key i ≡ other i) where
   or-agree : (e x : ℕ) (a : Bool) → leb m e ≡ a → (a || eqb (key e) x) ≡ (a || eqb (other e) x)
   or-agree e x true ea = refl
   or-agree e x false ea = rw (h e (leb-false m e ea))
@@ -300,17 +300,17 @@ module _ (key other : ℕ → ℕ) (m hash : ℕ) (h : (i : ℕ) → i < m → k
   stop-agree t x zero p = refl
   stop-agree t x (suc n) p = rw (ends-agree t x p, stop-agree t x n (p + 1))
 
-  held-agree : (t : List ℕ) (x : ℕ) → held key m hash t x ≡ held other m hash t x
+  held-agree : (t : List ℕ) (x : ℕ) → held key m t x ≡ held other m t x
   unfolding held slotAt
-  held-agree t x = ap (λ (p : ℕ). getD t p m) (stop-agree t x 64 (slotOf hash (length t) x))
+  held-agree t x = ap (λ (p : ℕ). getD t p m) (stop-agree t x 64 (slotOf (length t) x))
 
-  pub holds-agree : (t : List ℕ) → Holds key m hash t m → Holds other m hash t m
+  pub holds-agree : (t : List ℕ) → Holds key m t m → Holds other m t m
   unfolding Holds
-  holds-agree t w i k = sym (held-agree t (other i)) ∙ ap (held key m hash t) (sym (h i k)) ∙ w i k
+  holds-agree t w i k = sym (held-agree t (other i)) ∙ ap (held key m t) (sym (h i k)) ∙ w i k
 
 -- ---- a table of m rows, where it is to have w
 
-module _ (key : ℕ → ℕ) (m w hash : ℕ) (h : m ≤ w) (t : List ℕ) where
+module _ (key : ℕ → ℕ) (m w : ℕ) (h : m ≤ w) (t : List ℕ) where
   taken-inside : (p : ℕ) → getD t p m < m → Dec (p < length t) → p < length t
   taken-inside p l (yes k) = k
   taken-inside p l (no k) = let z : getD t p m ≡ m = List·getD-eq-default t m {n = p} (omega (arith, k)) in absurd (omega arith)
@@ -336,12 +336,12 @@ module _ (key : ℕ → ℕ) (m w hash : ℕ) (h : m ≤ w) (t : List ℕ) where
   stop-wider x zero p l = stop-none key w t x p 0 refl ∙ sym (stop-none key m t x p 0 refl)
   stop-wider x (suc n) p l = wider-turn x p n (stop-wider x n (p + 1)) (ends key m t x p) refl l
 
-  held-wider : (x : ℕ) → held key m hash t x < m → held key w hash t x ≡ held key m hash t x
+  held-wider : (x : ℕ) → held key m t x < m → held key w t x ≡ held key m t x
   unfolding held slotAt
   held-wider x l =
-      ap (λ (p : ℕ). getD t p w) (stop-wider x 64 (slotOf hash (length t) x) l) ∙ taken-wider (stop key m t x (slotOf hash (length t) x) 64) l
+      ap (λ (p : ℕ). getD t p w) (stop-wider x 64 (slotOf (length t) x) l) ∙ taken-wider (stop key m t x (slotOf (length t) x) 64) l
 
   -- the m rows are there, whatever the slots that were free hold
-  pub holds-wider : Holds key m hash t m → Holds key w hash t m
+  pub holds-wider : Holds key m t m → Holds key w t m
   unfolding Holds
   holds-wider f j l = held-wider (key j) (rw (f j l) l) ∙ f j l

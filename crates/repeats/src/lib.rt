@@ -1,13 +1,16 @@
-// Keys that stand in rows of a byte slice: the first that repeats an earlier one, and the row of a key. A table of rows by key, in slots
-// that the caller lends, spares both the search over all rows. Its paths are 64 slots long, so that chosen keys cannot make them longer:
-// where one is full, the next of five hashes is tried, and where none of them serves, rows are searched.
+// Keys that stand in rows of a byte slice: the first that repeats an earlier one, and the row of a key. Slots that the caller lends spare both
+// the search over all rows, in one of two ways. A table of rows by key serves plain keys; its paths are 64 slots long, so that chosen keys
+// cannot make them longer. Where one is full the rows are put in the order of their keys, which no keys make dear.
+mod order;
+
 ghost use mathlib.Core.Path.{_≡_};
 ghost use Prim.Native.Nat.{ℕ, _+_, _-_, _*_, _≤_, _<_};
 ghost use lib.ListN.{length, set};
 ghost use lib.Dec.{eqb};
 ghost use Rattle.repeats.specs.Rows.{countOf, spotOf, keyOf, Inside};
 ghost use Rattle.repeats.specs.Repeat.{repeatPlace, rowOf};
-ghost use Rattle.repeats.specs.Table.{mixOf, firstRound, secondRound, hashOf, slotOf, slotAt, servedBy, Small, Holds, Empty, Laid, Indexed};
+ghost use Rattle.repeats.specs.Table.{hashOf, slotOf, slotAt, Holds, Empty, Laid};
+ghost use Rattle.repeats.specs.Slots.{servedBy, Indexed};
 
 // Where the keys stand: three runs, one after the other in number, each key 6 bytes and one `stride` after the one before.
 pub struct Spots {
@@ -18,14 +21,6 @@ pub struct Spots {
     pub third: usize,
     pub third_count: usize,
     pub stride: usize,
-}
-
-// The factors of a hash: those of a key's parts, and then those of the halves of what they give.
-struct Mix {
-    low: u64,
-    high: u64,
-    turn_low: u64,
-    turn_high: u64,
 }
 
 // The number in a free slot, no row's.
@@ -40,8 +35,12 @@ const PATH: usize = 64;
 // How many rows are searched at less cost than that of a table.
 const FEW: usize = 12;
 
-// How many hashes there are, and the number in slot 0 that says that none serves.
-const HASHES: usize = 5;
+// What slot 0 says where rows are found by a table, by their order, or by neither.
+const BY_TABLE: usize = 0;
+
+const BY_ORDER: usize = 1;
+
+const BY_NEITHER: usize = 2;
 
 // How many keys there are.
 fn count(sp: Spots) -> usize
@@ -67,9 +66,9 @@ fn spot(sp: Spots, i: usize) -> usize
 }
 
 // Key i, as a number.
-pub fn key(b: &[u8], sp: Spots, i: usize) -> u64
+fn key(b: &[u8], sp: Spots, i: usize) -> u64
     requires { ⌜ Inside (now b) sp × (i < countOf sp) ⌝ }
-    ensures { λ r. ⌜ r ≡ keyOf (now (b .entry)) sp i ⌝ }
+    ensures { λ r. ⌜ (r ≡ keyOf (now (b .entry)) sp i) × (r < 281474976710656) ⌝ }
 {
     let at = spot(sp, i);
     octets::get32(b, at) as u64 + octets::get16(b, at + 4) as u64 * 4294967296
@@ -131,81 +130,21 @@ fn search(b: &[u8], sp: Spots, x: u64) -> usize
     m
 }
 
-// ---- the hashes
+// ---- the hash
 
-// The factors of hash h, from 1 to 4.
-fn mix_of(h: usize) -> Mix
-    ensures { λ r. ⌜ (r ≡ mixOf h) × Small r ⌝ }
+// A number of 4 bytes that scatters the keys. Requests are mostly consecutive, and their products are not.
+fn hash(x: u64) -> u64
+    ensures { λ r. ⌜ (r ≡ hashOf x) × (r < 4294967296) ⌝ }
 {
-    if h == 1 {
-        return Mix {
-            low: 1779033703,
-            high: 3144134277,
-            turn_low: 1013904243,
-            turn_high: 2773480763,
-        };
-    }
-    if h == 2 {
-        return Mix {
-            low: 1359893119,
-            high: 2600822925,
-            turn_low: 528734635,
-            turn_high: 1541459225,
-        };
-    }
-    if h == 3 {
-        return Mix {
-            low: 3418070365,
-            high: 1654270251,
-            turn_low: 2438529371,
-            turn_high: 355462361,
-        };
-    }
-    Mix {
-        low: 1731405415,
-        high: 2394180231,
-        turn_low: 3675008525,
-        turn_high: 1203062813,
-    }
-}
-
-// The low 4 bytes of a key and the 2 above them, each by its factor.
-fn first_round(low: u64, high: u64, x: u64) -> u64
-    requires { ⌜ (low < 4294901760) × (high < 4294967296) ⌝ }
-    ensures { λ r. ⌜ (r ≡ firstRound low high x) × (r < 4294967296) ⌝ }
-{
-    (x % 4294967296 * low + x / 4294967296 % 65536 * high) % 4294967296
-}
-
-// The halves of 4 bytes, each by its factor.
-fn second_round(low: u64, high: u64, y: u64) -> u64
-    requires { ⌜ (low < 4294967296) × (high < 4294967296) × (y < 4294967296) ⌝ }
-    ensures { λ r. ⌜ (r ≡ secondRound low high y) × (r < 4294967296) ⌝ }
-{
-    (y % 65536 * low + y / 65536 * high) % 4294967296
-}
-
-// A number of 4 bytes that scatters the keys. Requests are mostly consecutive, and their products are not: one round serves these.
-fn hash(h: usize, x: u64) -> u64
-    ensures { λ r. ⌜ (r ≡ hashOf h x) × (r < 4294967296) ⌝ }
-{
-    if h == 0 {
-        return first_round(2654435769, 2246822507, x);
-    }
-    let mix = mix_of(h);
-    second_round(
-        mix.turn_low,
-        mix.turn_high,
-        first_round(mix.low, mix.high, x),
-    )
+    (x % 4294967296 * 2654435769 + x / 4294967296 % 65536 * 2246822507) % 4294967296
 }
 
 // The slot where the path of key x begins.
-fn slot(h: usize, x: u64, size: usize) -> usize
+fn slot(x: u64, size: usize) -> usize
     requires { ⌜ (64 ≤ size) × (size ≤ 65535) ⌝ }
-    ensures { λ r. ⌜ (r ≡ slotOf h size x) × (r + 64 ≤ size) ⌝ }
+    ensures { λ r. ⌜ (r ≡ slotOf size x) × (r + 64 ≤ size) ⌝ }
 {
-    (hash(h, x) * (size - PATH) as u64 / 4294967296) as usize
+    (hash(x) * (size - PATH) as u64 / 4294967296) as usize
 }
 
 // ---- a table
@@ -218,12 +157,12 @@ fn row(x: u16) -> usize
 }
 
 // The slot at which the path of key x ends, or the table's size.
-fn path_end(b: &[u8], sp: Spots, h: usize, table: &[u16], x: u64) -> usize
+fn path_end(b: &[u8], sp: Spots, table: &[u16], x: u64) -> usize
     requires { ⌜ Inside (now b) sp × (64 ≤ length (now table)) × (length (now table) ≤ 65535) ⌝ }
-    ensures { λ r. ⌜ r ≡ slotAt (keyOf (now (b .entry)) sp) (countOf sp) h (now (table .entry)) x ⌝ }
+    ensures { λ r. ⌜ r ≡ slotAt (keyOf (now (b .entry)) sp) (countOf sp) (now (table .entry)) x ⌝ }
 {
     let m = count(sp);
-    let start = slot(h, x, table.len());
+    let start = slot(x, table.len());
     let mut n = 0;
     while n < PATH {
         let e = row(table[start + n]);
@@ -251,16 +190,16 @@ fn empty(table: &mut [u16])
 
 // Puts row after row from row `from` on into the slot at which the path of its key ends. Tells at which row it stopped: it has the key of
 // an earlier one, or it is the end; or one more than there are rows, where no slot on a path was free.
-fn lay(b: &[u8], sp: Spots, h: usize, table: &mut [u16], from: usize) -> usize
+fn lay(b: &[u8], sp: Spots, table: &mut [u16], from: usize) -> usize
     requires { ⌜ Inside (now b) sp × (64 ≤ length (now table)) × (length (now table) ≤ 65535)
-        × (countOf sp ≤ 65535) × (from ≤ countOf sp) × Holds (keyOf (now b) sp) (countOf sp) h (now table) from ⌝ }
-    ensures { λ r. ⌜ Laid (keyOf (now (b .entry)) sp) (countOf sp) h (now (table .entry)) (now (table .exit)) r ⌝ }
+        × (countOf sp ≤ 65535) × (from ≤ countOf sp) × Holds (keyOf (now b) sp) (countOf sp) (now table) from ⌝ }
+    ensures { λ r. ⌜ Laid (keyOf (now (b .entry)) sp) (countOf sp) (now (table .entry)) (now (table .exit)) r ⌝ }
 {
     let m = count(sp);
     let mut i = from;
     while i < m {
         let x = key(b, sp, i);
-        let p = path_end(b, sp, h, table, x);
+        let p = path_end(b, sp, table, x);
         if table.len() <= p {
             return m + 1;
         }
@@ -274,42 +213,42 @@ fn lay(b: &[u8], sp: Spots, h: usize, table: &mut [u16], from: usize) -> usize
 }
 
 // Puts every row into a table, whatever stands in it.
-fn lay_all(b: &[u8], sp: Spots, h: usize, table: &mut [u16]) -> usize
+fn lay_all(b: &[u8], sp: Spots, table: &mut [u16]) -> usize
     requires { ⌜ Inside (now b) sp × (64 ≤ length (now table)) × (length (now table) ≤ 65535) × (countOf sp ≤ 65535) ⌝ }
     ensures { λ r. ⌜ (r ≤ countOf sp → r ≡ repeatPlace (keyOf (now (b .entry)) sp) (countOf sp))
-        × (r ≡ countOf sp → Holds (keyOf (now (b .entry)) sp) (countOf sp) h (now (table .exit)) (countOf sp)) ⌝ }
+        × (r ≡ countOf sp → Holds (keyOf (now (b .entry)) sp) (countOf sp) (now (table .exit)) (countOf sp)) ⌝ }
 {
     empty(table);
-    lay(b, sp, h, table, 0)
+    lay(b, sp, table, 0)
 }
 
-// ---- the slots that are lent: the number of the hash that serves, how many slots the table has, and the table
+// ---- the slots that are lent: by what rows are found, how many slots the table has, and the table; or the rows in order behind these two
 
-// The number of the hash by which the slots serve.
+// By what rows are found.
 fn served_by(slots: &[u16]) -> usize
     ensures { λ r. ⌜ r ≡ servedBy (now (slots .entry)) ⌝ }
 {
     if slots.len() == 0 {
-        return HASHES;
+        return BY_NEITHER;
     }
     row(slots[0])
 }
 
-// Marks that no hash serves: for a few searches that costs less than putting every row in.
+// Marks that the slots do not serve: for a few searches that costs less than putting every row in.
 pub fn mark_none(slots: &mut [u16])
-    ensures { λ _. ⌜ servedBy (now (slots .exit)) ≡ 5 ⌝ }
+    ensures { λ _. ⌜ servedBy (now (slots .exit)) ≡ 2 ⌝ }
 {
     if 0 < slots.len() {
-        slots[0] = HASHES as u16;
+        slots[0] = BY_NEITHER as u16;
     }
 }
 
-// Marks that hash h serves, by a table of `size` slots.
-fn mark(slots: &mut [u16], h: usize, size: usize)
-    requires { ⌜ (2 ≤ length (now slots)) × (h < 5) × (size ≤ 65535) ⌝ }
-    ensures { λ _. ⌜ now (slots .exit) ≡ set (set (now (slots .entry)) 0 h) 1 size ⌝ }
+// Marks that a table of `size` slots serves.
+fn mark(slots: &mut [u16], size: usize)
+    requires { ⌜ (2 ≤ length (now slots)) × (size ≤ 65535) ⌝ }
+    ensures { λ _. ⌜ now (slots .exit) ≡ set (set (now (slots .entry)) 0 0) 1 size ⌝ }
 {
-    slots[0] = h as u16;
+    slots[0] = BY_TABLE as u16;
     slots[1] = size as u16;
 }
 
@@ -338,34 +277,25 @@ fn size_for(len: usize, m: usize, most: usize) -> usize
     wanted
 }
 
-// Puts every row into a table of this size, by the first hash from h on by which no path is full. Tells the place of the first row that
-// repeats an earlier one, or that there is none; or one more than there are rows, where no hash was left.
-fn serve(b: &[u8], sp: Spots, slots: &mut [u16], size: usize, first: usize) -> usize
+// Puts every row into a table of this size. Tells the place of the first row that repeats an earlier one, or that there is none; or one more
+// than there are rows, where a path is full.
+fn serve(b: &[u8], sp: Spots, slots: &mut [u16], size: usize) -> usize
     requires { ⌜ Inside (now b) sp × (64 ≤ size) × (size ≤ 65535) × (2 + size ≤ length (now slots)) × (countOf sp ≤ 65535) ⌝ }
     ensures { λ r. ⌜ (r ≤ countOf sp → r ≡ repeatPlace (keyOf (now (b .entry)) sp) (countOf sp))
         × Indexed (keyOf (now (b .entry)) sp) (countOf sp) (now (slots .exit)) ⌝ }
 {
-    let m = count(sp);
     let end = 2 + size;
-    let mut h = first;
-    while h < HASHES {
-        let place = lay_all(b, sp, h, &mut slots[2..end]);
-        if place < m {
-            mark_none(slots);
-            return place;
-        }
-        if place == m {
-            mark(slots, h, size);
-            return m;
-        }
-        h += 1;
+    let place = lay_all(b, sp, &mut slots[2..end]);
+    if place == count(sp) {
+        mark(slots, size);
+        return place;
     }
     mark_none(slots);
-    m + 1
+    place
 }
 
 // Puts every row into the slots, and tells how many rows come before the first whose key an earlier one has. There will be `most` rows at
-// most. A few rows are searched: that is cheaper than a table; and so are more than a slot can number.
+// most. A few rows are searched: that is cheaper than a table; and so are more than a slot can number, or than there are slots for.
 pub fn index(b: &[u8], sp: Spots, most: usize, slots: &mut [u16]) -> usize
     requires { ⌜ Inside (now b) sp ⌝ }
     ensures { λ r. ⌜ (r ≡ repeatPlace (keyOf (now (b .entry)) sp) (countOf sp))
@@ -377,20 +307,24 @@ pub fn index(b: &[u8], sp: Spots, most: usize, slots: &mut [u16]) -> usize
         mark_none(slots);
         return nested(b, sp);
     }
-    let place = serve(b, sp, slots, size, 0);
-    if m < place {
-        return nested(b, sp);
+    let place = serve(b, sp, slots, size);
+    if place <= m {
+        return place;
     }
-    place
+    let place = order::index(b, sp, slots);
+    if place <= m {
+        return place;
+    }
+    nested(b, sp)
 }
 
-// Puts the last row into slots that have all the rows before it: where its path is full, all the rows by another hash.
+// Puts the last row into slots that have all the rows before it: where its path is full, all the rows in their order.
 pub fn add(b: &[u8], sp: Spots, slots: &mut [u16])
     requires { ⌜ Inside (now b) sp × (0 < countOf sp) × Indexed (keyOf (now b) sp) (countOf sp - 1) (now slots) ⌝ }
     ensures { λ _. ⌜ Indexed (keyOf (now (b .entry)) sp) (countOf sp) (now (slots .exit)) ⌝ }
 {
-    let h = served_by(slots);
-    if HASHES <= h {
+    let by = served_by(slots);
+    if BY_NEITHER <= by {
         return;
     }
     let m = count(sp);
@@ -398,15 +332,19 @@ pub fn add(b: &[u8], sp: Spots, slots: &mut [u16])
         mark_none(slots);
         return;
     }
+    if by == BY_ORDER {
+        order::add(b, sp, slots);
+        return;
+    }
     let size = row(slots[1]);
     let end = 2 + size;
-    let reached = lay(b, sp, h, &mut slots[2..end], m - 1);
+    let reached = lay(b, sp, &mut slots[2..end], m - 1);
     if reached < m {
         mark_none(slots);
         return;
     }
     if m < reached {
-        serve(b, sp, slots, size, h + 1);
+        order::index(b, sp, slots);
     }
 }
 
@@ -415,14 +353,17 @@ pub fn find(b: &[u8], sp: Spots, slots: &[u16], x: u64) -> usize
     requires { ⌜ Inside (now b) sp × Indexed (keyOf (now b) sp) (countOf sp) (now slots) ⌝ }
     ensures { λ r. ⌜ r ≡ rowOf (keyOf (now (b .entry)) sp) x (countOf sp) ⌝ }
 {
-    let h = served_by(slots);
-    if HASHES <= h {
+    let by = served_by(slots);
+    if BY_NEITHER <= by {
         return search(b, sp, x);
+    }
+    if by == BY_ORDER {
+        return order::find(b, sp, slots, x);
     }
     let m = count(sp);
     let size = row(slots[1]);
     let end = 2 + size;
-    let p = path_end(b, sp, h, &slots[2..end], x);
+    let p = path_end(b, sp, &slots[2..end], x);
     if size <= p {
         return m;
     }

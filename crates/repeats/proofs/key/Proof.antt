@@ -31,7 +31,7 @@ add-result : tie.Need-add-result
 add-result c = search needs
 
 returns : tie.Need-returns
-returns c = key-parts (c .before .before .before .before .args .b .now) (c .before .before .before .before .args .sp) (c .before .before .before .before .args .i) (c .before .before .spot .result) (c .before .get32 .result) (c .get16 .result) (c .before .before .spot .ensures) (c .before .get32 .ensures) (c .get16 .ensures)
+returns c = (key-parts (c .before .before .before .before .args .b .now) (c .before .before .before .before .args .sp) (c .before .before .before .before .args .i) (c .before .before .spot .result) (c .before .get32 .result) (c .get16 .result) (c .before .before .spot .ensures) (c .before .get32 .ensures) (c .get16 .ensures), search needs)
 
 pub key-spec : {M : Type 1} → statement M
 key-spec =

@@ -12,10 +12,10 @@ use Rattle.repeats.proofs.lay.Statement.{statement}
 use Rattle.repeats.proofs.lay.Tie as tie
 
 abbrev Inv-loop : tie.InvT-loop
-Inv-loop b sp h table₀ from m i₀ table i = (i ≤ m) × (length table ≡ length table₀) × Holds (keyOf b sp) (countOf sp) h table i × (Empty table₀ → Only (countOf sp) table i)
+Inv-loop b sp table₀ from m i₀ table i = (i ≤ m) × (length table ≡ length table₀) × Holds (keyOf b sp) (countOf sp) table i × (Empty table₀ → Only (countOf sp) table i)
 
 abbrev μ-loop : tie.MeasureT-loop
-μ-loop b sp h table₀ from m i₀ table i = m - i
+μ-loop b sp table₀ from m i₀ table i = m - i
 
 count-requires : tie.Need-count-requires Inv-loop μ-loop
 count-requires c κs = search needs
@@ -36,7 +36,7 @@ same-length : tie.Need-same-length Inv-loop μ-loop
 same-length c = search needs
 
 returns : tie.Need-returns Inv-loop μ-loop
-returns c = laid-full (keyOf (c .before .before .before .before .before .before .before .before .before .args .b .now) (c .before .before .before .before .before .before .before .before .before .args .sp)) (countOf (c .before .before .before .before .before .before .before .before .before .args .sp)) (c .before .before .before .before .before .before .before .before .before .args .h) (c .before .before .before .before .before .before .before .before .before .args .table .now) _ _ (omega arith)
+returns c = laid-full (keyOf (c .before .before .before .before .before .before .before .before .before .args .b .now) (c .before .before .before .before .before .before .before .before .before .args .sp)) (countOf (c .before .before .before .before .before .before .before .before .before .args .sp)) (c .before .before .before .before .before .before .before .before .before .args .table .now) _ _ (omega arith)
 
 mul-row : tie.Need-mul-row Inv-loop μ-loop
 mul-row c = search needs
@@ -51,7 +51,7 @@ same-length-2 : tie.Need-same-length-2 Inv-loop μ-loop
 same-length-2 c = search needs
 
 returns-2 : tie.Need-returns-2 Inv-loop μ-loop
-returns-2 c = laid-again (keyOf (c .before .before .before .before .before .before .before .before .before .before .before .before .args .b .now) (c .before .before .before .before .before .before .before .before .before .before .before .before .args .sp)) (countOf (c .before .before .before .before .before .before .before .before .before .before .before .before .args .sp)) (c .before .before .before .before .before .before .before .before .before .before .before .before .args .h) (c .before .before .before .before .before .before .before .before .before .before .before .before .args .table .now) (c .before .before .before .before .before .before .before .before .loop .table) (c .before .before .before .before .before .before .before .before .loop .i) (c .before .before .before .before .before .before .key .result) (c .before .before .before .before .path-end .result) (c .before .row .result) (omega arith) (c .before .before .before .before .before .before .key .ensures) (c .before .before .before .before .path-end .ensures) (omega arith) (c .before .row .ensures .0) (omega arith) (c .before .before .before .before .before .before .before .before .loop .inv .2) (c .before .before .before .before .before .before .before .before .loop .inv .3)
+returns-2 c = laid-again (keyOf (c .before .before .before .before .before .before .before .before .before .before .before .before .args .b .now) (c .before .before .before .before .before .before .before .before .before .before .before .before .args .sp)) (countOf (c .before .before .before .before .before .before .before .before .before .before .before .before .args .sp)) (c .before .before .before .before .before .before .before .before .before .before .before .before .args .table .now) (c .before .before .before .before .before .before .before .before .loop .table) (c .before .before .before .before .before .before .before .before .loop .i) (c .before .before .before .before .before .before .key .result) (c .before .before .before .before .path-end .result) (c .before .row .result) (omega arith) (c .before .before .before .before .before .before .key .ensures .0) (c .before .before .before .before .path-end .ensures) (omega arith) (c .before .row .ensures .0) (omega arith) (c .before .before .before .before .before .before .before .before .loop .inv .2) (c .before .before .before .before .before .before .before .before .loop .inv .3)
 
 cast-table : tie.Need-cast-table Inv-loop μ-loop
 cast-table c = search needs
@@ -69,13 +69,13 @@ loop-less : tie.Need-loop-less Inv-loop μ-loop
 loop-less c = search needs
 
 loop-again : tie.Need-loop-again Inv-loop μ-loop
-loop-again c = (search needs, search needs, holds-more (keyOf (c .before .before .before .before .before .before .before .before .before .before .before .before .args .b .now) (c .before .before .before .before .before .before .before .before .before .before .before .before .args .sp)) (countOf (c .before .before .before .before .before .before .before .before .before .before .before .before .args .sp)) (c .before .before .before .before .before .before .before .before .before .before .before .before .args .h) (c .before .before .before .before .before .before .before .before .loop .table) (c .before .before .before .before .before .before .before .before .loop .i) (c .before .before .before .before .before .before .key .result) (c .before .before .before .before .path-end .result) (omega arith) (c .before .before .before .before .before .before .key .ensures) (c .before .before .before .before .path-end .ensures) (omega arith) (omega arith) (c .before .before .before .before .before .before .before .before .loop .inv .2), λ e. only-more (countOf (c .before .before .before .before .before .before .before .before .before .before .before .before .args .sp)) (c .before .before .before .before .before .before .before .before .loop .table) (c .before .before .before .before .before .before .before .before .loop .i) (c .before .before .before .before .path-end .result) (omega arith) (c .before .before .before .before .before .before .before .before .loop .inv .3 e))
+loop-again c = (search needs, search needs, holds-more (keyOf (c .before .before .before .before .before .before .before .before .before .before .before .before .args .b .now) (c .before .before .before .before .before .before .before .before .before .before .before .before .args .sp)) (countOf (c .before .before .before .before .before .before .before .before .before .before .before .before .args .sp)) (c .before .before .before .before .before .before .before .before .loop .table) (c .before .before .before .before .before .before .before .before .loop .i) (c .before .before .before .before .before .before .key .result) (c .before .before .before .before .path-end .result) (omega arith) (c .before .before .before .before .before .before .key .ensures .0) (c .before .before .before .before .path-end .ensures) (omega arith) (omega arith) (c .before .before .before .before .before .before .before .before .loop .inv .2), λ e. only-more (countOf (c .before .before .before .before .before .before .before .before .before .before .before .before .args .sp)) (c .before .before .before .before .before .before .before .before .loop .table) (c .before .before .before .before .before .before .before .before .loop .i) (c .before .before .before .before .path-end .result) (omega arith) (c .before .before .before .before .before .before .before .before .loop .inv .3 e))
 
 same-length-3 : tie.Need-same-length-3 Inv-loop μ-loop
 same-length-3 c = search needs
 
 returns-3 : tie.Need-returns-3 Inv-loop μ-loop
-returns-3 c = laid-all (keyOf (c .before .before .before .before .before .args .b .now) (c .before .before .before .before .before .args .sp)) (countOf (c .before .before .before .before .before .args .sp)) (c .before .before .before .before .before .args .h) (c .before .before .before .before .before .args .table .now) _ _ (c .before .loop .i) (c .before .before .count .ensures) (omega arith) (c .before .loop .inv .2)
+returns-3 c = laid-all (keyOf (c .before .before .before .before .before .args .b .now) (c .before .before .before .before .before .args .sp)) (countOf (c .before .before .before .before .before .args .sp)) (c .before .before .before .before .before .args .table .now) _ _ (c .before .loop .i) (c .before .before .count .ensures) (omega arith) (c .before .loop .inv .2)
 
 pub lay-spec : {M : Type 1} → statement M
 lay-spec =

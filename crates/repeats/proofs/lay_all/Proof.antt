@@ -10,7 +10,7 @@ empty-requires : tie.Need-empty-requires
 empty-requires c κs = search needs
 
 lay-requires : tie.Need-lay-requires
-lay-requires c κs = (c .before .before .before .before .before .before .before .pre .0, search needs, search needs, search needs, search needs, holds-none (keyOf (c .before .before .before .before .before .before .before .args .b .now) (c .before .before .before .before .before .before .before .args .sp)) (countOf (c .before .before .before .before .before .before .before .args .sp)) (c .before .before .before .before .before .before .before .args .h) _)
+lay-requires c κs = (c .before .before .before .before .before .before .before .pre .0, search needs, search needs, search needs, search needs, holds-none (keyOf (c .before .before .before .before .before .before .before .args .b .now) (c .before .before .before .before .before .before .before .args .sp)) (countOf (c .before .before .before .before .before .before .before .args .sp)) _)
 
 same-length : tie.Need-same-length
 same-length c = search needs

@@ -16,7 +16,7 @@ same-length : tie.Need-same-length
 same-length c = search needs
 
 returns : tie.Need-returns
-returns c = marked (c .before .args .slots .now) (omega arith)
+returns c = marked (c .before .args .slots .now) 2 (omega arith)
 
 returns-2 : tie.Need-returns-2
 returns-2 c = unmarked (c .before .args .slots .now) (omega arith)
