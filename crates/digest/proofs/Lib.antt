@@ -1,3 +1,3 @@
--- The laws of the digest.
+-- The laws of the digest, and what its statements promise.
 pub mod Laws
 pub mod Promises

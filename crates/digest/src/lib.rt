@@ -1,7 +1,8 @@
 // FNV-1a at 64 bits. The product modulo 2^64 is made of shifts, which drop the high bits, and of sums that wrap.
 ghost use mathlib.Core.Path.{_≡_};
 ghost use Prim.Native.Nat.{_*_, _%_, _^_};
-ghost use Rattle.rules.specs.Digest.{basis, prime, digestFrom};
+ghost use Rattle.rules.specs.Digest.{prime};
+ghost use Rattle.digest.specs.Statements.{DigestsOn, Digests};
 
 // The digest of no bytes.
 pub const BASIS: u64 = 0xcbf29ce484222325;
@@ -20,7 +21,7 @@ fn times_prime(h: u64) -> u64
 
 // The digest h run on over more bytes.
 pub fn digest_on(h: u64, bytes: &[u8]) -> u64
-    ensures { λ r. ⌜ r ≡ digestFrom h (now (bytes .entry)) ⌝ }
+    ensures { λ r. ⌜ DigestsOn h (now (bytes .entry)) r ⌝ }
 {
     let mut sum = h;
     let mut i = 0;
@@ -34,7 +35,7 @@ pub fn digest_on(h: u64, bytes: &[u8]) -> u64
 
 // The digest of bytes from the start.
 pub fn digest_of(bytes: &[u8]) -> u64
-    ensures { λ r. ⌜ r ≡ digestFrom basis (now (bytes .entry)) ⌝ }
+    ensures { λ r. ⌜ Digests (now (bytes .entry)) r ⌝ }
 {
     digest_on(BASIS, bytes)
 }

@@ -1,10 +1,10 @@
 -- Any two answers that satisfy the statement of the check coincide. Assumes nothing.
+use Prim.Native.Nat.{ℕ}
 use mathlib.Core.Path.{_≡_, sym, _∙_}
 use mathlib.Core.Bool.{Bool}
 use mathlib.Core.List.{List}
-use Prim.Native.Nat.{ℕ}
-use Rattle.rules.specs.Image.{goodBytes}
 use Rattle.rules.specs.declared.Shape.{Shape}
+use Rattle.good.specs.Statements.{Judges}
 
-pub good-one : (sh : Shape) (b : List ℕ) (x y : Bool) → x ≡ goodBytes sh b → y ≡ goodBytes sh b → x ≡ y
+pub good-one : (sh : Shape) (b : List ℕ) (x y : Bool) → Judges sh b x → Judges sh b y → x ≡ y
 good-one sh b x y p q = p ∙ sym q

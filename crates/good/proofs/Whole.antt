@@ -6,7 +6,7 @@ use mathlib.Core.List.{List, _++_}
 use native.Mathlib.Omega.{arith}
 use lib.ListN.{length, take, drop}
 use lib.Dec.{eqb, leb}
-use borrow.Author.Tests.{eq-eqb, ne-eqb, ltb-true, not-true, not-false}
+use borrow.Author.Tests.{eq-eqb, ltb-true, not-true, not-false}
 use Rattle.octets.specs.Bytes.{num, part}
 use Rattle.octets.proofs.Laws.{Bytes, bytes-part, length-part, num-part}
 use Rattle.rules.specs.Choice.{allOf, every, same}
@@ -138,14 +138,6 @@ module _ (sh : Shape) (st : State) (counts : countsGood sh st ≡ true) (places 
 -- ---- each way through the check
 
 module _ (sh : Shape) (b : List ℕ) where
-  pub not-permitted : (f : Bool) → f ≡ shapeFits sh → not f ≡ true → false ≡ goodBytes sh b
-  unfolding goodBytes
-  not-permitted f e h = let g : shapeFits sh ≡ false = sym e ∙ not-true f h in simp g
-
-  pub wrong-length : (n : ℕ) → n ≡ stateLength sh → (length b ≡ n → ⊥) → false ≡ goodBytes sh b
-  unfolding goodBytes
-  wrong-length n e h = let g : eqb (length b) (stateLength sh) ≡ false = ne-eqb _ _ (λ q. h (q ∙ sym e)) in simp (g, and-false)
-
   pub notes-formed : (f : Bool) → f ≡ (sectionForm sh b 6 && every noteFits (stateOf sh b .waiting .notes)) → not f ≡ false → sectionForm sh b 6 ≡ true
   notes-formed f e h = and-l (sectionForm sh b 6) (every noteFits (stateOf sh b .waiting .notes)) (sym e ∙ not-false f h)
 

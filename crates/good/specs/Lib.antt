@@ -1,2 +1,3 @@
--- What the check of a state cites beside the rules.
+-- What the check of a state cites beside the rules, and what it promises.
 pub mod Known
+pub mod Statements

@@ -14,13 +14,14 @@ ghost use Rattle.rules.specs.Log.{lastStamp};
 ghost use Rattle.rules.specs.Log.{goodLog, distinct};
 ghost use Rattle.rules.specs.State.{viewGood, heardGood, voteGood, replyGood, keptGood, noteFits};
 ghost use Rattle.rules.specs.State as rule;
-ghost use Rattle.rules.specs.Image.{tableLength, voteLength, replyLength, pointBytes, pointAt, tableAt, voteAt, replyAt, stateOf, goodBytes, atHeard, atReplies, atVotes};
+ghost use Rattle.rules.specs.Image.{tableLength, voteLength, replyLength, pointBytes, pointAt, tableAt, voteAt, replyAt, stateOf, atHeard, atReplies, atVotes};
 ghost use Rattle.logs.specs.Place.{fits};
 ghost use Rattle.notes.specs.Notes.{sized, notesAt, row, Notes};
 ghost use Rattle.lookups.specs.Rows.{NoteRows};
 ghost use Rattle.places.specs.Layout.{startOf, Sized};
 ghost use Rattle.form.specs.Sections.{sectionForm};
 ghost use Rattle.good.specs.Known.{headFits, pointsGood, notedRight, entriesGood, earlyRight, notesRight, Known, Lent, Formed, restGood};
+ghost use Rattle.good.specs.Statements.{Judges};
 
 // ---- a table anywhere in bytes
 
@@ -378,7 +379,7 @@ fn rest_good(shape: Shape, state: &[u8], slots: &mut [u16]) -> bool
 
 // Whether the bytes are those of a good state: this is asked of whatever comes, and nothing is taken for granted.
 pub fn good(shape: Shape, state: &[u8], slots: &mut [u16]) -> bool
-    ensures { λ r. ⌜ r ≡ goodBytes shape (now (state .entry)) ⌝ }
+    ensures { λ r. ⌜ Judges shape (now (state .entry)) r ⌝ }
 {
     if !group::shape_fits(shape) {
         return false;

@@ -1,2 +1,3 @@
--- What the functions of the crate pass between them.
+-- What the functions of the crate pass between them, and what the reader and the writer promise.
 pub mod Parts
+pub mod Statements

@@ -12,6 +12,7 @@ ghost use Rattle.rules.specs.Wire as kinds;
 ghost use Rattle.rules.specs.Write as writing;
 ghost use Rattle.rules.specs.declared.Verdict.the-variants as Verdict;
 ghost use Rattle.fields.specs.Parts.{fieldsOf};
+ghost use Rattle.wire.specs.Statements.{Reads, Writes};
 use fields::Parts;
 use fields::and_then;
 use fields::body_wrong;
@@ -40,7 +41,7 @@ fn whole_in(len: usize, from: usize) -> usize
 
 // The message that the bytes are, or where they stop being one.
 pub fn read(n: u64, s: u64, b: &[u8], slots: &mut [u16]) -> Message
-    ensures { λ r. ⌜ r ≡ reading.decoded n s (now (b .entry)) ⌝ }
+    ensures { λ r. ⌜ Reads n s (now (b .entry)) r ⌝ }
 {
     if !group::sizes_fit(n, s) {
         return Message::WrongSizes;
@@ -133,7 +134,7 @@ pub fn write(
     out: &mut [u8],
     slots: &mut [u16],
 ) -> Answer
-    ensures { λ r. ⌜ writing.written r (now (out .exit)) ≡ writing.writes n s m (now (views .entry)) (now (entries .entry)) (now (out .entry)) ⌝ }
+    ensures { λ r. ⌜ Writes n s m (now (views .entry)) (now (entries .entry)) (now (out .entry)) r (now (out .exit)) ⌝ }
 {
     if !group::sizes_fit(n, s) {
         return Answer::Refused(refusal::WRONG_STATE, 0);

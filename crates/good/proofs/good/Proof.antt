@@ -1,10 +1,11 @@
 -- `good::good` meets its contract: each way through it. Assumes nothing.
 -- Made by tools/answers from the file `answers` beside it: change that one.
 use mathlib.Core.Path.{sym, _∙_}
-use borrow.Author.Tests.{not-false}
+use borrow.Author.Tests.{ne-eqb, not-true, not-false}
 use Rattle.octets.proofs.Laws.{bytes-known}
+use Rattle.rules.proofs.Good.{sizes-unfit, length-unfit}
 use Rattle.places.proofs.Sections.{fits}
-use Rattle.good.proofs.Whole.{not-permitted, wrong-length, not-formed, head-unfit, notes-unfit, notes-formed, all-good, formed}
+use Rattle.good.proofs.Whole.{not-formed, head-unfit, notes-unfit, notes-formed, all-good, formed}
 use borrow.Author.Needs.{needs}
 use Rattle.good.proofs.good.Statement.{statement}
 use Rattle.good.proofs.good.Tie as tie
@@ -13,13 +14,13 @@ shape-fits-requires : tie.Need-shape-fits-requires
 shape-fits-requires c κs = search needs
 
 returns : tie.Need-returns
-returns c = not-permitted _ _ _ (c .before .shape-fits .ensures) (c .if1 .taken)
+returns c = sizes-unfit _ _ (sym (c .before .shape-fits .ensures) ∙ not-true _ (c .if1 .taken))
 
 places-of-requires : tie.Need-places-of-requires
 places-of-requires c κs = fits _ (sym (c .before .shape-fits .ensures) ∙ not-false _ (c .if1 .left))
 
 returns-2 : tie.Need-returns-2
-returns-2 c = wrong-length _ _ _ (c .before .before .places-of .ensures .end) (c .if2 .taken)
+returns-2 c = length-unfit _ _ (ne-eqb _ _ (λ e. (c .if2 .taken) (e ∙ sym (c .before .before .places-of .ensures .end))))
 
 tables-form-requires : tie.Need-tables-form-requires
 tables-form-requires c κs = record { fits = (fits _ (sym (c .before .before .before .before .shape-fits .ensures) ∙ not-false _ (c .before .before .before .if1 .left))); size = (c .if2 .left ∙ c .before .before .places-of .ensures .end) }

@@ -1,0 +1,2 @@
+-- What the digest's functions promise.
+pub mod Statements
