@@ -2,6 +2,8 @@
  * from empty to full, for the smallest and the largest shape (n = 3, S = 1 and n = 7, S = 8). The figures go to the
  * standard output as lines of CSV, of which ./jallumere bench has tables or a drawing made (--help lists the options).
  *
+ * Some rows are measured with chosen transactions too, in the same state but for these.
+ *
  * Each cell is one state and one message. Both sides step copies of that state, turn by turn, in three passes over
  * all cells; the copies are restored outside of the timed part, and the best of all turns counts. The answers, the
  * next states and the outgoing bytes are compared on the way, and each answer is the one that its row names. */
@@ -10,6 +12,7 @@
 #include "../common/host.h"
 #include "../common/messages.h"
 #include "../model/model.h"
+#include "keys.h"
 
 enum { COPIES_MOST = 64, COPIES_BYTES = 1 << 20, PASSES = 3, TURNS_LEAST = 2, SHAPES = 2, CAPACITIES = 3, FILLS = 5 };
 enum { OWN_VIEW = 2 }; /* of every state here, after view 1 */
@@ -40,9 +43,11 @@ typedef struct {
     uint8_t kind;
     const char *name;
     uint8_t answer, status;
-    bool leads, late;        /* late: that buffer holds an eighth too */
-    enum amount early, held; /* early entries; each one's notes at a normal leader, else votes or replies */
-    enum amount adds;        /* entries that the step adds to the log */
+    bool leads;
+    bool chosen; /* measured with chosen transactions too */
+    enum amount early, late;
+    enum amount held; /* each early entry's notes at a normal leader, else votes or replies */
+    enum amount adds; /* entries that the step adds to the log */
     enum named names;
     uint8_t view;                              /* the message's, where it is another than the state's */
     bool elsewhere, no_room;                   /* to another site; without an outgoing buffer */
@@ -51,14 +56,14 @@ typedef struct {
 
 static const row rows[] = {
     {1, "transaction, leader", .leads = true, .early = EIGHTH, .held = HALF_GROUPS},
-    {1, "transaction, follower", .early = EIGHTH, .late = true},
+    {1, "transaction, follower", .early = EIGHTH, .late = EIGHTH},
     {3, "timestamp note, agrees", .leads = true, .early = EIGHTH, .held = OTHER_GROUPS, .names = FIRST_EARLY},
     {3, "timestamp note, first", .leads = true, .early = EIGHTH, .held = HALF_GROUPS},
-    {4, "replica sync, 1 new", .early = EIGHTH, .adds = ONE},
+    {4, "replica sync, 1 new", .early = EIGHTH, .adds = ONE, .chosen = true},
     {4, "replica sync, C/8 new", .early = EIGHTH, .adds = EIGHTH},
     {7, "change view, leader", .leads = true, .early = EIGHTH, .held = HALF_GROUPS, .view = 3},
-    {7, "change view, follower", .early = EIGHTH, .late = true, .view = 3},
-    {8, "vote, rebuild", .status = JALLUMERE_STATUS_VIEW_CHANGE, .leads = true, .held = MINORITY},
+    {7, "change view, follower", .early = EIGHTH, .late = EIGHTH, .view = 3},
+    {8, "vote, rebuild", .status = JALLUMERE_STATUS_VIEW_CHANGE, .leads = true, .held = MINORITY, .chosen = true},
     {8, "vote, greater view", .leads = true, .early = EIGHTH, .held = HALF_GROUPS, .view = 3},
     {9, "start view", .status = JALLUMERE_STATUS_VIEW_CHANGE},
     {10, "sync status", .leads = true, .early = EIGHTH, .held = HALF_GROUPS},
@@ -66,20 +71,21 @@ static const row rows[] = {
     {18, "verify request, log", .leads = true, .early = EIGHTH, .held = HALF_GROUPS},
     {18, "verify request, draft", .status = JALLUMERE_STATUS_CROSS_SHARD, .leads = true},
     {19, "verify reply, kept", .status = JALLUMERE_STATUS_CROSS_SHARD, .leads = true, .held = FEW_REPLIES},
-    {19, "verify reply, merge", .status = JALLUMERE_STATUS_CROSS_SHARD, .leads = true, .held = MOST_REPLIES},
-    {23, "tick, leader, 0 due", .leads = true, .early = EIGHTH, .held = GROUPS},
+    {19, "verify reply, merge", 0, JALLUMERE_STATUS_CROSS_SHARD, true, .held = MOST_REPLIES, .chosen = true},
+    {23, "tick, leader, 0 due", .leads = true, .early = EIGHTH, .held = GROUPS, .chosen = true},
     {23, "tick, leader, 1 due", .leads = true, .early = EIGHTH, .held = GROUPS, .adds = ONE},
     {23, "tick, leader, C/8 due", .leads = true, .early = EIGHTH, .held = GROUPS, .adds = EIGHTH},
     {23, "tick, follower, 1 due", .early = EIGHTH, .adds = ONE},
     {23, "tick, follower, C/8 due", .early = EIGHTH, .adds = EIGHTH},
+    {23, "tick, buffers full", .early = TABLE, .late = TABLE, .chosen = true},
     {23, "1: wrong length", 1, .early = EIGHTH, .state_cut = 1},
     {23, "1: last byte wrong", 1, .early = EIGHTH, .last_byte = 1},
     {23, "2: a byte short", 2, .early = EIGHTH, .message_cut = 1},
     {23, "3: to another site", 3, .early = EIGHTH, .elsewhere = true},
     {11, "4: an older view", 4, .early = EIGHTH, .view = 1},
     {23, "5: in status 2", 5, .status = JALLUMERE_STATUS_VIEW_CHANGE},
-    {10, "6: to a follower", 6, .early = EIGHTH, .late = true},
-    {1, "7: known already", 7, .early = EIGHTH, .late = true, .names = LAST_EARLY},
+    {10, "6: to a follower", 6, .early = EIGHTH, .late = EIGHTH},
+    {1, "7: known already", 7, .early = EIGHTH, .late = EIGHTH, .names = LAST_EARLY},
     {1, "8: early is full", 8, .leads = true, .early = TABLE, .held = HALF_GROUPS},
     {23, "9: no outgoing room", 9, .early = EIGHTH, .adds = ONE, .no_room = true},
 };
@@ -94,10 +100,13 @@ typedef struct {
     uint64_t filled; /* entries that the log shall have */
     uint64_t logged; /* that it has: where a step adds to the log, a full log is one that is full after it */
     unsigned answer;
-    double best[2]; /* nanoseconds of core and model; 0 before they are measured */
+    double best[2];                /* nanoseconds of core and model; 0 before they are measured */
+    const attack *against;         /* where transactions are chosen: against what, */
+    uint64_t first_chosen, chosen; /* the position of the first, how many they are, */
+    uint32_t *requests;            /* and their requests */
 } cell;
 
-static cell cells[SHAPES * ROWS * CAPACITIES * FILLS];
+static cell cells[SHAPES * ROWS * CAPACITIES * (FILLS + ATTACKS)];
 static size_t cell_count;
 
 static uint64_t amount_of(enum amount amount, const layout *at) {
@@ -106,7 +115,7 @@ static uint64_t amount_of(enum amount amount, const layout *at) {
     return amounts[amount];
 }
 
-/* The cell of a row, but for those that cannot happen: with one group alone nothing comes from another. */
+/* A cell of a row, but for those that cannot happen: with one group alone nothing comes from another. */
 static void add_cell(const row *of, const uint64_t shape[2], uint64_t capacity, unsigned fill) {
     cell made = {.of = of, .at = lay_out(shape[0], shape[1], capacity), .fill = fill_names[fill], .answer = of->answer};
     uint64_t added = amount_of(of->adds, &made.at);
@@ -116,6 +125,27 @@ static void add_cell(const row *of, const uint64_t shape[2], uint64_t capacity, 
         made.answer = JALLUMERE_NOTHING_TO_DO; /* with an empty log a commit point cannot rise */
     if (forms[of->kind].sender != OTHER_LEADER || made.at.s > 1)
         cells[cell_count++] = made;
+}
+
+/* A full cell again, with chosen transactions: all of them, or as many as fill the paths, the last of those that each
+ * log has. There are none where so many do not fit. */
+static void add_chosen(const cell *plain, const attack *against) {
+    const row *of = plain->of;
+    uint64_t c = plain->at.c, all = of->late == TABLE ? 3 * c : c, shared = of->status == 0 ? all : c / 2;
+    cell made = *plain;
+    made.against = against;
+    made.chosen = against->hashes == 0 ? all : PATH_KEYS * against->hashes;
+    if (against->hashes > 0 && made.chosen > shared)
+        return;
+    made.first_chosen = against->hashes == 0 ? 0 : shared - made.chosen;
+    for (const cell *each = cells; made.requests == NULL && each < cells + cell_count; each++)
+        if (each->against == against && each->chosen == made.chosen)
+            made.requests = each->requests;
+    if (made.requests == NULL) {
+        made.requests = memory(made.chosen * sizeof *made.requests);
+        choose_requests(made.requests, against, made.chosen);
+    }
+    cells[cell_count++] = made;
 }
 
 /* ---- a state and a message ---------------------------------------------------------------------------- */
@@ -136,7 +166,9 @@ static void put_entries(const cell *now, uint8_t *table, uint64_t first, uint64_
     for (uint64_t i = first; i < first + count; i++) {
         bool apart = other != OWN && i >= now->filled / 2;
         uint64_t delay = apart && i % 4 == 0 && other % 2 == 1 ? 5 : 0, command = i * UINT64_C(0x9e3779b97f4a7c15);
-        entry made = {time_of(i) + delay, command, i + 1, 3 - i % 4, bit(now->at.s) - 1};
+        bool chosen = i - now->first_chosen < now->chosen;
+        uint64_t request = chosen ? now->requests[i - now->first_chosen] : i + 1;
+        entry made = {time_of(i) + delay, command, request, coordinator_of(i, chosen), bit(now->at.s) - 1};
         if (!apart || (i + (unsigned)other) % 4 != 3)
             write_entry(table + entry_place(kept++), made);
     }
@@ -172,8 +204,7 @@ static void put_state(const cell *now) {
     store(state + AT_SYNC, now->logged, 8);
     put_entries(now, state + at->log, 0, now->logged, OWN);
     put_early(now, amount_of(of->early, at), held);
-    if (of->late)
-        put_entries(now, state + at->late, 2 * at->c, at->c / 8, OWN);
+    put_entries(now, state + at->late, 2 * at->c, amount_of(of->late, at), OWN);
     for (uint64_t replica = 0; of->status == JALLUMERE_STATUS_VIEW_CHANGE && replica < held; replica++) {
         write_vote_head(state + vote_place(at, replica), OWN_VIEW - 1, now->filled / 2);
         put_entries(now, state + vote_table(at, replica), 0, now->filled, (int)replica);
@@ -315,13 +346,19 @@ int main(int count, char **words) {
         for (const row *of = rows; of < rows + ROWS; of++)
             for (unsigned i = 0; i < CAPACITIES * FILLS; i++)
                 add_cell(of, shapes[shape], capacities[i / FILLS], i % FILLS);
+    size_t plain = cell_count;
+    for (size_t i = 0; i < plain; i++)
+        for (const attack *against = attacks; against < attacks + ATTACKS; against++)
+            if (cells[i].of->chosen && cells[i].filled == cells[i].at.c)
+                add_chosen(&cells[i], against);
     measure_all();
     /* With ratios alone the two times are multiples of the model's in the first cell. */
     const char *ending = ratios_alone ? "" : "_ns";
     double unit = ratios_alone ? cells[0].best[1] : 1;
-    printf("kind,step,n,s,c,log,answer,core%s,model%s,ratio\n", ending, ending);
+    printf("kind,step,n,s,c,log,answer,core%s,model%s,ratio,keys\n", ending, ending);
     for (const cell *each = cells; each < cells + cell_count; each++)
-        printf("%u,\"%s\",%ju,%ju,%ju,%s,%u,%.3f,%.3f,%.3f\n", each->of->kind, each->of->name, SIZES(&each->at),
-               each->fill, each->answer, each->best[0] / unit, each->best[1] / unit, each->best[0] / each->best[1]);
+        printf("%u,\"%s\",%ju,%ju,%ju,%s,%u,%.3f,%.3f,%.3f,%s\n", each->of->kind, each->of->name, SIZES(&each->at),
+               each->fill, each->answer, each->best[0] / unit, each->best[1] / unit, each->best[0] / each->best[1],
+               each->against == NULL ? "plain" : each->against->name);
     return 0;
 }

@@ -5,7 +5,9 @@
 # It leaves shapes[1..] ("n = 3, S = 1") and capacities[1..] in the order of their first lines; rows, with row_key[1..] (the
 # shape's place and the name), row_shape[key] and row_name[1..]; time[key, the capacity's place, fill, side], ratio[key,
 # the capacity's place, fill]; done[key] where the row's step is done, and refused[..] of a cell that has another answer
-# than 0. With ratios alone (bench --csv --ratios) the times are no nanoseconds, and with_units is 0.
+# than 0. With ratios alone (bench --csv --ratios) the times are no nanoseconds, and with_units is 0. Cells with chosen
+# transactions, whose logs are full, are apart: attacks[1..] are their names, and chosen[key, the capacity's place, the
+# attack's place, side] their times.
 
 # The name of a step stands in quotation marks and has commas of its own, so it is taken out before the fields are cut.
 {
@@ -16,7 +18,7 @@
 
 NR == 1 {
     split($0, title, ",")
-    if (title[1] != "kind" || title[8] !~ /^core/ || title[9] !~ /^model/)
+    if (title[1] != "kind" || title[8] !~ /^core/ || title[9] !~ /^model/ || title[11] != "keys")
         fail("these are not the lines of bench --csv")
     with_units = title[8] == "core_ns"
     next
@@ -32,6 +34,12 @@ NR == 1 {
         row_shape[row] = shape_place
         row_name[++rows] = field[1] " " step
         row_key[rows] = row
+    }
+    if (field[11] != "plain") {
+        attack_place = place_of(field[11], attack_places, attacks)
+        chosen[row, capacity_place, attack_place, "core"] = field[8]
+        chosen[row, capacity_place, attack_place, "model"] = field[9]
+        next
     }
     if (field[7] == 0)
         done[row] = 1

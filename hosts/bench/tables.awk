@@ -1,6 +1,6 @@
 # Prints what figures.awk has read as tables, core beside model at each shape and capacity. With -v markdown=1 it prints
 # what stands in docs/SPEED.md: by which compiler (-v gcc=) and in how many seconds (-v taken=) the figures were made, and
-# before these tables others that sum them up.
+# before these tables others that sum them up. What chosen keys cost stands before them too.
 
 BEGIN {
     split("empty half full", fills, " ")
@@ -11,6 +11,8 @@ END {
     last = places_in(capacities)
     if (markdown)
         print_summary()
+    for (shape = 1; shape in shapes; shape++)
+        print_chosen(shape)
     for (shape = 1; shape in shapes; shape++)
         for (capacity = 1; capacity in capacities; capacity++) {
             printf "\n### %s, C = %s\n\n", shapes[shape], grouped(capacities[capacity])
@@ -69,6 +71,30 @@ function print_summary(    shape, i) {
             if (row_shape[row_key[i]] == shape && row_key[i] in done)
                 print name_of(row_name[i]) growth_of(row_key[i], "core") growth_of(row_key[i], "model")
     }
+}
+
+# A line for each row, capacity and attack: the time with a full log of plain and of chosen keys, and their ratio.
+function print_chosen(shape,    i, capacity, attack, key) {
+    printf "\n### Chosen keys, %s\n\n", shapes[shape]
+    print_head(" C     | against  |" head_of_chosen("core") head_of_chosen("model"))
+    for (i = 1; i <= rows; i++)
+        for (capacity = 1; capacity in capacities; capacity++)
+            for (attack = 1; attack in attacks; attack++) {
+                key = row_key[i] SUBSEP capacity
+                if (row_shape[row_key[i]] == shape && (key, attack, "core") in chosen)
+                    print name_of(row_name[i]) sprintf(" %5s | %-8s |", grouped(capacities[capacity]), attacks[attack]) \
+                        chosen_of(key, attack, "core") chosen_of(key, attack, "model")
+            }
+}
+
+function head_of_chosen(side) {
+    return with_units ? sprintf(" %16s |  chosen ns |  ratio |", side ": plain ns") : " " side " |"
+}
+
+function chosen_of(key, attack, side,    plain, cost) {
+    plain = time[key, "full", side]
+    cost = chosen[key, attack, side]
+    return (with_units ? sprintf(" %16s | %10s |", grouped(plain), grouped(cost)) : "") sprintf(" %6.2f |", cost / plain)
 }
 
 # The processor's name as the system tells it, and whether the machine is a virtual one.

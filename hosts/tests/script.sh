@@ -512,9 +512,10 @@ test_bench() {
 int main(int count, char **words)
 {
     static const char *const logs[] = {"empty", "1/16", "1/4", "half", "full"};
-    printf("kind,step,n,s,c,log,answer,core_ns,model_ns,ratio\n");
+    printf("kind,step,n,s,c,log,answer,core_ns,model_ns,ratio,keys\n");
+    printf("23,\"tick\",3,1,16,full,0,2476.000,1500.000,1.651,1 hash\n");
     for (int i = 0; i < 30; i++)
-        printf("%s,3,1,%d,%s,%s,%d.000,1000.000,1.234\n", i < 15 ? "23,\"tick\"" : "11,\"4: an older view\"",
+        printf("%s,3,1,%d,%s,%s,%d.000,1000.000,1.234,plain\n", i < 15 ? "23,\"tick\"" : "11,\"4: an older view\"",
                i / 5 % 3 == 0 ? 16 : i / 5 % 3 == 1 ? 256 : 4096, logs[i % 5], i < 15 ? "0" : "4", 1234 + i % 5);
     return count > 2 && strcmp(words[2], "3") == 0;
 }
@@ -531,15 +532,16 @@ END
     check "a bench that fails leaves the page" cmp -s page.md unchanged.md
     jallumere bench
     check "bench prints its table" printed '^|   23 | tick                    |              1,234 |     1,000 |  1.23     |'
+    check "bench prints what chosen keys cost" printed '^|   23 | tick                    |    16 | 1 hash   |            1,238 |      2,476 |   2.00 |            1,000 |      1,500 |   1.50 |$'
     check "bench prints a table for each shape and capacity" [ "$(grep -c '^### n = 3, S = 1, C = ' "$room/out")" -eq 3 ]
     check "bench runs no model first" not said 'First the same run'
     jallumere bench --csv
-    check "bench prints its figures" printed '^23,"tick",3,1,16,empty,0,1234.000,1000.000,1.234$'
+    check "bench prints its figures" printed '^23,"tick",3,1,16,empty,0,1234.000,1000.000,1.234,plain$'
     jallumere bench --markdown
     check "bench prints what it was measured on" printed '^Measured on an* .*; model and bench compiled by gcc [0-9.]* at `-O3`; the whole run took [0-9]* s\.$'
     check "bench prints its figures in short" printed '^|   23 | tick                    | 1.23 | 1.23 | 1.23 |$'
     jallumere bench --into page.md
-    check "a page is filled" [ "$(grep -c '^### ' page.md)" -eq 5 ]
+    check "a page is filled" [ "$(grep -c '^### ' page.md)" -eq 6 ]
     check "what was between the marks of a page is gone" not grep -q before page.md
     check "what is around the marks of a page stays" [ "$(sed -n '1p;2p;$p' page.md | tr '\n' ' ')" = 'above <!-- figures --> below ' ]
     jallumere bench --into unchanged.md --markdown
