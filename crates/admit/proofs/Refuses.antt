@@ -1,43 +1,24 @@
 -- Which refusal each way through the tests gives. Assumes nothing.
 use Prim.Native.Nat.{ℕ}
-use mathlib.Core.Path.{_≡_, refl, sym, ap, _∙_}
-use mathlib.Core.Bool.{Bool, true, false, _||_, not, true≢false}
+use mathlib.Core.Path.{_≡_, sym, ap, _∙_}
+use mathlib.Core.Bool.{Bool, true, false, _||_, not}
 use mathlib.Core.List.{List}
 use lib.Dec.{eqb}
 use borrow.Author.Tests.{not-true, not-false}
-use Rattle.rules.specs.Choice.{pick, any}
-use Rattle.rules.specs.Kind.{known, toOutside}
+use Rattle.rules.specs.Choice.{pick}
+use Rattle.rules.specs.Kind.{toOutside}
 use Rattle.rules.specs.Wire.{tagOf, headerIn}
 use Rattle.rules.specs.Read.{wireIn, decoded}
 use Rattle.rules.specs.Image.{stateOf}
 use Rattle.rules.specs.Step.{here, viewRight, statusRight, roleRight}
 use Rattle.rules.specs.declared.Shape.{Shape}
 use Rattle.rules.specs.declared.Message.{Message}
-use Rattle.rules.specs.declared.Message.the-variants as m
 use Rattle.rules.proofs.Choice.{or-left}
+use Rattle.rules.proofs.Case.{tag-known}
 use Rattle.writer.specs.Said.{saidOf}
 use Rattle.writer.specs.declared.Said.{Said}
 use Rattle.handler.proofs.Told.{told, told-sender}
 use Rattle.admit.specs.Refusal.{refusalOf, Heads}
-
--- a case that is a message has a known kind
-tag-known : (x : Message) → eqb (tagOf x) 0 ≡ false → known (tagOf x) ≡ true
-unfolding any
-tag-known m.WrongSizes e = absurd (true≢false e)
-tag-known (m.Malformed at) e = absurd (true≢false e)
-tag-known (m.Transaction h sendTime bound) e = refl
-tag-known (m.Note h) e = refl
-tag-known (m.ReplicaSync h) e = refl
-tag-known (m.FastReply h placed position digest) e = refl
-tag-known (m.SlowReply h position) e = refl
-tag-known (m.ChangeView h) e = refl
-tag-known (m.Vote h normal sync) e = refl
-tag-known (m.StartView h) e = refl
-tag-known (m.SyncStatus h sync) e = refl
-tag-known (m.Commit h commit) e = refl
-tag-known (m.VerifyRequest h boundary) e = refl
-tag-known (m.VerifyReply h) e = refl
-tag-known (m.Tick h time) e = refl
 
 module _ (sh : Shape) (msg : List ℕ) (x : Message) (u : Said) (d : x ≡ decoded (sh .n) (sh .s) msg) (e : u ≡ saidOf x) (o : Bool) (q : o ≡ toOutside (u .tag)) where
   is-tag : u .tag ≡ tagOf x

@@ -12,9 +12,9 @@ use Rattle.rules.specs.Entry.{among}
 use Rattle.rules.specs.Wire.{Wire, firstEntry, tagOf, headerIn}
 use Rattle.rules.specs.Kind.{known, rowOf}
 use Rattle.rules.specs.Read.{wireIn}
-use Rattle.rules.specs.State.{Note, State, noted}
+use Rattle.rules.specs.State.{Note, State, withWaiting, noted}
 use Rattle.rules.specs.Image.{image, stateOf}
-use Rattle.rules.specs.Step.{refused, done, buffered, onNote}
+use Rattle.rules.specs.Step.{refused, done, onNote}
 use Rattle.rules.specs.Early.{keepNote, lifted}
 use Rattle.rules.specs.Bytes.{leaves}
 use Rattle.rules.specs.declared.Entry.{Entry}
@@ -59,7 +59,7 @@ module _ (sh : Shape) (st : State) (w : Wire) (x : Entry) (j : ℕ) (q : x ≡ f
       unfolding onNote pick
       full h = rw (sym q, f, a, n, h)
 
-      fits : leb (length kept) (sh .c) ≡ true → onNote sh st w ≡ done (buffered st (lifted sh kept x (st .waiting .early)) (st .waiting .late) kept) []
+      fits : leb (length kept) (sh .c) ≡ true → onNote sh st w ≡ done (withWaiting (lifted sh kept x (st .waiting .early)) (st .waiting .late) kept st) []
       unfolding onNote pick
       fits h = rw (sym q, f, a, n, h)
 
@@ -102,7 +102,7 @@ module _ (sh : Shape) (b msg out : List ℕ) (m : Message) (h : Header) (r : Rea
         pub full-way : not p ≡ true → leaves 8 b out ≡ handled 3 onNote sh m b msg out
         full-way k = refuses 3 onNote sh b msg out m own 8 (full sh st _ x j q from-is (sym a ∙ z) (sym v ∙ y) (room ∙ not-true p k))
 
-        pub kept-way : (b′ : List ℕ) → not p ≡ false → b′ ≡ image sh (buffered st (lifted sh (keepNote sh x j (x .stamp) (st .waiting .notes)) x (st .waiting .early)) (st .waiting .late) (keepNote sh x j (x .stamp) (st .waiting .notes))) → quiet b′ out ≡ handled 3 onNote sh m b msg out
+        pub kept-way : (b′ : List ℕ) → not p ≡ false → b′ ≡ image sh (withWaiting (lifted sh (keepNote sh x j (x .stamp) (st .waiting .notes)) x (st .waiting .early)) (st .waiting .late) (keepNote sh x j (x .stamp) (st .waiting .notes)) st) → quiet b′ out ≡ handled 3 onNote sh m b msg out
         kept-way b′ k = keeps 3 onNote sh b msg out m own _ b′ (fits sh st _ x j q from-is (sym a ∙ z) (sym v ∙ y) (room ∙ not-false p k))
 
 -- there is room for the note that is kept

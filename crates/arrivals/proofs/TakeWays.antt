@@ -18,7 +18,7 @@ use Rattle.rules.specs.Wire.{entryBytes, wireBytes}
 use Rattle.rules.specs.Read.{lengthFor}
 use Rattle.rules.specs.State.{State, withWaiting}
 use Rattle.rules.specs.Image.{image, stateOf}
-use Rattle.rules.specs.Step.{refused, done, sendLeader, otherGroups, buffered, leaderTakes, followerTakes}
+use Rattle.rules.specs.Step.{refused, done, sendLeader, otherGroups, leaderTakes, followerTakes}
 use Rattle.rules.specs.Early.{keepNote, lifted}
 use Rattle.rules.specs.Bytes.{Left, leaves, closes}
 use Rattle.rules.specs.declared.Entry.{Entry}
@@ -44,7 +44,7 @@ module _ (sh : Shape) (st : State) (e : Entry) where
     unfolding followerTakes pick
     no-early h = rw (f, lt-leb (suc (length (st .waiting .early))) (sh .c) (omega arith))
 
-    to-early : length (st .waiting .early) < sh .c → followerTakes sh st e ≡ done (withWaiting (record { early = st .waiting .early ++ (e ∷ []); late = st .waiting .late; notes = st .waiting .notes }) st) []
+    to-early : length (st .waiting .early) < sh .c → followerTakes sh st e ≡ done (withWaiting (st .waiting .early ++ (e ∷ [])) (st .waiting .late) (st .waiting .notes) st) []
     unfolding followerTakes pick
     to-early h = rw (f, le-leb (suc (length (st .waiting .early))) (sh .c) (omega arith))
 
@@ -53,7 +53,7 @@ module _ (sh : Shape) (st : State) (e : Entry) where
     unfolding followerTakes pick
     no-late h = rw (f, lt-leb (suc (length (st .waiting .late))) (sh .c) (omega arith))
 
-    to-late : length (st .waiting .late) < sh .c → followerTakes sh st e ≡ done (withWaiting (record { early = st .waiting .early; late = st .waiting .late ++ (e ∷ []); notes = st .waiting .notes }) st) []
+    to-late : length (st .waiting .late) < sh .c → followerTakes sh st e ≡ done (withWaiting (st .waiting .early) (st .waiting .late ++ (e ∷ [])) (st .waiting .notes) st) []
     unfolding followerTakes pick
     to-late h = rw (f, le-leb (suc (length (st .waiting .late))) (sh .c) (omega arith))
 
@@ -80,14 +80,14 @@ module _ (sh : Shape) (b out : List ℕ) (e : Entry) (t : Bool) (q : t ≡ follo
     pub early-full : sh .c ≤ n → leaves 8 b out ≡ closes sh b out (followerTakes sh st e)
     early-full h = sym (ap (closes sh b out) (no-early sh st e (sym q ∙ z) (rw k at h)) ∙ closes-refused sh b out 8)
 
-    pub early-taken : n < sh .c → (b′ : List ℕ) → Midway sh (withWaiting (record { early = st .waiting .early ++ (e ∷ []); late = st .waiting .late; notes = st .waiting .notes }) st) b′ → quiet b′ out ≡ closes sh b out (followerTakes sh st e)
+    pub early-taken : n < sh .c → (b′ : List ℕ) → Midway sh (withWaiting (st .waiting .early ++ (e ∷ [])) (st .waiting .late) (st .waiting .notes) st) b′ → quiet b′ out ≡ closes sh b out (followerTakes sh st e)
     early-taken h b′ m = sym (ap (closes sh b out) (to-early sh st e (sym q ∙ z) (rw k at h)) ∙ closes-quiet sh b out _ ∙ ap (λ (y : List ℕ). quiet y out) (sym (m .bytes)))
 
   module _ (z : t ≡ false) (n : ℕ) (k : n ≡ length (st .waiting .late)) where
     pub late-full : sh .c ≤ n → leaves 8 b out ≡ closes sh b out (followerTakes sh st e)
     late-full h = sym (ap (closes sh b out) (no-late sh st e (sym q ∙ z) (rw k at h)) ∙ closes-refused sh b out 8)
 
-    pub late-taken : n < sh .c → (b′ : List ℕ) → Midway sh (withWaiting (record { early = st .waiting .early; late = st .waiting .late ++ (e ∷ []); notes = st .waiting .notes }) st) b′ → quiet b′ out ≡ closes sh b out (followerTakes sh st e)
+    pub late-taken : n < sh .c → (b′ : List ℕ) → Midway sh (withWaiting (st .waiting .early) (st .waiting .late ++ (e ∷ [])) (st .waiting .notes) st) b′ → quiet b′ out ≡ closes sh b out (followerTakes sh st e)
     late-taken h b′ m = sym (ap (closes sh b out) (to-late sh st e (sym q ∙ z) (rw k at h)) ∙ closes-quiet sh b out _ ∙ ap (λ (y : List ℕ). quiet y out) (sym (m .bytes)))
 
 -- ---- what a leader sends
@@ -120,13 +120,13 @@ module _ {sh : Shape} {st : State} {b : List ℕ} (s : Stands sh st b) (e : Entr
 
 -- ---- what a leader keeps
 
-pub taken-is : {sh : Shape} {b : List ℕ} (st : State) (e : Entry) (own : ℕ) (b′ : List ℕ) → Midway sh (withWaiting (record { early = st .waiting .early ++ (e ∷ []); late = st .waiting .late; notes = st .waiting .notes }) st) b → own ≡ st .site .group
-    → b′ ≡ image sh (buffered (stateOf sh b) (lifted sh (keepNote sh e own (e .stamp) (stateOf sh b .waiting .notes)) e (stateOf sh b .waiting .early)) (stateOf sh b .waiting .late) (keepNote sh e own (e .stamp) (stateOf sh b .waiting .notes)))
+pub taken-is : {sh : Shape} {b : List ℕ} (st : State) (e : Entry) (own : ℕ) (b′ : List ℕ) → Midway sh (withWaiting (st .waiting .early ++ (e ∷ [])) (st .waiting .late) (st .waiting .notes) st) b → own ≡ st .site .group
+    → b′ ≡ image sh (withWaiting (lifted sh (keepNote sh e own (e .stamp) (stateOf sh b .waiting .notes)) e (stateOf sh b .waiting .early)) (stateOf sh b .waiting .late) (keepNote sh e own (e .stamp) (stateOf sh b .waiting .notes)) (stateOf sh b))
     → b′ ≡ image sh (takenEarly sh st e)
 taken-is {sh} {b} st e own b′ m g w =
     w
-    ∙ ap (λ (x : State). image sh (buffered x (lifted sh (keepNote sh e own (e .stamp) (x .waiting .notes)) e (x .waiting .early)) (x .waiting .late) (keepNote sh e own (e .stamp) (x .waiting .notes)))) (midway-is m)
-    ∙ ap (λ (k : ℕ). image sh (buffered st (lifted sh (keepNote sh e k (e .stamp) (st .waiting .notes)) e (st .waiting .early ++ (e ∷ []))) (st .waiting .late) (keepNote sh e k (e .stamp) (st .waiting .notes)))) g
+    ∙ ap (λ (x : State). image sh (withWaiting (lifted sh (keepNote sh e own (e .stamp) (x .waiting .notes)) e (x .waiting .early)) (x .waiting .late) (keepNote sh e own (e .stamp) (x .waiting .notes)) x)) (midway-is m)
+    ∙ ap (λ (k : ℕ). image sh (withWaiting (lifted sh (keepNote sh e k (e .stamp) (st .waiting .notes)) e (st .waiting .early ++ (e ∷ []))) (st .waiting .late) (keepNote sh e k (e .stamp) (st .waiting .notes)) st)) g
 
 -- ---- a leader's ways
 

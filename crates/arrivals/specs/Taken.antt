@@ -2,8 +2,8 @@
 use mathlib.Core.List.{List, [], _∷_, _++_}
 use Rattle.rules.specs.Group.{holds}
 use Rattle.rules.specs.Wire.{Wire}
-use Rattle.rules.specs.State.{Note, State}
-use Rattle.rules.specs.Step.{sendLeader, sends, otherGroups, buffered}
+use Rattle.rules.specs.State.{Note, State, withWaiting}
+use Rattle.rules.specs.Step.{sendLeader, sends, otherGroups}
 use Rattle.rules.specs.Early.{keepNote, lifted}
 use Rattle.rules.specs.declared.Entry.{Entry}
 use Rattle.rules.specs.declared.Shape.{Shape}
@@ -18,4 +18,4 @@ ownNoted sh st e = keepNote sh e (st .site .group) (e .stamp) (st .waiting .note
 
 -- the entry put in early, with the own note
 abbrev pub takenEarly : Shape → State → Entry → State
-takenEarly sh st e = buffered st (lifted sh (ownNoted sh st e) e (st .waiting .early ++ (e ∷ []))) (st .waiting .late) (ownNoted sh st e)
+takenEarly sh st e = withWaiting (lifted sh (ownNoted sh st e) e (st .waiting .early ++ (e ∷ []))) (st .waiting .late) (ownNoted sh st e) st

@@ -19,7 +19,7 @@ ghost use Rattle.rules.specs.State.{withWaiting};
 ghost use Rattle.rules.specs.Image.{tableAt, image, stateOf};
 ghost use Rattle.rules.specs.Wire.{wireBytes};
 ghost use Rattle.rules.specs.Early.{keepNote, lifted};
-ghost use Rattle.rules.specs.Step.{knownTo, buffered, leaderTakes, followerTakes, onTransaction, onNote};
+ghost use Rattle.rules.specs.Step.{knownTo, leaderTakes, followerTakes, onTransaction, onNote};
 ghost use Rattle.rules.specs.Bytes.{left, closes};
 ghost use Rattle.entries.specs.Table.{Table};
 ghost use Rattle.notes.specs.Notes.{row};
@@ -46,7 +46,7 @@ fn keep_note(shape: Shape, state: &mut [u8], e: Entry, j: u64, stamp: u64)
         × (row (e .request) (e .coordinator) (stateOf shape (now state) .waiting .notes) < shape .c) × (j < shape .s) ⌝ }
     ensures { λ _. ⌜ (let st = stateOf shape (now (state .entry)) in
         let notes = keepNote shape e j stamp (st .waiting .notes) in
-        Midway shape (withWaiting (record { early = st .waiting .early; late = st .waiting .late; notes = notes }) st) (now (state .exit))) ⌝ }
+        Midway shape (withWaiting (st .waiting .early) (st .waiting .late) notes st) (now (state .exit))) ⌝ }
 {
     let layout = places::places_of(shape);
     let start = layout.notes;
@@ -63,7 +63,7 @@ fn keep_and_lift(shape: Shape, state: &mut [u8], e: Entry, j: u64, stamp: u64)
         × (row (e .request) (e .coordinator) (st .waiting .notes) < shape .c) × (j < shape .s)) ⌝ }
     ensures { λ _. ⌜ (let st = stateOf shape (now (state .entry)) in
         let notes = keepNote shape e j stamp (st .waiting .notes) in
-        now (state .exit) ≡ image shape (buffered st (lifted shape notes e (st .waiting .early)) (st .waiting .late) notes)) ⌝ }
+        now (state .exit) ≡ image shape (withWaiting (lifted shape notes e (st .waiting .early)) (st .waiting .late) notes st)) ⌝ }
 {
     keep_note(shape, state, e, j, stamp);
     stamps::lift(shape, state, e);
@@ -99,7 +99,7 @@ fn room_for_note(shape: Shape, state: &[u8], e: Entry) -> bool
 fn add_early(shape: Shape, state: &mut [u8], e: Entry)
     requires { ⌜ Midway shape (stateOf shape (now state)) (now state) × (length (stateOf shape (now state) .waiting .early) < shape .c) ⌝ }
     ensures { λ _. ⌜ (let st = stateOf shape (now (state .entry)) in
-        Midway shape (withWaiting (record { early = st .waiting .early ++ (e ∷ []); late = st .waiting .late; notes = st .waiting .notes }) st) (now (state .exit))) ⌝ }
+        Midway shape (withWaiting (st .waiting .early ++ (e ∷ [])) (st .waiting .late) (st .waiting .notes) st) (now (state .exit))) ⌝ }
 {
     let layout = places::places_of(shape);
     let start = layout.early;
@@ -111,7 +111,7 @@ fn add_early(shape: Shape, state: &mut [u8], e: Entry)
 fn add_late(shape: Shape, state: &mut [u8], e: Entry)
     requires { ⌜ Midway shape (stateOf shape (now state)) (now state) × (length (stateOf shape (now state) .waiting .late) < shape .c) ⌝ }
     ensures { λ _. ⌜ (let st = stateOf shape (now (state .entry)) in
-        Midway shape (withWaiting (record { early = st .waiting .early; late = st .waiting .late ++ (e ∷ []); notes = st .waiting .notes }) st) (now (state .exit))) ⌝ }
+        Midway shape (withWaiting (st .waiting .early) (st .waiting .late ++ (e ∷ [])) (st .waiting .notes) st) (now (state .exit))) ⌝ }
 {
     let layout = places::places_of(shape);
     let start = layout.late;

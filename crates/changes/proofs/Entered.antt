@@ -36,7 +36,8 @@ leads-with {sh} {st} s msg own view replica r e v q h =
     let x : getD (viewsOf sh msg) (st .site .group) 0 ≡ num msg (16 + 4 * st .site .group) 4 = getD-items (λ a. num msg a 4) 4 16 (sh .s) (st .site .group) 0 (group-below s) in
     h ∙ rw (q ∙ replica-of (stands-midway s), v, g, x)
 
-even-none : (c n : ℕ) → Even (voteBytes c) (voteLength c) (replicate n none)
+-- no vote at all
+pub even-none : (c n : ℕ) → Even (voteBytes c) (voteLength c) (replicate n none)
 unfolding voteBytes
 even-none c zero = tt
 even-none c (suc n) = (length-replicate {A = ℕ} (voteLength c) 0, even-none c n)

@@ -8,7 +8,7 @@ use lib.Dec.{eqb}
 use Rattle.octets.specs.Bytes.{num, part}
 use Rattle.rules.specs.Choice.{pick}
 use Rattle.rules.specs.Group.{leader, only, others}
-use Rattle.rules.specs.State.{Vote, State, inView, withWaiting, withChange, noneWait}
+use Rattle.rules.specs.State.{Vote, State, inView, withWaiting, withChange}
 use Rattle.rules.specs.Step.{Outcome, done, sendFollowers, ownVote, started}
 use Rattle.rules.specs.declared.Entry.{Entry}
 use Rattle.rules.specs.declared.Shape.{Shape}
@@ -31,9 +31,9 @@ firstKept sh st leads = pick leads (set (replicate (sh .n) none) (st .site .repl
 -- a view entered, by whether the site leads in it
 abbrev pub enteredBy : Shape → State → ℕ → List ℕ → Bool → State
 enteredBy sh st view gVec leads =
-    inView (record { gView = view; gVec = gVec; normal = st .view .normal; status = 2 })
-    (withWaiting noneWait
-    (withChange (record { votes = firstKept sh st leads; draft = []; boundary = 0; replies = replicate (sh .s) none }) st))
+    inView view gVec (st .view .normal) 2
+    (withWaiting [] [] []
+    (withChange (firstKept sh st leads) [] 0 (replicate (sh .s) none) st))
 
 -- a view started by its leader, who sends the log to all followers
 abbrev pub ledBy : Shape → State → ℕ → List ℕ → List Entry → Outcome

@@ -13,7 +13,7 @@ use Rattle.octets.proofs.Sections.{part-whole, concat-cuts}
 use Rattle.octets.proofs.Codecs.{length-items, peel-all, exact-number, row-long}
 use Rattle.octets.proofs.Logic.{and-swap}
 use Rattle.rules.specs.Choice.{allOf, same}
-use Rattle.rules.specs.Image.{tableLength, noteLength, voteLength, replyLength, lengths, stateLength, zeroBytes, headSection, pointBytes, tableBytes, noteBytes, notesSection, voteBytes, replyBytes, sections, image, pointAt, tableAt, noteAt, voteAt, replyAt, stateIn, stateOf}
+use Rattle.rules.specs.Image.{tableLength, noteLength, voteLength, replyLength, lengths, stateLength, zeroBytes, headSection, pointBytes, tableBytes, noteBytes, notesSection, voteBytes, replyBytes, sections, image, pointAt, tableAt, noteAt, voteAt, replyAt, stateIn, stateOf, atEnd}
 use Rattle.rules.specs.State.{Note}
 use Rattle.rules.specs.declared.Entry.{Entry}
 use Rattle.rules.specs.declared.Shape.{Shape}
@@ -144,12 +144,12 @@ module _ (sh : Shape) (b : List ℕ) (size : length b ≡ stateLength sh) where
     views-section = views-form (part b (0 + 48) (4 * sh .s)) (sh .s) (bytes-part b (0 + 48) (4 * sh .s) bs) (length-part b (0 + 48) (4 * sh .s) (omega arith))
 
   -- a section that is tested as a slice of m bytes from a on, against what F makes of it
-  pub lent-section : (F : List ℕ → List ℕ) (i a m : ℕ) (r : Bool) → i < 10 → a ≡ startOf sh i → m ≡ getD (lengths sh) i 0 → r ≡ same (F (take m (drop a b))) (take m (drop a b)) → r ≡ same (F (getD (cuts b 0 (lengths sh)) i [])) (getD (cuts b 0 (lengths sh)) i [])
+  pub lent-section : (F : List ℕ → List ℕ) (i a m : ℕ) (r : Bool) → i < atEnd sh → a ≡ startOf sh i → m ≡ getD (lengths sh) i 0 → r ≡ same (F (take m (drop a b))) (take m (drop a b)) → r ≡ same (F (getD (cuts b 0 (lengths sh)) i [])) (getD (cuts b 0 (lengths sh)) i [])
   lent-section F i a m r h e q f =
       f ∙ ap (λ (x : List ℕ). same (F x) x) (part-lent b a m (getD (lengths sh) i 0) q ∙ ap (λ (j : ℕ). part b j (getD (lengths sh) i 0)) (omega arith) ∙ sym (cuts-at b 0 (lengths sh) i h))
 
   -- a table that is tested where it stands
-  pub table-section : (i a : ℕ) (r : Bool) → i < 10 → a ≡ startOf sh i → tableLength (sh .c) ≡ getD (lengths sh) i 0 → a + tableLength (sh .c) ≤ length b → r ≡ same (tableBytes (sh .c) (tableAt (sh .c) b a)) (part b a (tableLength (sh .c))) → r ≡ same (tableBytes (sh .c) (tableAt (sh .c) (getD (cuts b 0 (lengths sh)) i []) 0)) (getD (cuts b 0 (lengths sh)) i [])
+  pub table-section : (i a : ℕ) (r : Bool) → i < atEnd sh → a ≡ startOf sh i → tableLength (sh .c) ≡ getD (lengths sh) i 0 → a + tableLength (sh .c) ≤ length b → r ≡ same (tableBytes (sh .c) (tableAt (sh .c) b a)) (part b a (tableLength (sh .c))) → r ≡ same (tableBytes (sh .c) (tableAt (sh .c) (getD (cuts b 0 (lengths sh)) i []) 0)) (getD (cuts b 0 (lengths sh)) i [])
   unfolding part
   table-section i a r h e q l f =
       lent-section (λ x. tableBytes (sh .c) (tableAt (sh .c) x 0)) i a (tableLength (sh .c)) r h e q

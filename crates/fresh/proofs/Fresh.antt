@@ -26,7 +26,7 @@ use Rattle.places.proofs.Zeros.{concat-zeros, long-zeros, table-zeros, notes-ze
 -- ---- the state whose bytes are all zero
 
 abbrev blank : Shape → State
-blank sh = inView (record { gView = 0; gVec = replicate (sh .s) 0; normal = 0; status = 0 }) (fresh sh 0 0)
+blank sh = inView 0 (replicate (sh .s) 0) 0 0 (fresh sh 0 0)
 
 blank-head : (sh : Shape) → headSection (blank sh) ≡ zeroBytes 48
 unfolding headSection concat le

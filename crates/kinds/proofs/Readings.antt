@@ -1,6 +1,6 @@
 -- What a cell of a kind's row says, by the case that a match finds. Assumes nothing.
 use Prim.Native.Nat.{ℕ, _≤_}
-use mathlib.Core.Path.{_≡_, refl, sym, _∙_}
+use mathlib.Core.Path.{_≡_, refl, sym, ap, _∙_}
 use mathlib.Core.Bool.{true, false}
 use mathlib.Core.List.{[], _∷_}
 use lib.Dec.{leb}
@@ -10,7 +10,7 @@ use types.Run.{OneOf, miss}
 use Rattle.rules.specs.Choice.{every}
 use Rattle.rules.specs.Kind.{Kind, kinds, rowOf, numbersIn, withOne, withLog, fromOutside, toOutside}
 use Rattle.rules.proofs.Tests.{each}
-use Rattle.rules.proofs.EachKind.{by-row}
+use Rattle.rules.proofs.EachKind.{by-row, NoneOf, none-known, no-row}
 use Rattle.rules.proofs.Body as bodies
 use Rattle.rules.specs.declared.Body.{Body}
 use Rattle.rules.specs.declared.Body.the-variants.{NoBody, OneEntry, ALog}
@@ -20,6 +20,9 @@ use Rattle.rules.specs.declared.Sender.the-variants.{Outsider, OwnLeader, OwnRe
 use Rattle.rules.proofs.Receiver as receivers
 use Rattle.rules.specs.declared.Receiver.{Receiver}
 use Rattle.rules.specs.declared.Receiver.the-variants.{ALeader, AFollower, Anyone, Outsiders}
+use Rattle.rules.specs.declared.Views.the-variants.{BothEqual}
+use Rattle.kinds.specs.declared.Row.{Row}
+use Rattle.kinds.specs.Rows.{rowAs}
 
 module _ (k : ℕ) where
   pub from-outsider : (s : Sender) → s ≡ rowOf k .sender → s ≡ Outsider → true ≡ fromOutside k
@@ -60,3 +63,11 @@ module _ (k : ℕ) where
 pub few-numbers : (k : ℕ) → numbersIn k ≤ 3
 unfolding every
 few-numbers k = leb-true (numbersIn k) 3 (by-row (λ (r : Kind). leb (r .numbers) 3 ≡ true) (each (λ (r : Kind). leb (r .numbers) 3) kinds refl) refl k)
+
+-- ---- the row of a kind in the code, and what stands there for a number that is none
+
+pub row-is : {r x : Row} {k n : ℕ} → r ≡ x → k ≡ n → x ≡ rowAs n → r ≡ rowAs k
+row-is e q f = e ∙ f ∙ sym (ap rowAs q)
+
+pub no-row-is : {k : ℕ} → NoneOf k → _≡_ {A = Row} (record { known = false; numbers = 0; body = NoBody; bare = false; sender = AnyReplica; receiver = Anyone; views = BothEqual; statuses = 2; «only_if_equal» = false }) (rowAs k)
+no-row-is {k} h = rw (none-known h, no-row k (none-known h))

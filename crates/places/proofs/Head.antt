@@ -9,71 +9,52 @@ use Rattle.octets.specs.Bytes.{le, unle, num, splice}
 use Rattle.octets.specs.Sections.{concat, offset}
 use Rattle.octets.proofs.Laws.{length-le}
 use Rattle.octets.proofs.Sections.{set-section}
-use Rattle.rules.specs.State.{Site, State, atTime, inView, withChange, withLogged}
-use Rattle.rules.specs.Image.{zeroBytes, headSection, sections}
+use Rattle.rules.specs.State.{State, onSite, atTime, inView, withChange, withLogged}
+use Rattle.rules.specs.Image.{headSection, sections}
 use Rattle.rules.specs.declared.Shape.{Shape}
-use Rattle.rules.proofs.Image.{head-at}
+use Rattle.rules.proofs.Image.{headFields, head-at}
 use Rattle.places.specs.Layout.{Midway}
 use Rattle.places.proofs.Sections.{Laid, midway-laid, get-in, put-in}
-
--- the head's fields in their order
-abbrev headFields : State → List (List ℕ)
-headFields st =
-    le 1 (st .site .group)
-    ∷ le 1 (st .site .replica)
-    ∷ le 1 (st .view .status)
-    ∷ zeroBytes 5
-    ∷ le 4 (st .view .gView)
-    ∷ le 4 (st .view .normal)
-    ∷ le 8 (st .clock)
-    ∷ le 8 (st .logged .sync)
-    ∷ le 8 (st .logged .commit)
-    ∷ le 8 (st .change .boundary)
-    ∷ []
-
--- the state of another site
-abbrev pub onSite : Site → State → State
-onSite x st = record { site = x; view = st .view; clock = st .clock; logged = st .logged; heard = st .heard; waiting = st .waiting; change = st .change }
 
 -- ---- field i, k bytes at `at`
 
 module _ {sh : Shape} {st : State} {b : List ℕ} (l : Laid sh st b) where
-  pub get-head : (i at k v : ℕ) → i < 10 → at ≡ offset (headFields st) i → at + k ≤ 48 → getD (headFields st) i [] ≡ le k v → v < 256 ^ k → num b at k ≡ v
+  pub get-head : (i at k v : ℕ) → i < length (headFields st) → at ≡ offset (headFields st) i → at + k ≤ 48 → getD (headFields st) i [] ≡ le k v → v < 256 ^ k → num b at k ≡ v
   unfolding num
   get-head i at k v h e r q f = ap unle (get-in l 0 at at k (lit< tt) (sym (zero-add at)) r) ∙ head-at st i at k v h e q f
 
-  pub put-head : {b′ : List ℕ} (next : State) (i at k v : ℕ) → i < 10 → at ≡ offset (headFields st) i → at + k ≤ 48 → length (getD (headFields st) i []) ≡ k → set (headFields st) i (le k v) ≡ headFields next → set (sections sh st) 0 (headSection next) ≡ sections sh next → b′ ≡ splice b at (le k v) → Laid sh next b′
+  pub put-head : {b′ : List ℕ} (next : State) (i at k v : ℕ) → i < length (headFields st) → at ≡ offset (headFields st) i → at + k ≤ 48 → length (getD (headFields st) i []) ≡ k → set (headFields st) i (le k v) ≡ headFields next → set (sections sh st) 0 (headSection next) ≡ sections sh next → b′ ≡ splice b at (le k v) → Laid sh next b′
   unfolding headSection
   put-head next i at k v h e r n q s w =
       let m : splice (headSection st) at (le k v) ≡ headSection next = set-section (headFields st) i at (le k v) h e (length-le k v ∙ sym n) ∙ ap concat q in
       put-in l next 0 at at (le k v) (lit< tt) (sym (zero-add at)) (rw length-le r) (ap (set (sections sh st) 0) m ∙ s) w
 
   -- ---- each field written
-  pub put-group : {b′ : List ℕ} (v : ℕ) → b′ ≡ splice b 0 (le 1 v) → Laid sh (onSite (record { group = v; replica = st .site .replica }) st) b′
+  pub put-group : {b′ : List ℕ} (v : ℕ) → b′ ≡ splice b 0 (le 1 v) → Laid sh (onSite v (st .site .replica) st) b′
   put-group v = put-head _ 0 0 1 v (lit< tt) refl (lit≤ tt) (length-le 1 (st .site .group)) refl refl
 
-  pub put-replica : {b′ : List ℕ} (v : ℕ) → b′ ≡ splice b 1 (le 1 v) → Laid sh (onSite (record { group = st .site .group; replica = v }) st) b′
+  pub put-replica : {b′ : List ℕ} (v : ℕ) → b′ ≡ splice b 1 (le 1 v) → Laid sh (onSite (st .site .group) v st) b′
   put-replica v = put-head _ 1 1 1 v (lit< tt) (simp length-le) (lit≤ tt) (length-le 1 (st .site .replica)) refl refl
 
-  pub put-status : {b′ : List ℕ} (v : ℕ) → b′ ≡ splice b 2 (le 1 v) → Laid sh (inView (record { gView = st .view .gView; gVec = st .view .gVec; normal = st .view .normal; status = v }) st) b′
+  pub put-status : {b′ : List ℕ} (v : ℕ) → b′ ≡ splice b 2 (le 1 v) → Laid sh (inView (st .view .gView) (st .view .gVec) (st .view .normal) v st) b′
   put-status v = put-head _ 2 2 1 v (lit< tt) (simp length-le) (lit≤ tt) (length-le 1 (st .view .status)) refl refl
 
-  pub put-view : {b′ : List ℕ} (v : ℕ) → b′ ≡ splice b 8 (le 4 v) → Laid sh (inView (record { gView = v; gVec = st .view .gVec; normal = st .view .normal; status = st .view .status }) st) b′
+  pub put-view : {b′ : List ℕ} (v : ℕ) → b′ ≡ splice b 8 (le 4 v) → Laid sh (inView v (st .view .gVec) (st .view .normal) (st .view .status) st) b′
   put-view v = put-head _ 4 8 4 v (lit< tt) (simp length-le) (lit≤ tt) (length-le 4 (st .view .gView)) refl refl
 
-  pub put-normal : {b′ : List ℕ} (v : ℕ) → b′ ≡ splice b 12 (le 4 v) → Laid sh (inView (record { gView = st .view .gView; gVec = st .view .gVec; normal = v; status = st .view .status }) st) b′
+  pub put-normal : {b′ : List ℕ} (v : ℕ) → b′ ≡ splice b 12 (le 4 v) → Laid sh (inView (st .view .gView) (st .view .gVec) v (st .view .status) st) b′
   put-normal v = put-head _ 5 12 4 v (lit< tt) (simp length-le) (lit≤ tt) (length-le 4 (st .view .normal)) refl refl
 
   pub put-clock : {b′ : List ℕ} (v : ℕ) → b′ ≡ splice b 16 (le 8 v) → Laid sh (atTime v st) b′
   put-clock v = put-head _ 6 16 8 v (lit< tt) (simp length-le) (lit≤ tt) (length-le 8 (st .clock)) refl refl
 
-  pub put-sync : {b′ : List ℕ} (v : ℕ) → b′ ≡ splice b 24 (le 8 v) → Laid sh (withLogged (record { log = st .logged .log; sync = v; commit = st .logged .commit }) st) b′
+  pub put-sync : {b′ : List ℕ} (v : ℕ) → b′ ≡ splice b 24 (le 8 v) → Laid sh (withLogged (st .logged .log) v (st .logged .commit) st) b′
   put-sync v = put-head _ 7 24 8 v (lit< tt) (simp length-le) (lit≤ tt) (length-le 8 (st .logged .sync)) refl refl
 
-  pub put-commit : {b′ : List ℕ} (v : ℕ) → b′ ≡ splice b 32 (le 8 v) → Laid sh (withLogged (record { log = st .logged .log; sync = st .logged .sync; commit = v }) st) b′
+  pub put-commit : {b′ : List ℕ} (v : ℕ) → b′ ≡ splice b 32 (le 8 v) → Laid sh (withLogged (st .logged .log) (st .logged .sync) v st) b′
   put-commit v = put-head _ 8 32 8 v (lit< tt) (simp length-le) (lit≤ tt) (length-le 8 (st .logged .commit)) refl refl
 
-  pub put-boundary : {b′ : List ℕ} (v : ℕ) → b′ ≡ splice b 40 (le 8 v) → Laid sh (withChange (record { votes = st .change .votes; draft = st .change .draft; boundary = v; replies = st .change .replies }) st) b′
+  pub put-boundary : {b′ : List ℕ} (v : ℕ) → b′ ≡ splice b 40 (le 8 v) → Laid sh (withChange (st .change .votes) (st .change .draft) v (st .change .replies) st) b′
   put-boundary v = put-head _ 9 40 8 v (lit< tt) (simp length-le) (lit≤ tt) (length-le 8 (st .change .boundary)) refl refl
 
 -- ---- each field read

@@ -15,7 +15,7 @@ use Rattle.octets.proofs.Sections.{part-whole}
 use Rattle.octets.proofs.Codecs.{All, number, length-items, peel-all, exact-number}
 use Rattle.rules.specs.Choice.{pick, count, isSome}
 use Rattle.rules.specs.State.{Vote, State, held, inView, withChange, withHeard}
-use Rattle.rules.specs.Image.{tableLength, voteLength, replyLength, lengths, zeroBytes, headSection, pointBytes, tableBytes, voteBytes, replyBytes, sections, pointAt, tableAt, voteAt, replyAt, atGVec, atHeard, atReplies, atVotes}
+use Rattle.rules.specs.Image.{tableLength, voteLength, replyLength, lengths, zeroBytes, headSection, pointBytes, tableBytes, voteBytes, replyBytes, sections, pointAt, tableAt, voteAt, replyAt, atGVec, atHeard, atReplies, atVotes, atEnd}
 use Rattle.rules.specs.declared.Entry.{Entry}
 use Rattle.rules.specs.declared.Shape.{Shape}
 use Rattle.rules.proofs.Tests.{all-1, all-at}
@@ -52,7 +52,7 @@ even-views = each (λ v. length (le 4 v) ≡ 4) (length-le 4)
 
 module _ {sh : Shape} {st : State} {b : List ℕ} (l : Laid sh st b) where
   -- place r of a section that is a row of n things, each of k bytes
-  put-place : {A : Type 0} {b′ : List ℕ} (put : A → List ℕ) (k n i r : ℕ) (xs : List A) (y : A) (next : State) → i < 10 → getD (sections sh st) i [] ≡ flat put xs → getD (lengths sh) i 0 ≡ k * n → 0 < k → Even put k xs → length (put y) ≡ k → r < n → set (sections sh st) i (flat put (set xs r y)) ≡ sections sh next → b′ ≡ splice b (startOf sh i + k * r) (put y) → Laid sh next b′
+  put-place : {A : Type 0} {b′ : List ℕ} (put : A → List ℕ) (k n i r : ℕ) (xs : List A) (y : A) (next : State) → i < atEnd sh → getD (sections sh st) i [] ≡ flat put xs → getD (lengths sh) i 0 ≡ k * n → 0 < k → Even put k xs → length (put y) ≡ k → r < n → set (sections sh st) i (flat put (set xs r y)) ≡ sections sh next → b′ ≡ splice b (startOf sh i + k * r) (put y) → Laid sh next b′
   put-place put k n i r xs y next h s z p f e j q w =
       let m : length xs ≡ n = places-row put k xs n p f (ap length (sym s) ∙ long-at l i ∙ z) in
       let u : r < length xs = omega arith in
@@ -60,40 +60,40 @@ module _ {sh : Shape} {st : State} {b : List ℕ} (l : Laid sh st b) where
       put-in l next i (k * r) (startOf sh i + k * r) (put y) h refl v
       (ap (λ (x : List ℕ). set (sections sh st) i (splice x (k * r) (put y))) s ∙ ap (set (sections sh st) i) (set-row put k xs r y f e u) ∙ q) w
 
-  pub put-views : {b′ : List ℕ} (xs : List ℕ) → length xs ≡ sh .s → b′ ≡ splice b (startOf sh atGVec) (flat (le 4) xs) → Laid sh (inView (record { gView = st .view .gView; gVec = xs; normal = st .view .normal; status = st .view .status }) st) b′
+  pub put-views : {b′ : List ℕ} (xs : List ℕ) → length xs ≡ sh .s → b′ ≡ splice b (startOf sh atGVec) (flat (le 4) xs) → Laid sh (inView (st .view .gView) xs (st .view .normal) (st .view .status) st) b′
   unfolding headSection
-  put-views xs e = put-all l (inView (record { gView = st .view .gView; gVec = xs; normal = st .view .normal; status = st .view .status }) st) 1 (startOf sh atGVec) (flat (le 4) xs) (lit< tt) refl (long-row (le 4) 4 xs (even-views xs) ∙ ap (λ (n : ℕ). 4 * n) e) refl
+  put-views xs e = put-all l (inView (st .view .gView) xs (st .view .normal) (st .view .status) st) 1 (startOf sh atGVec) (flat (le 4) xs) (lit< tt) refl (long-row (le 4) 4 xs (even-views xs) ∙ ap (λ (n : ℕ). 4 * n) e) refl
 
   pub put-heard : {b′ : List ℕ} (r : ℕ) (p : Option ℕ) → r < sh .n → b′ ≡ splice b (startOf sh atHeard + 9 * r) (pointBytes p) → Laid sh (withHeard (set (st .heard) r p) st) b′
   unfolding headSection
   put-heard r p h = put-place pointBytes 9 (sh .n) 2 r (st .heard) p (withHeard (set (st .heard) r p) st) (lit< tt) refl refl (lit< tt) (even-points (st .heard)) (point-long p) h refl
 
-  pub put-vote : {b′ : List ℕ} (r : ℕ) (v : Vote) → Even (voteBytes (sh .c)) (voteLength (sh .c)) (st .change .votes) → length (v .log) ≤ sh .c → r < sh .n → b′ ≡ splice b (startOf sh atVotes + voteLength (sh .c) * r) (voteBytes (sh .c) (some v)) → Laid sh (withChange (record { votes = set (st .change .votes) r (some v); draft = st .change .draft; boundary = st .change .boundary; replies = st .change .replies }) st) b′
+  pub put-vote : {b′ : List ℕ} (r : ℕ) (v : Vote) → Even (voteBytes (sh .c)) (voteLength (sh .c)) (st .change .votes) → length (v .log) ≤ sh .c → r < sh .n → b′ ≡ splice b (startOf sh atVotes + voteLength (sh .c) * r) (voteBytes (sh .c) (some v)) → Laid sh (withChange (set (st .change .votes) r (some v)) (st .change .draft) (st .change .boundary) (st .change .replies) st) b′
   unfolding headSection
-  put-vote r v f e h = put-place (voteBytes (sh .c)) (voteLength (sh .c)) (sh .n) 7 r (st .change .votes) (some v) (withChange (record { votes = set (st .change .votes) r (some v); draft = st .change .draft; boundary = st .change .boundary; replies = st .change .replies }) st) (lit< tt) refl refl (omega arith) f (vote-long (sh .c) v e) h refl
+  put-vote r v f e h = put-place (voteBytes (sh .c)) (voteLength (sh .c)) (sh .n) 7 r (st .change .votes) (some v) (withChange (set (st .change .votes) r (some v)) (st .change .draft) (st .change .boundary) (st .change .replies) st) (lit< tt) refl refl (omega arith) f (vote-long (sh .c) v e) h refl
 
-  pub put-reply : {b′ : List ℕ} (j : ℕ) (es : List Entry) → Even (replyBytes (sh .c)) (replyLength (sh .c)) (st .change .replies) → length es ≤ sh .c → j < sh .s → b′ ≡ splice b (startOf sh atReplies + replyLength (sh .c) * j) (replyBytes (sh .c) (some es)) → Laid sh (withChange (record { votes = st .change .votes; draft = st .change .draft; boundary = st .change .boundary; replies = set (st .change .replies) j (some es) }) st) b′
+  pub put-reply : {b′ : List ℕ} (j : ℕ) (es : List Entry) → Even (replyBytes (sh .c)) (replyLength (sh .c)) (st .change .replies) → length es ≤ sh .c → j < sh .s → b′ ≡ splice b (startOf sh atReplies + replyLength (sh .c) * j) (replyBytes (sh .c) (some es)) → Laid sh (withChange (st .change .votes) (st .change .draft) (st .change .boundary) (set (st .change .replies) j (some es)) st) b′
   unfolding headSection
-  put-reply j es f e h = put-place (replyBytes (sh .c)) (replyLength (sh .c)) (sh .s) 9 j (st .change .replies) (some es) (withChange (record { votes = st .change .votes; draft = st .change .draft; boundary = st .change .boundary; replies = set (st .change .replies) j (some es) }) st) (lit< tt) refl refl (omega arith) f (reply-long (sh .c) es e) h refl
+  put-reply j es f e h = put-place (replyBytes (sh .c)) (replyLength (sh .c)) (sh .s) 9 j (st .change .replies) (some es) (withChange (st .change .votes) (st .change .draft) (st .change .boundary) (set (st .change .replies) j (some es)) st) (lit< tt) refl refl (omega arith) f (reply-long (sh .c) es e) h refl
 
   -- zeros over a section of which zeros are the form
-  put-zeros : {b′ : List ℕ} (next : State) (i n : ℕ) (x : List ℕ) → i < 10 → x ≡ zeroBytes n → n ≡ getD (lengths sh) i 0 → set (sections sh st) i x ≡ sections sh next → b′ ≡ splice b (startOf sh i) (zeroBytes n) → Laid sh next b′
+  put-zeros : {b′ : List ℕ} (next : State) (i n : ℕ) (x : List ℕ) → i < atEnd sh → x ≡ zeroBytes n → n ≡ getD (lengths sh) i 0 → set (sections sh st) i x ≡ sections sh next → b′ ≡ splice b (startOf sh i) (zeroBytes n) → Laid sh next b′
   put-zeros next i n x h e r q w = put-all l next i (startOf sh i) x h refl (ap length e ∙ length-replicate {A = ℕ} n 0 ∙ r) q (w ∙ ap (splice b (startOf sh i)) (sym e))
 
   pub clear-heard : {b′ : List ℕ} → b′ ≡ splice b (startOf sh atHeard) (replicate (9 * sh .n) 0) → Laid sh (withHeard (replicate (sh .n) none) st) b′
   unfolding headSection
   clear-heard = put-zeros (withHeard (replicate (sh .n) none) st) 2 (9 * sh .n) (flat pointBytes (replicate (sh .n) none)) (lit< tt) (points-zeros (sh .n)) refl refl
 
-  pub clear-votes : {b′ : List ℕ} → b′ ≡ splice b (startOf sh atVotes) (replicate (voteLength (sh .c) * sh .n) 0) → Laid sh (withChange (record { votes = replicate (sh .n) none; draft = st .change .draft; boundary = st .change .boundary; replies = st .change .replies }) st) b′
+  pub clear-votes : {b′ : List ℕ} → b′ ≡ splice b (startOf sh atVotes) (replicate (voteLength (sh .c) * sh .n) 0) → Laid sh (withChange (replicate (sh .n) none) (st .change .draft) (st .change .boundary) (st .change .replies) st) b′
   unfolding headSection
-  clear-votes = put-zeros (withChange (record { votes = replicate (sh .n) none; draft = st .change .draft; boundary = st .change .boundary; replies = st .change .replies }) st) 7 (voteLength (sh .c) * sh .n) (flat (voteBytes (sh .c)) (replicate (sh .n) none)) (lit< tt) (votes-zeros (sh .c) (sh .n)) refl refl
+  clear-votes = put-zeros (withChange (replicate (sh .n) none) (st .change .draft) (st .change .boundary) (st .change .replies) st) 7 (voteLength (sh .c) * sh .n) (flat (voteBytes (sh .c)) (replicate (sh .n) none)) (lit< tt) (votes-zeros (sh .c) (sh .n)) refl refl
 
-  pub clear-replies : {b′ : List ℕ} → b′ ≡ splice b (startOf sh atReplies) (replicate (replyLength (sh .c) * sh .s) 0) → Laid sh (withChange (record { votes = st .change .votes; draft = st .change .draft; boundary = st .change .boundary; replies = replicate (sh .s) none }) st) b′
+  pub clear-replies : {b′ : List ℕ} → b′ ≡ splice b (startOf sh atReplies) (replicate (replyLength (sh .c) * sh .s) 0) → Laid sh (withChange (st .change .votes) (st .change .draft) (st .change .boundary) (replicate (sh .s) none) st) b′
   unfolding headSection
-  clear-replies = put-zeros (withChange (record { votes = st .change .votes; draft = st .change .draft; boundary = st .change .boundary; replies = replicate (sh .s) none }) st) 9 (replyLength (sh .c) * sh .s) (flat (replyBytes (sh .c)) (replicate (sh .s) none)) (lit< tt) (replies-zeros (sh .c) (sh .s)) refl refl
+  clear-replies = put-zeros (withChange (st .change .votes) (st .change .draft) (st .change .boundary) (replicate (sh .s) none) st) 9 (replyLength (sh .c) * sh .s) (flat (replyBytes (sh .c)) (replicate (sh .s) none)) (lit< tt) (replies-zeros (sh .c) (sh .s)) refl refl
 
   -- ---- the own vote, of a state on the way whose three numbers fit their bytes
-  pub put-own-vote : {b′ : List ℕ} → Even (voteBytes (sh .c)) (voteLength (sh .c)) (st .change .votes) → length (st .logged .log) ≤ sh .c → st .site .replica < sh .n → st .site .replica < 256 → st .view .normal < 256 ^ 4 → st .logged .sync < 256 ^ 8 → b′ ≡ splice b (startOf sh atVotes + voteLength (sh .c) * num b 1 1) (ownBytes sh b) → Laid sh (withChange (record { votes = set (st .change .votes) (st .site .replica) (some (record { normal = st .view .normal; sync = st .logged .sync; log = st .logged .log })); draft = st .change .draft; boundary = st .change .boundary; replies = st .change .replies }) st) b′
+  pub put-own-vote : {b′ : List ℕ} → Even (voteBytes (sh .c)) (voteLength (sh .c)) (st .change .votes) → length (st .logged .log) ≤ sh .c → st .site .replica < sh .n → st .site .replica < 256 → st .view .normal < 256 ^ 4 → st .logged .sync < 256 ^ 8 → b′ ≡ splice b (startOf sh atVotes + voteLength (sh .c) * num b 1 1) (ownBytes sh b) → Laid sh (withChange (set (st .change .votes) (st .site .replica) (some (record { normal = st .view .normal; sync = st .logged .sync; log = st .logged .log }))) (st .change .draft) (st .change .boundary) (st .change .replies) st) b′
   unfolding ownBytes voteBytes
   put-own-vote f e h fr fn fs w =
       let er : num b 1 1 ≡ st .site .replica = get-head l 1 1 1 (st .site .replica) (lit< tt) (simp length-le) (lit≤ tt) refl fr in
@@ -177,7 +177,7 @@ module _ {sh : Shape} {st : State} {b : List ℕ} (m : Midway sh st b) where
   heard-point r p h e = point-is b (startOf sh atHeard + 9 * r) p (heard-at r h ∙ e)
 
   -- inside place r of a section that is a row of n things, each of k bytes
-  get-place : {A : Type 0} (put : A → List ℕ) (k n i r j g : ℕ) (xs : List A) (d : A) → i < 10 → getD (sections sh st) i [] ≡ flat put xs → getD (lengths sh) i 0 ≡ k * n → Even put k xs → length xs ≡ n → r < n → j + g ≤ k → part b (startOf sh i + k * r + j) g ≡ part (put (getD xs r d)) j g
+  get-place : {A : Type 0} (put : A → List ℕ) (k n i r j g : ℕ) (xs : List A) (d : A) → i < atEnd sh → getD (sections sh st) i [] ≡ flat put xs → getD (lengths sh) i 0 ≡ k * n → Even put k xs → length xs ≡ n → r < n → j + g ≤ k → part b (startOf sh i + k * r + j) g ≡ part (put (getD xs r d)) j g
   get-place put k n i r j g xs d h q z f e u v =
       let w : k * r + j + g ≤ getD (lengths sh) i 0 = omega (arith, within k r n u) in
       let y : r < length xs = omega arith in

@@ -12,12 +12,12 @@ use Rattle.rules.specs.Read.{entryAt}
 use Rattle.rules.specs.Image.{stateLength, tableAt, stateOf, atLog}
 use Rattle.rules.specs.declared.Entry.{Entry}
 use Rattle.rules.specs.declared.Shape.{Shape}
-use Rattle.places.specs.Layout.{startOf, Fits, Sized}
+use Rattle.places.specs.Layout.{longest, startOf, Fits, Sized}
 use Rattle.places.proofs.Sections.{state-small}
 use Rattle.places.proofs.Fields.{fields}
 
 -- place i of the log lies within the state
-pub log-within : (sh : Shape) (i at : ℕ) → Fits sh → at ≡ startOf sh atLog → i < sh .c → (at + (4 + 24 * i) ≡ startOf sh atLog + (4 + 24 * i)) × (at + (4 + 24 * i) + 24 ≤ stateLength sh) × (at + (4 + 24 * i) ≤ 2187586)
+pub log-within : (sh : Shape) (i at : ℕ) → Fits sh → at ≡ startOf sh atLog → i < sh .c → (at + (4 + 24 * i) ≡ startOf sh atLog + (4 + 24 * i)) × (at + (4 + 24 * i) + 24 ≤ stateLength sh) × (at + (4 + 24 * i) ≤ longest)
 log-within sh i at f e h = (omega arith, omega arith, omega (arith, state-small sh f))
 
 module _ (sh : Shape) (b : List ℕ) (z : Sized sh b) where

@@ -9,8 +9,7 @@ use Rattle.rules.specs.State.{Note, State, withLogged, withWaiting}
 use Rattle.rules.specs.Image.{tableAt, stateOf, atDraft, atEarly, atLate, atLog, atNotes, atReplies, atVotes}
 use Rattle.rules.specs.declared.Entry.{Entry}
 use Rattle.rules.specs.declared.Shape.{Shape}
-use Rattle.rules.proofs.Tables.{TableFits, NotesFit}
-use Rattle.rules.proofs.Image.{StateFits}
+use Rattle.rules.proofs.Image.{fits-waiting, fits-log}
 use Rattle.entries.specs.Table.{Holds, Table}
 use Rattle.entries.proofs.Table.{decoded, is-table}
 use Rattle.notes.specs.Notes.{notesAt, NotesHold, Notes}
@@ -18,63 +17,6 @@ use Rattle.notes.proofs.Notes as noted
 use Rattle.places.specs.Layout.{startOf, Midway}
 use Rattle.places.proofs.Sections.{midway-laid, laid-midway}
 use Rattle.places.proofs.Lent.{holds-fits, notes-fit, log-lent, early-lent, late-lent, draft-lent, notes-lent, log-home, early-home, late-home, notes-home}
-
--- ---- what waits fits its bytes anew
-
-pub fits-waiting : {sh : Shape} {st : State} (early late : List Entry) (notes : List Note) → StateFits sh st → TableFits (sh .c) early → TableFits (sh .c) late → NotesFit sh notes → StateFits sh (withWaiting (record { early = early; late = late; notes = notes }) st)
-fits-waiting early late notes f e l n =
-    record {
-      group = f .group;
-      replica = f .replica;
-      status = f .status;
-      view = f .view;
-      normal = f .normal;
-      clock = f .clock;
-      sync = f .sync;
-      commit = f .commit;
-      boundary = f .boundary;
-      gVecPlaces = f .gVecPlaces;
-      gVec = f .gVec;
-      heardPlaces = f .heardPlaces;
-      heard = f .heard;
-      log = f .log;
-      early = e;
-      late = l;
-      notes = n;
-      votePlaces = f .votePlaces;
-      votes = f .votes;
-      draft = f .draft;
-      replyPlaces = f .replyPlaces;
-      replies = f .replies;
-    }
-
--- and so does the log
-fits-log : {sh : Shape} {st : State} (log : List Entry) → StateFits sh st → TableFits (sh .c) log → StateFits sh (withLogged (record { log = log; sync = st .logged .sync; commit = st .logged .commit }) st)
-fits-log log f l =
-    record {
-      group = f .group;
-      replica = f .replica;
-      status = f .status;
-      view = f .view;
-      normal = f .normal;
-      clock = f .clock;
-      sync = f .sync;
-      commit = f .commit;
-      boundary = f .boundary;
-      gVecPlaces = f .gVecPlaces;
-      gVec = f .gVec;
-      heardPlaces = f .heardPlaces;
-      heard = f .heard;
-      log = l;
-      early = f .early;
-      late = f .late;
-      notes = f .notes;
-      votePlaces = f .votePlaces;
-      votes = f .votes;
-      draft = f .draft;
-      replyPlaces = f .replyPlaces;
-      replies = f .replies;
-    }
 
 module _ {sh : Shape} {st : State} {b : List ℕ} (m : Midway sh st b) where
   -- ---- lent
@@ -94,20 +36,20 @@ module _ {sh : Shape} {st : State} {b : List ℕ} (m : Midway sh st b) where
   notes-here at end e f = notes-lent (midway-laid m) at (end - at) (m .fits) (m .holds .notes) e (omega arith)
 
   -- ---- come home
-  pub log-comes : {b′ x : List ℕ} (at end : ℕ) (es : List Entry) → Holds (sh .c) es x → at ≡ startOf sh atLog → end ≡ startOf sh atEarly → b′ ≡ take at b ++ (x ++ drop (end - at) (drop at b)) → Midway sh (withLogged (record { log = es; sync = st .logged .sync; commit = st .logged .commit }) st) b′
+  pub log-comes : {b′ x : List ℕ} (at end : ℕ) (es : List Entry) → Holds (sh .c) es x → at ≡ startOf sh atLog → end ≡ startOf sh atEarly → b′ ≡ take at b ++ (x ++ drop (end - at) (drop at b)) → Midway sh (withLogged es (st .logged .sync) (st .logged .commit) st) b′
   log-comes at end es h e f w = laid-midway (m .fits) (fits-log es (m .holds) (holds-fits h)) (log-home (midway-laid m) at (end - at) es h e (omega arith) w)
 
-  pub early-comes : {b′ x : List ℕ} (at end : ℕ) (es : List Entry) → Holds (sh .c) es x → at ≡ startOf sh atEarly → end ≡ startOf sh atLate → b′ ≡ take at b ++ (x ++ drop (end - at) (drop at b)) → Midway sh (withWaiting (record { early = es; late = st .waiting .late; notes = st .waiting .notes }) st) b′
+  pub early-comes : {b′ x : List ℕ} (at end : ℕ) (es : List Entry) → Holds (sh .c) es x → at ≡ startOf sh atEarly → end ≡ startOf sh atLate → b′ ≡ take at b ++ (x ++ drop (end - at) (drop at b)) → Midway sh (withWaiting es (st .waiting .late) (st .waiting .notes) st) b′
   early-comes at end es h e f w =
       laid-midway (m .fits) (fits-waiting es (st .waiting .late) (st .waiting .notes) (m .holds) (holds-fits h) (m .holds .late) (m .holds .notes))
       (early-home (midway-laid m) at (end - at) es h e (omega arith) w)
 
-  pub late-comes : {b′ x : List ℕ} (at end : ℕ) (es : List Entry) → Holds (sh .c) es x → at ≡ startOf sh atLate → end ≡ startOf sh atNotes → b′ ≡ take at b ++ (x ++ drop (end - at) (drop at b)) → Midway sh (withWaiting (record { early = st .waiting .early; late = es; notes = st .waiting .notes }) st) b′
+  pub late-comes : {b′ x : List ℕ} (at end : ℕ) (es : List Entry) → Holds (sh .c) es x → at ≡ startOf sh atLate → end ≡ startOf sh atNotes → b′ ≡ take at b ++ (x ++ drop (end - at) (drop at b)) → Midway sh (withWaiting (st .waiting .early) es (st .waiting .notes) st) b′
   late-comes at end es h e f w =
       laid-midway (m .fits) (fits-waiting (st .waiting .early) es (st .waiting .notes) (m .holds) (m .holds .early) (holds-fits h) (m .holds .notes))
       (late-home (midway-laid m) at (end - at) es h e (omega arith) w)
 
-  pub notes-come : {b′ x : List ℕ} (at end : ℕ) (xs : List Note) → NotesHold (sh .c) (sh .s) xs x → at ≡ startOf sh atNotes → end ≡ startOf sh atVotes → b′ ≡ take at b ++ (x ++ drop (end - at) (drop at b)) → Midway sh (withWaiting (record { early = st .waiting .early; late = st .waiting .late; notes = xs }) st) b′
+  pub notes-come : {b′ x : List ℕ} (at end : ℕ) (xs : List Note) → NotesHold (sh .c) (sh .s) xs x → at ≡ startOf sh atNotes → end ≡ startOf sh atVotes → b′ ≡ take at b ++ (x ++ drop (end - at) (drop at b)) → Midway sh (withWaiting (st .waiting .early) (st .waiting .late) xs st) b′
   notes-come at end xs h e f w =
       laid-midway (m .fits) (fits-waiting (st .waiting .early) (st .waiting .late) xs (m .holds) (m .holds .early) (m .holds .late) (notes-fit sh h))
       (notes-home (midway-laid m) at (end - at) xs h e (omega arith) w)

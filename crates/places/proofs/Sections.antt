@@ -15,14 +15,14 @@ use Rattle.octets.proofs.Laws.{length-splice, splice-home}
 use Rattle.octets.proofs.Sections.{get-in-section, set-in-section, part-whole, splice-whole}
 use Rattle.rules.specs.Group.{permitted, sizesFit, shapeFits}
 use Rattle.rules.specs.State.{State}
-use Rattle.rules.specs.Image.{tableLength, noteLength, voteLength, replyLength, lengths, stateLength, sections, image, stateOf, goodBytes, atDraft, atEarly, atHeard, atLate, atLog, atNotes, atReplies, atVotes}
+use Rattle.rules.specs.Image.{tableLength, noteLength, voteLength, replyLength, lengths, stateLength, sections, image, stateOf, goodBytes, atDraft, atEarly, atHeard, atLate, atLog, atNotes, atReplies, atVotes, atEnd}
 use Rattle.rules.specs.declared.Shape.{Shape}
 use Rattle.rules.proofs.Tests.{and-l}
 use Rattle.rules.proofs.Entries.{drop-section}
 use Rattle.rules.proofs.Conjuncts.{good-is}
 use Rattle.rules.proofs.Image.{StateFits, long-sections, length-total, state-back}
 use Rattle.rules.proofs.Good.{room, shape-sizes, good-state, good-bytes}
-use Rattle.places.specs.Layout.{startOf, placesOf, Marks, Fits, Sized, Midway, Stands, Own, atEnd}
+use Rattle.places.specs.Layout.{startOf, placesOf, Marks, Fits, Sized, Midway, Stands, Own, longest}
 use Rattle.places.specs.declared.Places.{Places}
 
 -- ---- a shape in range
@@ -52,11 +52,11 @@ fits sh e =
     }
 
 -- the products of two sizes
-pub products : (sh : Shape) → Fits sh → (noteLength (sh .s) * sh .c ≤ 319488) × (voteLength (sh .c) * sh .n ≤ 688247) × (replyLength (sh .c) * sh .s ≤ 786472)
+pub products : (sh : Shape) → Fits sh → (noteLength (sh .s) * sh .c ≤ noteLength 8 * 4096) × (voteLength (sh .c) * sh .n ≤ voteLength 4096 * 7) × (replyLength (sh .c) * sh .s ≤ replyLength 4096 * 8)
 products sh f =
-    let a : noteLength (sh .s) ≤ 78 = omega arith in
-    let b : voteLength (sh .c) ≤ 98321 = omega arith in
-    let c : replyLength (sh .c) ≤ 98309 = omega arith in
+    let a : noteLength (sh .s) ≤ noteLength 8 = omega arith in
+    let b : voteLength (sh .c) ≤ voteLength 4096 = omega arith in
+    let c : replyLength (sh .c) ≤ replyLength 4096 = omega arith in
     (mul-le-mul a (f .small), mul-le-mul b (f .most), mul-le-mul c (f .few))
 
 -- each section begins where the one before it ends
@@ -71,10 +71,10 @@ in-a-row sh heard log early late notes votes draft replies end table t e2 e3 e4 
     let s7 : votes ≡ startOf sh atVotes = omega arith in
     let s8 : draft ≡ startOf sh atDraft = omega arith in
     let s9 : replies ≡ startOf sh atReplies = omega arith in
-    let s10 : end ≡ startOf sh atEnd = omega arith in
+    let s10 : end ≡ startOf sh (atEnd sh) = omega arith in
     rw (s2, s3, s4, s5, s6, s7, s8, s9, s10, t)
 
-pub state-small : (sh : Shape) → Fits sh → stateLength sh ≤ 2187586
+pub state-small : (sh : Shape) → Fits sh → stateLength sh ≤ longest
 state-small sh f = omega (arith, products sh f)
 
 pub marks : (sh : Shape) (p : Places) → Fits sh → p ≡ placesOf sh → Marks sh p
@@ -150,23 +150,23 @@ module _ {sh : Shape} {st : State} {b : List ℕ} (l : Laid sh st b) where
   long-at i = sym (List·getD-map length (sections sh st) i []) ∙ ap (λ (ns : List ℕ). getD ns i 0) (l .long)
 
   -- what stands in section i from its place k on
-  pub get-in : (i k at n : ℕ) → i < 10 → at ≡ startOf sh i + k → k + n ≤ getD (lengths sh) i 0 → part b at n ≡ part (getD (sections sh st) i []) k n
+  pub get-in : (i k at n : ℕ) → i < atEnd sh → at ≡ startOf sh i + k → k + n ≤ getD (lengths sh) i 0 → part b at n ≡ part (getD (sections sh st) i []) k n
   unfolding image
   get-in i k at n h e r =
       ap (λ (x : List ℕ). part x at n) (l .bytes)
       ∙ get-in-section (sections sh st) i k at n h (e ∙ ap (λ (a : ℕ). a + k) (starts i)) (rw (long-at i) r)
 
   -- all of section i
-  pub get-all : (i at n : ℕ) → i < 10 → at ≡ startOf sh i → n ≡ getD (lengths sh) i 0 → part b at n ≡ getD (sections sh st) i []
+  pub get-all : (i at n : ℕ) → i < atEnd sh → at ≡ startOf sh i → n ≡ getD (lengths sh) i 0 → part b at n ≡ getD (sections sh st) i []
   get-all i at n h e r = get-in i 0 at n h (omega arith) (omega arith) ∙ part-whole (getD (sections sh st) i []) n (omega (arith, long-at i))
 
   -- section i, and what stands after it
-  pub drop-all : (i at : ℕ) → i < 10 → at ≡ startOf sh i → drop at b ≡ getD (sections sh st) i [] ++ concat (drop (suc i) (sections sh st))
+  pub drop-all : (i at : ℕ) → i < atEnd sh → at ≡ startOf sh i → drop at b ≡ getD (sections sh st) i [] ++ concat (drop (suc i) (sections sh st))
   unfolding image
   drop-all i at h e = ap (drop at) (l .bytes) ∙ drop-section (sections sh st) i at h (e ∙ starts i)
 
   -- a write into section i from its place k on
-  pub put-in : {b′ : List ℕ} (next : State) (i k at : ℕ) (x : List ℕ) → i < 10 → at ≡ startOf sh i + k → k + length x ≤ getD (lengths sh) i 0 → set (sections sh st) i (splice (getD (sections sh st) i []) k x) ≡ sections sh next → b′ ≡ splice b at x → Laid sh next b′
+  pub put-in : {b′ : List ℕ} (next : State) (i k at : ℕ) (x : List ℕ) → i < atEnd sh → at ≡ startOf sh i + k → k + length x ≤ getD (lengths sh) i 0 → set (sections sh st) i (splice (getD (sections sh st) i []) k x) ≡ sections sh next → b′ ≡ splice b at x → Laid sh next b′
   unfolding image
   put-in next i k at x h e r q w =
       let m : k + length x ≤ length (getD (sections sh st) i []) = rw (long-at i) r in
@@ -175,16 +175,16 @@ module _ {sh : Shape} {st : State} {b : List ℕ} (l : Laid sh st b) where
       (ap (map length) (sym q) ∙ map-set-same length (sections sh st) i (splice (getD (sections sh st) i []) k x) [] (length-splice (getD (sections sh st) i []) k x m) ∙ l .long)
 
   -- all of section i written
-  pub put-all : {b′ : List ℕ} (next : State) (i at : ℕ) (x : List ℕ) → i < 10 → at ≡ startOf sh i → length x ≡ getD (lengths sh) i 0 → set (sections sh st) i x ≡ sections sh next → b′ ≡ splice b at x → Laid sh next b′
+  pub put-all : {b′ : List ℕ} (next : State) (i at : ℕ) (x : List ℕ) → i < atEnd sh → at ≡ startOf sh i → length x ≡ getD (lengths sh) i 0 → set (sections sh st) i x ≡ sections sh next → b′ ≡ splice b at x → Laid sh next b′
   put-all next i at x h e r q w =
       put-in next i 0 at x h (omega arith) (omega arith)
       (ap (set (sections sh st) i) (splice-whole (getD (sections sh st) i []) x (r ∙ sym (long-at i))) ∙ q)
       w
 
   -- ---- a section lent to a callee: its form there, and the form in which it comes home
-  pub lent : (i at n : ℕ) → i < 10 → at ≡ startOf sh i → n ≡ getD (lengths sh) i 0 → take n (drop at b) ≡ getD (sections sh st) i []
+  pub lent : (i at n : ℕ) → i < atEnd sh → at ≡ startOf sh i → n ≡ getD (lengths sh) i 0 → take n (drop at b) ≡ getD (sections sh st) i []
   unfolding part
   lent i at n h e r = get-all i at n h e r
 
-  pub home : {b′ : List ℕ} (next : State) (i at n : ℕ) (x : List ℕ) → i < 10 → at ≡ startOf sh i → n ≡ getD (lengths sh) i 0 → length x ≡ n → set (sections sh st) i x ≡ sections sh next → b′ ≡ take at b ++ (x ++ drop n (drop at b)) → Laid sh next b′
+  pub home : {b′ : List ℕ} (next : State) (i at n : ℕ) (x : List ℕ) → i < atEnd sh → at ≡ startOf sh i → n ≡ getD (lengths sh) i 0 → length x ≡ n → set (sections sh st) i x ≡ sections sh next → b′ ≡ take at b ++ (x ++ drop n (drop at b)) → Laid sh next b′
   home next i at n x h e r m q w = put-all next i at x h e (m ∙ r) q (w ∙ splice-home b at n x m)

@@ -6,7 +6,7 @@ use lib.ListN.{length, getD, set}
 use lib.Dec.{lit<}
 use Rattle.octets.specs.Bytes.{part, splice}
 use Rattle.rules.specs.State.{Note, State, withChange, withLogged, withWaiting}
-use Rattle.rules.specs.Image.{tableLength, noteLength, lengths, headSection, tableBytes, notesSection, sections, atDraft, atEarly, atLate, atLog, atNotes}
+use Rattle.rules.specs.Image.{tableLength, noteLength, lengths, headSection, tableBytes, notesSection, sections, atDraft, atEarly, atLate, atLog, atNotes, atEnd}
 use Rattle.rules.specs.declared.Entry.{Entry}
 use Rattle.rules.specs.declared.Shape.{Shape}
 use Rattle.rules.proofs.Tables.{table-long}
@@ -31,25 +31,25 @@ module _ {sh : Shape} {st : State} {b : List ℕ} (l : Laid sh st b) where
   draft-part = get-all l 8 (startOf sh atDraft) (tableLength (sh .c)) (lit< tt) refl refl
 
   -- ---- written
-  put-table : {b′ : List ℕ} (next : State) (i : ℕ) (es : List Entry) → i < 10 → tableLength (sh .c) ≡ getD (lengths sh) i 0 → set (sections sh st) i (tableBytes (sh .c) es) ≡ sections sh next → length es ≤ sh .c → b′ ≡ splice b (startOf sh i) (tableBytes (sh .c) es) → Laid sh next b′
+  put-table : {b′ : List ℕ} (next : State) (i : ℕ) (es : List Entry) → i < atEnd sh → tableLength (sh .c) ≡ getD (lengths sh) i 0 → set (sections sh st) i (tableBytes (sh .c) es) ≡ sections sh next → length es ≤ sh .c → b′ ≡ splice b (startOf sh i) (tableBytes (sh .c) es) → Laid sh next b′
   put-table next i es h e q r w = put-all l next i (startOf sh i) (tableBytes (sh .c) es) h refl (rw (table-long (sh .c) es r) e) q w
 
-  pub put-log : {b′ : List ℕ} (es : List Entry) → length es ≤ sh .c → b′ ≡ splice b (startOf sh atLog) (tableBytes (sh .c) es) → Laid sh (withLogged (record { log = es; sync = st .logged .sync; commit = st .logged .commit }) st) b′
+  pub put-log : {b′ : List ℕ} (es : List Entry) → length es ≤ sh .c → b′ ≡ splice b (startOf sh atLog) (tableBytes (sh .c) es) → Laid sh (withLogged es (st .logged .sync) (st .logged .commit) st) b′
   unfolding headSection
-  put-log es = put-table (withLogged (record { log = es; sync = st .logged .sync; commit = st .logged .commit }) st) 3 es (lit< tt) refl refl
+  put-log es = put-table (withLogged es (st .logged .sync) (st .logged .commit) st) 3 es (lit< tt) refl refl
 
-  pub put-early : {b′ : List ℕ} (es : List Entry) → length es ≤ sh .c → b′ ≡ splice b (startOf sh atEarly) (tableBytes (sh .c) es) → Laid sh (withWaiting (record { early = es; late = st .waiting .late; notes = st .waiting .notes }) st) b′
+  pub put-early : {b′ : List ℕ} (es : List Entry) → length es ≤ sh .c → b′ ≡ splice b (startOf sh atEarly) (tableBytes (sh .c) es) → Laid sh (withWaiting es (st .waiting .late) (st .waiting .notes) st) b′
   unfolding headSection
-  put-early es = put-table (withWaiting (record { early = es; late = st .waiting .late; notes = st .waiting .notes }) st) 4 es (lit< tt) refl refl
+  put-early es = put-table (withWaiting es (st .waiting .late) (st .waiting .notes) st) 4 es (lit< tt) refl refl
 
-  pub put-late : {b′ : List ℕ} (es : List Entry) → length es ≤ sh .c → b′ ≡ splice b (startOf sh atLate) (tableBytes (sh .c) es) → Laid sh (withWaiting (record { early = st .waiting .early; late = es; notes = st .waiting .notes }) st) b′
+  pub put-late : {b′ : List ℕ} (es : List Entry) → length es ≤ sh .c → b′ ≡ splice b (startOf sh atLate) (tableBytes (sh .c) es) → Laid sh (withWaiting (st .waiting .early) es (st .waiting .notes) st) b′
   unfolding headSection
-  put-late es = put-table (withWaiting (record { early = st .waiting .early; late = es; notes = st .waiting .notes }) st) 5 es (lit< tt) refl refl
+  put-late es = put-table (withWaiting (st .waiting .early) es (st .waiting .notes) st) 5 es (lit< tt) refl refl
 
-  pub put-draft : {b′ : List ℕ} (es : List Entry) → length es ≤ sh .c → b′ ≡ splice b (startOf sh atDraft) (tableBytes (sh .c) es) → Laid sh (withChange (record { votes = st .change .votes; draft = es; boundary = st .change .boundary; replies = st .change .replies }) st) b′
+  pub put-draft : {b′ : List ℕ} (es : List Entry) → length es ≤ sh .c → b′ ≡ splice b (startOf sh atDraft) (tableBytes (sh .c) es) → Laid sh (withChange (st .change .votes) es (st .change .boundary) (st .change .replies) st) b′
   unfolding headSection
-  put-draft es = put-table (withChange (record { votes = st .change .votes; draft = es; boundary = st .change .boundary; replies = st .change .replies }) st) 8 es (lit< tt) refl refl
+  put-draft es = put-table (withChange (st .change .votes) es (st .change .boundary) (st .change .replies) st) 8 es (lit< tt) refl refl
 
-  pub put-notes : {b′ : List ℕ} (xs : List Note) → length (notesSection sh xs) ≡ 4 + noteLength (sh .s) * sh .c → b′ ≡ splice b (startOf sh atNotes) (notesSection sh xs) → Laid sh (withWaiting (record { early = st .waiting .early; late = st .waiting .late; notes = xs }) st) b′
+  pub put-notes : {b′ : List ℕ} (xs : List Note) → length (notesSection sh xs) ≡ 4 + noteLength (sh .s) * sh .c → b′ ≡ splice b (startOf sh atNotes) (notesSection sh xs) → Laid sh (withWaiting (st .waiting .early) (st .waiting .late) xs st) b′
   unfolding headSection
-  put-notes xs r = put-all l (withWaiting (record { early = st .waiting .early; late = st .waiting .late; notes = xs }) st) 6 (startOf sh atNotes) (notesSection sh xs) (lit< tt) refl r refl
+  put-notes xs r = put-all l (withWaiting (st .waiting .early) (st .waiting .late) xs st) 6 (startOf sh atNotes) (notesSection sh xs) (lit< tt) refl r refl

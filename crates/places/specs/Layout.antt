@@ -9,18 +9,18 @@ use Rattle.octets.specs.Sections.{total}
 use Rattle.rules.specs.Choice.{pick}
 use Rattle.rules.specs.Group.{shapeFits}
 use Rattle.rules.specs.State.{State, good}
-use Rattle.rules.specs.Image.{tableLength, noteLength, voteLength, replyLength, lengths, stateLength, image, atDraft, atEarly, atGVec, atHeard, atLate, atLog, atNotes, atReplies, atVotes}
+use Rattle.rules.specs.Image.{tableLength, noteLength, voteLength, replyLength, lengths, stateLength, image, atDraft, atEarly, atGVec, atHeard, atLate, atLog, atNotes, atReplies, atVotes, atEnd}
 use Rattle.rules.specs.declared.Shape.{Shape}
 use Rattle.rules.proofs.Image.{StateFits}
 use Rattle.places.specs.declared.Places.{Places}
 
--- behind the last section
-abbrev pub atEnd : ℕ
-atEnd = 10
-
 -- where a section begins
 abbrev pub startOf : Shape → ℕ → ℕ
 startOf sh i = total (take i (lengths sh))
+
+-- the longest state: of seven replicas in each of eight groups, with room for 4,096 entries
+abbrev pub longest : ℕ
+longest = stateLength (record { n = 7; s = 8; c = 4096 })
 
 -- where each begins, and the length of a table, a note, a vote and a reply
 abbrev pub placesOf : Shape → Places
@@ -35,7 +35,7 @@ placesOf sh =
       votes = startOf sh atVotes;
       draft = startOf sh atDraft;
       replies = startOf sh atReplies;
-      end = startOf sh atEnd;
+      end = startOf sh (atEnd sh);
       table = tableLength (sh .c);
       note = noteLength (sh .s);
       vote = voteLength (sh .c);
@@ -54,12 +54,12 @@ pub record Marks (sh : Shape) (p : Places) : Type 0 where
   pub votes : p .votes ≡ startOf sh atVotes
   pub draft : p .draft ≡ startOf sh atDraft
   pub replies : p .replies ≡ startOf sh atReplies
-  pub end : p .end ≡ startOf sh atEnd
+  pub end : p .end ≡ startOf sh (atEnd sh)
   pub table : p .table ≡ tableLength (sh .c)
   pub note : p .note ≡ noteLength (sh .s)
   pub vote : p .vote ≡ voteLength (sh .c)
   pub reply : p .reply ≡ replyLength (sh .c)
-  pub small : startOf sh atEnd ≤ 2187586
+  pub small : startOf sh (atEnd sh) ≤ longest
 
 -- a shape in range, as plain facts
 pub record Fits (sh : Shape) : Type 0 where

@@ -16,7 +16,7 @@ ghost use Rattle.rules.specs.Image.{stateLength, tableLength, voteLength, reply
 ghost use Rattle.rules.specs.Image.{atGVec, atHeard, atLog, atReplies, atVotes};
 ghost use Rattle.entries.specs.Table.{Table};
 ghost use Rattle.notes.specs.Notes.{notesAt, Notes};
-ghost use Rattle.places.specs.Layout.{startOf, Marks, Fits, PlaceAt, Sized, Midway};
+ghost use Rattle.places.specs.Layout.{longest, startOf, Marks, Fits, PlaceAt, Sized, Midway};
 
 // Where each section begins after the head, where the last ends, and how long a table, a note, a vote and a reply are.
 pub struct Places {
@@ -356,7 +356,7 @@ pub fn log_length(shape: Shape, state: &[u8]) -> usize
 // Where entry i of the log stands.
 pub fn log_place(shape: Shape, i: usize) -> usize
     requires { ⌜ Fits shape × (i < shape .c) ⌝ }
-    ensures { λ r. ⌜ (r ≡ startOf shape atLog + (4 + 24 * i)) × (r + 24 ≤ stateLength shape) × (r ≤ 2187586) ⌝ }
+    ensures { λ r. ⌜ (r ≡ startOf shape atLog + (4 + 24 * i)) × (r + 24 ≤ stateLength shape) × (r ≤ longest) ⌝ }
 {
     places_of(shape).log + (4 + 24 * i)
 }

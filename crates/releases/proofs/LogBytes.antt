@@ -14,7 +14,7 @@ use Rattle.rules.specs.Entry.{noEntry, entryOf}
 use Rattle.rules.specs.Wire.{entryBytes}
 use Rattle.rules.specs.Read.{entryAt}
 use Rattle.rules.specs.State.{State}
-use Rattle.rules.specs.Image.{tableLength, lengths, stateLength, tableBytes, sections, stateOf, atEarly, atLog}
+use Rattle.rules.specs.Image.{tableLength, lengths, stateLength, tableBytes, sections, stateOf, atEarly, atLog, atEnd}
 use Rattle.rules.specs.Digest.{basis, digestFrom, digest}
 use Rattle.rules.specs.declared.Entry.{Entry}
 use Rattle.rules.specs.declared.Shape.{Shape}
@@ -23,8 +23,8 @@ use Rattle.rules.proofs.Tables.{flat-long}
 use Rattle.rules.proofs.Digest.{digest-next}
 use Rattle.rules.proofs.Tests.{at-all}
 use Rattle.rules.proofs.Choice.{all-drop}
-use Rattle.places.specs.Layout.{startOf}
-use Rattle.places.proofs.Sections.{Laid, midway-laid, get-in}
+use Rattle.places.specs.Layout.{longest, startOf, Midway}
+use Rattle.places.proofs.Sections.{midway-laid, get-in}
 use Rattle.places.proofs.Rows.{within, get-row}
 use Rattle.releases.specs.Releasing.{Releasing, Reaches, logging}
 
@@ -64,29 +64,29 @@ module _ (c : ℕ) (es : List Entry) where
 
 -- ---- in a state
 
-module _ {sh : Shape} {st : State} {b : List ℕ} (l : Laid sh st b) where
+module _ {sh : Shape} {st : State} {b : List ℕ} (g : Midway sh st b) where
   -- in the table of section k
-  in-section : (k at end i : ℕ) (es : List Entry) → k < 10 → getD (sections sh st) k [] ≡ tableBytes (sh .c) es → getD (lengths sh) k 0 ≡ tableLength (sh .c) → length es ≤ sh .c
+  in-section : (k at end i : ℕ) (es : List Entry) → k < atEnd sh → getD (sections sh st) k [] ≡ tableBytes (sh .c) es → getD (lengths sh) k 0 ≡ tableLength (sh .c) → length es ≤ sh .c
       → at ≡ startOf sh k + (4 + 24 * i) → end ≡ at + 24 → i < length es → take (end - at) (drop at b) ≡ entryBytes (entryOf es i)
   unfolding part
   in-section k at end i es hk hs hl r e q h =
       let z : end - at ≡ 24 = omega arith in
       let w : 24 * i + 24 ≤ 24 * length es = within 24 i (length es) h in
-      rw z (get-in l k (4 + 24 * i) at 24 hk e (omega arith) ∙ ap (λ (x : List ℕ). part x (4 + 24 * i) 24) hs ∙ entry-in (sh .c) es i h)
+      rw z (get-in (midway-laid g) k (4 + 24 * i) at 24 hk e (omega arith) ∙ ap (λ (x : List ℕ). part x (4 + 24 * i) 24) hs ∙ entry-in (sh .c) es i h)
 
-  pub log-entry : length (st .logged .log) ≤ sh .c → (at end i : ℕ) → at ≡ startOf sh atLog + (4 + 24 * i) → end ≡ at + 24 → i < length (st .logged .log) → take (end - at) (drop at b) ≡ entryBytes (entryOf (st .logged .log) i)
-  log-entry r at end i = in-section 3 at end i (st .logged .log) (lit< tt) refl refl r
+  pub log-entry : (at end i : ℕ) → at ≡ startOf sh atLog + (4 + 24 * i) → end ≡ at + 24 → i < length (st .logged .log) → take (end - at) (drop at b) ≡ entryBytes (entryOf (st .logged .log) i)
+  log-entry at end i = in-section 3 at end i (st .logged .log) (lit< tt) refl refl (g .holds .log .room)
 
-  pub early-entry : length (st .waiting .early) ≤ sh .c → (at end i : ℕ) → at ≡ startOf sh atEarly + (4 + 24 * i) → end ≡ at + 24 → i < length (st .waiting .early) → take (end - at) (drop at b) ≡ entryBytes (entryOf (st .waiting .early) i)
-  early-entry r at end i = in-section 4 at end i (st .waiting .early) (lit< tt) refl refl r
+  pub early-entry : (at end i : ℕ) → at ≡ startOf sh atEarly + (4 + 24 * i) → end ≡ at + 24 → i < length (st .waiting .early) → take (end - at) (drop at b) ≡ entryBytes (entryOf (st .waiting .early) i)
+  early-entry at end i = in-section 4 at end i (st .waiting .early) (lit< tt) refl refl (g .holds .early .room)
 
   -- the log from place n on
-  pub log-rest : length (st .logged .log) ≤ sh .c → (n k at m : ℕ) → n + k ≡ length (st .logged .log) → at ≡ startOf sh atLog + (4 + 24 * n) → m ≡ 24 * k → take m (drop at b) ≡ flat entryBytes (drop n (st .logged .log))
+  pub log-rest : (n k at m : ℕ) → n + k ≡ length (st .logged .log) → at ≡ startOf sh atLog + (4 + 24 * n) → m ≡ 24 * k → take m (drop at b) ≡ flat entryBytes (drop n (st .logged .log))
   unfolding part
-  log-rest r n k at m h e q = rw q (get-in l 3 (4 + 24 * n) at (24 * k) (lit< tt) e (omega arith) ∙ rest-in (sh .c) (st .logged .log) n k h)
+  log-rest n k at m h e q = rw q (get-in (midway-laid g) 3 (4 + 24 * n) at (24 * k) (lit< tt) e (omega (arith, g .holds .log .room)) ∙ rest-in (sh .c) (st .logged .log) n k h)
 
 -- where an entry of early stands
-pub early-within : (sh : Shape) (p i : ℕ) → p ≡ startOf sh atEarly → i < sh .c → stateLength sh ≤ 2187586 → (p + (4 + 24 * i) ≡ startOf sh atEarly + (4 + 24 * i)) × (p + (4 + 24 * i) + 24 ≤ stateLength sh) × (p + (4 + 24 * i) ≤ 2187586)
+pub early-within : (sh : Shape) (p i : ℕ) → p ≡ startOf sh atEarly → i < sh .c → stateLength sh ≤ longest → (p + (4 + 24 * i) ≡ startOf sh atEarly + (4 + 24 * i)) × (p + (4 + 24 * i) + 24 ≤ stateLength sh) × (p + (4 + 24 * i) ≤ longest)
 early-within sh p i e l s = let w : 24 * i + 24 ≤ 24 * sh .c = within 24 i (sh .c) l in (omega arith, omega arith, omega arith)
 
 -- ---- the digest
@@ -94,7 +94,7 @@ early-within sh p i e l s = let w : 24 * i + 24 ≤ 24 * sh .c = within 24 i (sh
 module _ {sh : Shape} {b : List ℕ} (m : Releasing sh b) where
   pub digest-is : (at end r : ℕ) → at ≡ startOf sh atLog + 4 → end ≡ at + 24 * length (stateOf sh b .logged .log) → r ≡ digestFrom basis (take (end - at) (drop at b)) → r ≡ digest (stateOf sh b .logged .log)
   unfolding digest
-  digest-is at end r e z q = q ∙ ap (digestFrom basis) (log-rest (midway-laid (m .midway)) (m .midway .holds .log .room) 0 (length (stateOf sh b .logged .log)) at (end - at) (omega arith) (omega arith) (omega arith))
+  digest-is at end r e z q = q ∙ ap (digestFrom basis) (log-rest (m .midway) 0 (length (stateOf sh b .logged .log)) at (end - at) (omega arith) (omega arith) (omega arith))
 
   -- run on over the entry that was appended
   pub digest-runs : {b′ : List ℕ} (d : Entry) (at end i sum r : ℕ) → Reaches sh (logging (stateOf sh b) d) b′ → i ≡ length (stateOf sh b .logged .log) → sum ≡ digest (stateOf sh b .logged .log)
@@ -104,7 +104,7 @@ module _ {sh : Shape} {b : List ℕ} (m : Releasing sh b) where
       let y : stateOf sh b′ .logged .log ≡ log ++ (d ∷ []) = ap (λ (x : State). x .logged .log) (w .is) in
       let long : length (stateOf sh b′ .logged .log) ≡ length log + 1 = ap length y ∙ simp length-append in
       let last : entryOf (stateOf sh b′ .logged .log) i ≡ d = ap (λ (es : List Entry). entryOf es i) y ∙ last-of log d i hi in
-      q ∙ ap (digestFrom sum) (log-entry (midway-laid (w .releasing .midway)) (w .releasing .midway .holds .log .room) at end i e z (omega arith) ∙ ap entryBytes last) ∙ ap (λ (h : ℕ). digestFrom h (entryBytes d)) hs ∙ sym (digest-next log d)
+      q ∙ ap (digestFrom sum) (log-entry (w .releasing .midway) at end i e z (omega arith) ∙ ap entryBytes last) ∙ ap (λ (h : ℕ). digestFrom h (entryBytes d)) hs ∙ sym (digest-next log d)
     where
       last-of : (log : List Entry) (d : Entry) (i : ℕ) → i ≡ length log → entryOf (log ++ (d ∷ [])) i ≡ d
       last-of log d i h = let z : i ≡ length log + 0 = omega arith in rw z (getD-append-add log (d ∷ []) 0 noEntry)
@@ -119,6 +119,6 @@ module _ {sh : Shape} {b : List ℕ} (m : Releasing sh b) where
     unfolding splice
     copied end t u z l q =
         let es : List Entry = drop n (stateOf sh b .logged .log) in
-        let w : take (end - at) (drop at b) ≡ flat entryBytes es = log-rest (midway-laid (m .midway)) (m .midway .holds .log .room) n k at (end - at) h e (omega arith) in
+        let w : take (end - at) (drop at b) ≡ flat entryBytes es = log-rest (m .midway) n k at (end - at) h e (omega arith) in
         let y : length es ≡ k = length-drop n (stateOf sh b .logged .log) ∙ omega arith in
         back-all entry u 0 k es _ (all-drop EntryFits n (stateOf sh b .logged .log) (m .midway .holds .log .each)) (sym y) (q ∙ ap (splice t 0) w)

@@ -26,15 +26,15 @@ pub record Reaches (sh : Shape) (st : State) (b : List ℕ) : Type 0 where
 
 -- with one entry more at the end of the log
 abbrev pub logging : State → Entry → State
-logging st e = withLogged (record { log = st .logged .log ++ (e ∷ []); sync = st .logged .sync; commit = st .logged .commit }) st
+logging st e = withLogged (st .logged .log ++ (e ∷ [])) (st .logged .sync) (st .logged .commit) st
 
 -- without these transactions in early
 abbrev pub earlyLeft : State → List Entry → State
-earlyLeft st gone = withWaiting (record { early = without gone (st .waiting .early); late = st .waiting .late; notes = st .waiting .notes }) st
+earlyLeft st gone = withWaiting (without gone (st .waiting .early)) (st .waiting .late) (st .waiting .notes) st
 
 -- without their notes
 abbrev pub notesLeft : State → List Entry → State
-notesLeft st gone = withWaiting (record { early = st .waiting .early; late = st .waiting .late; notes = notesWithout gone (st .waiting .notes) }) st
+notesLeft st gone = withWaiting (st .waiting .early) (st .waiting .late) (notesWithout gone (st .waiting .notes)) st
 
 -- from the state in b, once the entries of its log from place n on left early, and their notes went
 abbrev pub Cleared : Shape → List ℕ → ℕ → List ℕ → Type 0

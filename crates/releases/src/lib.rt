@@ -19,7 +19,7 @@ ghost use Rattle.notes.specs.Notes.{Notes};
 ghost use Rattle.early.specs.Due.{Reached};
 ghost use Rattle.early.specs.Listed.{listedIn, Lookup};
 ghost use Rattle.lookups.specs.Rows.{NoteRows};
-ghost use Rattle.places.specs.Layout.{startOf, Fits};
+ghost use Rattle.places.specs.Layout.{longest, startOf, Fits};
 ghost use Rattle.releases.specs.Waiting.{Waiting, runIn};
 ghost use Rattle.releases.specs.Releasing.{Releasing, Reaches, logging, earlyLeft, notesLeft, Cleared};
 
@@ -266,7 +266,7 @@ pub fn leave_released(shape: Shape, state: &mut [u8], n: usize, k: usize, slots:
 // Where entry i of early stands.
 pub fn early_place(shape: Shape, i: usize) -> usize
     requires { ⌜ Fits shape × (i < shape .c) ⌝ }
-    ensures { λ r. ⌜ (r ≡ startOf shape atEarly + (4 + 24 * i)) × (r + 24 ≤ stateLength shape) × (r ≤ 2187586) ⌝ }
+    ensures { λ r. ⌜ (r ≡ startOf shape atEarly + (4 + 24 * i)) × (r + 24 ≤ stateLength shape) × (r ≤ longest) ⌝ }
 {
     places::places_of(shape).early + (4 + 24 * i)
 }

@@ -193,7 +193,7 @@ module _ (sh : Shape) (b msg out : List ℕ) (m : Message) (h : Header) (r : Rea
           pub reply-kept : (b′ : List ℕ) → k + 1 < sh .s - 1 → b′ ≡ splice b (startOf sh atReplies + replyLength (sh .c) * from) (replyBytes (sh .c) (some es)) → quiet b′ out ≡ handled 19 onVerifyReply sh m b msg out
           reply-kept b′ l x =
               let y = put-reply (stands-laid (r .stands)) from es (even-replies (stands-midway (r .stands))) fits from-below x in
-              let d : withChange (record { votes = st .change .votes; draft = st .change .draft; boundary = st .change .boundary; replies = with }) st ≡ changing st 3 (st .change .votes) (st .change .draft) (st .change .boundary) with = ap (λ (v : ℕ). changing st v (st .change .votes) (st .change .draft) (st .change .boundary) with) status-is in
+              let d : withChange (st .change .votes) (st .change .draft) (st .change .boundary) with st ≡ changing st 3 (st .change .votes) (st .change .draft) (st .change .boundary) with = ap (λ (v : ℕ). changing st v (st .change .votes) (st .change .draft) (st .change .boundary) with) status-is in
               let t = changing st 3 (st .change .votes) (st .change .draft) (st .change .boundary) with in
               sym (by-rule (done t []) (waits sh st w from es from-is entries-are new fits (omega (arith, held-with))) ∙ closes-quiet sh b out t ∙ ap (λ (v : List ℕ). quiet v out) (sym (y .bytes ∙ ap (image sh) d)))
 

@@ -15,7 +15,6 @@ use Rattle.rules.specs.State.{Note, State, withWaiting, noted, agreed, greatest
 use Rattle.rules.specs.Read.{entryAt}
 use Rattle.rules.specs.Image.{tableAt, image, stateOf}
 use Rattle.rules.specs.Early.{lifted}
-use Rattle.rules.specs.Step.{buffered}
 use Rattle.rules.specs.declared.Entry.{Entry}
 use Rattle.rules.specs.declared.Shape.{Shape}
 use Rattle.rules.proofs.Choice.{all-map, any-none, pairs-append}
@@ -45,7 +44,7 @@ module _ (xs ys : List Note) (x : Entry) (j : ℕ) (p : Point) (e : xs ≡ ys) (
 
 -- a state with these early entries
 abbrev pub earlyIn : State → List Entry → State
-earlyIn st es = withWaiting (record { early = es; late = st .waiting .late; notes = st .waiting .notes }) st
+earlyIn st es = withWaiting es (st .waiting .late) (st .waiting .notes) st
 
 module _ {sh : Shape} {st : State} {b : List ℕ} (m : Midway sh st b) (o : distinct (st .waiting .early) ≡ true) (t : List ℕ) (g : Table (sh .c) t) (e : tableAt (sh .c) t 0 ≡ st .waiting .early) (x : Entry) (n i : ℕ) (q : n ≡ num t 0 4) (f : i ≡ findRow (λ j. entryAt t (4 + 24 * j)) (x .request) (x .coordinator) n) where
   held : Holds (sh .c) (st .waiting .early) t
@@ -97,9 +96,9 @@ module _ {sh : Shape} {b : List ℕ} (st : State) (es : List Entry) (m : Midway 
 
 -- ---- a note kept, and the early entry lifted by it
 
-module _ {sh : Shape} {b : List ℕ} (st : State) (xs : List Note) (m : Midway sh (withWaiting (record { early = st .waiting .early; late = st .waiting .late; notes = xs }) st) b) where
+module _ {sh : Shape} {b : List ℕ} (st : State) (xs : List Note) (m : Midway sh (withWaiting (st .waiting .early) (st .waiting .late) xs st) b) where
   pub still-once : distinct (st .waiting .early) ≡ true → distinct (stateOf sh b .waiting .early) ≡ true
   still-once o = ap (λ (x : State). distinct (x .waiting .early)) (midway-is m) ∙ o
 
-  pub kept-lifted : (e : Entry) (b′ : List ℕ) → Midway sh (earlyIn (stateOf sh b) (lifted sh (stateOf sh b .waiting .notes) e (stateOf sh b .waiting .early))) b′ → b′ ≡ image sh (buffered st (lifted sh xs e (st .waiting .early)) (st .waiting .late) xs)
+  pub kept-lifted : (e : Entry) (b′ : List ℕ) → Midway sh (earlyIn (stateOf sh b) (lifted sh (stateOf sh b .waiting .notes) e (stateOf sh b .waiting .early))) b′ → b′ ≡ image sh (withWaiting (lifted sh xs e (st .waiting .early)) (st .waiting .late) xs st)
   kept-lifted e b′ k = k .bytes ∙ ap (λ (x : State). image sh (earlyIn x (lifted sh (x .waiting .notes) e (x .waiting .early)))) (midway-is m)

@@ -72,7 +72,7 @@ fn put_early(shape: Shape, state: &mut [u8], i: usize, d: Entry)
     requires { ⌜ Midway shape (stateOf shape (now state)) (now state) × (i < length (stateOf shape (now state) .waiting .early)) ⌝ }
     ensures { λ _. ⌜ (let st = stateOf shape (now (state .entry)) in
         let early = set (st .waiting .early) i d in
-        Midway shape (withWaiting (record { early = early; late = st .waiting .late; notes = st .waiting .notes }) st) (now (state .exit))) ⌝ }
+        Midway shape (withWaiting early (st .waiting .late) (st .waiting .notes) st) (now (state .exit))) ⌝ }
 {
     let layout = places::places_of(shape);
     let start = layout.early;
@@ -85,7 +85,7 @@ pub fn lift(shape: Shape, state: &mut [u8], e: Entry)
     requires { ⌜ Midway shape (stateOf shape (now state)) (now state) × (log.distinct (stateOf shape (now state) .waiting .early) ≡ true) ⌝ }
     ensures { λ _. ⌜ (let st = stateOf shape (now (state .entry)) in
         let early = lifted shape (st .waiting .notes) e (st .waiting .early) in
-        Midway shape (withWaiting (record { early = early; late = st .waiting .late; notes = st .waiting .notes }) st) (now (state .exit))) ⌝ }
+        Midway shape (withWaiting early (st .waiting .late) (st .waiting .notes) st) (now (state .exit))) ⌝ }
 {
     let c = shape.c as usize;
     let s = shape.s as usize;

@@ -15,12 +15,12 @@ use Rattle.rules.specs.Early.{staysEarly, notesWithout}
 use Rattle.rules.specs.Image.{tableLength, noteLength, tableBytes, image, atEarly, atLate, atLog, atNotes}
 use Rattle.rules.specs.declared.Entry.{Entry}
 use Rattle.rules.specs.declared.Shape.{Shape}
-use Rattle.rules.proofs.Tables.{TableFits, table-long}
+use Rattle.rules.proofs.Tables.{table-long}
 use Rattle.entries.proofs.Table.{hold}
 use Rattle.notes.specs.Notes.{notesAt, NotesHold, Notes}
 use Rattle.notes.proofs.Notes.{decoded, is-notes}
-use Rattle.places.specs.Layout.{startOf, Fits, Stands}
-use Rattle.places.proofs.Sections.{Laid, stands-fits, stands-laid}
+use Rattle.places.specs.Layout.{startOf, Midway, Stands}
+use Rattle.places.proofs.Sections.{Laid, midway-laid, stands-fits, stands-midway}
 use Rattle.places.proofs.Tables as tables
 use Rattle.places.proofs.Head.{put-sync}
 use Rattle.places.proofs.Lent.{notes-lent, notes-home}
@@ -30,38 +30,40 @@ use Rattle.syncs.specs.Takes.{lateBy, syncedBy}
 use Rattle.early.proofs.Buffers as buffers
 use Rattle.syncs.proofs.Rule.{stays-is, late-is, late-long}
 
-module _ {sh : Shape} {st : State} {b : List ℕ} (l : Laid sh st b) (at n : ℕ) (e : at ≡ startOf sh atEarly) (m : n ≡ tableLength (sh .c) + tableLength (sh .c)) where
+module _ {sh : Shape} {st : State} {b : List ℕ} (g : Midway sh st b) (at n : ℕ) (e : at ≡ startOf sh atEarly) (m : n ≡ tableLength (sh .c) + tableLength (sh .c)) where
   -- late begins where early ends
   next : startOf sh atLate ≡ startOf sh atEarly + tableLength (sh .c)
   next = omega arith
 
   both-bytes : take n (drop at b) ≡ tableBytes (sh .c) (st .waiting .early) ++ tableBytes (sh .c) (st .waiting .late)
   unfolding part
-  both-bytes = rw (e, m) (part-add b (startOf sh atEarly) (tableLength (sh .c)) (tableLength (sh .c)) ∙ ap₂ _++_ (tables.early-part l) (ap (λ (a : ℕ). part b a (tableLength (sh .c))) (sym next) ∙ tables.late-part l))
+  both-bytes = rw (e, m) (part-add b (startOf sh atEarly) (tableLength (sh .c)) (tableLength (sh .c)) ∙ ap₂ _++_ (tables.early-part (midway-laid g)) (ap (λ (a : ℕ). part b a (tableLength (sh .c))) (sym next) ∙ tables.late-part (midway-laid g)))
 
-  pub both-lent : Fits sh → TableFits (sh .c) (st .waiting .early) → TableFits (sh .c) (st .waiting .late) → BothHold (sh .c) (st .waiting .early) (st .waiting .late) (take n (drop at b))
-  both-lent s fe fl =
+  pub both-lent : BothHold (sh .c) (st .waiting .early) (st .waiting .late) (take n (drop at b))
+  both-lent =
+      let fe = g .holds .early in
+      let fl = g .holds .late in
       let x : List ℕ = tableBytes (sh .c) (st .waiting .early) in
       let y : List ℕ = tableBytes (sh .c) (st .waiting .late) in
       let lx : length x ≡ 4 + 24 * sh .c = table-long (sh .c) (st .waiting .early) (fe .room) in
       let ly : length y ≡ 4 + 24 * sh .c = table-long (sh .c) (st .waiting .late) (fl .room) in
       rw both-bytes (record {
-        early = hold (sh .c) (st .waiting .early) _ (take-at x y (4 + 24 * sh .c) lx) (fe .room) (s .small) (fe .each);
-        late = hold (sh .c) (st .waiting .late) _ (drop-at x y (4 + 24 * sh .c) lx) (fl .room) (s .small) (fl .each);
+        early = hold (sh .c) (st .waiting .early) _ (take-at x y (4 + 24 * sh .c) lx) (fe .room) (g .fits .small) (fe .each);
+        late = hold (sh .c) (st .waiting .late) _ (drop-at x y (4 + 24 * sh .c) lx) (fl .room) (g .fits .small) (fl .each);
         size = length-append x y ∙ ap₂ _+_ lx ly;
       })
 
-  pub both-home : (es ls : List Entry) (x : List ℕ) → BothHold (sh .c) es ls x → startOf sh atNotes ≤ length b → Laid sh (withWaiting (record { early = es; late = ls; notes = st .waiting .notes }) st) (take at b ++ (x ++ drop n (drop at b)))
-  both-home es ls x h w =
+  pub both-home : (es ls : List Entry) (x : List ℕ) → BothHold (sh .c) es ls x → Laid sh (withWaiting es ls (st .waiting .notes) st) (take at b ++ (x ++ drop n (drop at b)))
+  both-home es ls x h =
       let u : List ℕ = tableBytes (sh .c) es in
       let v : List ℕ = tableBytes (sh .c) ls in
       let lu : length u ≡ tableLength (sh .c) = table-long (sh .c) es (h .early .room) in
       let z : x ≡ u ++ v = sym (take-append-drop (4 + 24 * sh .c) x) ∙ ap₂ _++_ (h .early .bytes) (h .late .bytes) in
       let a : startOf sh atLate ≡ startOf sh atEarly + length u = next ∙ ap (λ (k : ℕ). startOf sh atEarly + k) (sym lu) in
-      let g : take at b ++ (x ++ drop n (drop at b)) ≡ splice (splice b (startOf sh atEarly) u) (startOf sh atLate) v
+      let w : take at b ++ (x ++ drop n (drop at b)) ≡ splice (splice b (startOf sh atEarly) u) (startOf sh atLate) v
       = splice-home b at n x (h .size ∙ sym m)
-      ∙ rw (e, z, a) (sym (splice-splice-next b (startOf sh atEarly) u v (omega (arith, lu)))) in
-      tables.put-late (tables.put-early l es (h .early .room) refl) ls (h .late .room) g
+      ∙ rw (e, z, a) (sym (splice-splice-next b (startOf sh atEarly) u v (omega (arith, lu, g .size)))) in
+      tables.put-late (tables.put-early (midway-laid g) es (h .early .room) refl) ls (h .late .room) w
 
 -- ---- the buffers, the notes, the log and the sync point
 
@@ -70,7 +72,7 @@ module _ {sh : Shape} {st : State} {b : List ℕ} (s : Stands sh st b) (log : Li
   lent = take n (drop at b)
 
   both : BothHold (sh .c) (st .waiting .early) (st .waiting .late) lent
-  both = both-lent (stands-laid s) at n e m (s .fits) (stands-fits s .early) (stands-fits s .late)
+  both = both-lent (stands-midway s) at n e m
 
   pub is-both : Both (sh .c) lent
   is-both = buffers.is-both both
@@ -88,11 +90,10 @@ module _ {sh : Shape} {st : State} {b : List ℕ} (s : Stands sh st b) (log : Li
     abbrev b₁ : List ℕ
     b₁ = take at b ++ (x ++ drop n (drop at b))
 
-    laid₁ : Laid sh (withWaiting (record { early = staysEarly log (st .waiting .early); late = lateBy st log; notes = st .waiting .notes }) st) b₁
+    laid₁ : Laid sh (withWaiting (staysEarly log (st .waiting .early)) (lateBy st log) (st .waiting .notes) st) b₁
     laid₁ =
-        both-home (stands-laid s) at n e m (staysEarly log (st .waiting .early)) (lateBy st log) x
+        both-home (stands-midway s) at n e m (staysEarly log (st .waiting .early)) (lateBy st log) x
         (rw (buffers.early-is both, buffers.late-is both, hl, stays-is log (st .waiting .early), late-is st log) at k)
-        (omega (arith, s .size))
 
     module _ (at₂ n₂ : ℕ) (e₂ : at₂ ≡ startOf sh atNotes) (m₂ : n₂ ≡ 4 + noteLength (sh .s) * sh .c) where
       noted : NotesHold (sh .c) (sh .s) (st .waiting .notes) (take n₂ (drop at₂ b₁))

@@ -87,7 +87,7 @@ module _ (st : State) (time : ℕ) where
 
   -- with the first i of them at the end of the log
   abbrev pub longer : ℕ → State
-  longer i = withLogged (record { log = st .logged .log ++ take i dues; sync = st .logged .sync; commit = st .logged .commit }) st
+  longer i = withLogged (st .logged .log ++ take i dues) (st .logged .sync) (st .logged .commit) st
 
   pub longer-start : longer 0 ≡ st
   longer-start = rw (append-nil (st .logged .log))
@@ -96,7 +96,7 @@ module _ (st : State) (time : ℕ) where
   longer-log i l = append-assoc (st .logged .log) (take i dues) (entryOf dues i ∷ []) ∙ rw add-one (ap (λ (x : List Entry). st .logged .log ++ x) (sym (take-suc dues i noEntry l)))
 
   pub longer-next : (i : ℕ) → i < length dues → logging (longer i) (entryOf dues i) ≡ longer (i + 1)
-  longer-next i l = ap (λ (es : List Entry). withLogged (record { log = es; sync = st .logged .sync; commit = st .logged .commit }) st) (longer-log i l)
+  longer-next i l = ap (λ (es : List Entry). withLogged es (st .logged .sync) (st .logged .commit) st) (longer-log i l)
 
   -- those that are new in it
   pub longer-rest : (n i : ℕ) → n ≡ length (st .logged .log) → drop n (longer i .logged .log) ≡ take i dues

@@ -79,7 +79,7 @@ module _ {sh : Shape} {b : List ℕ} (m : Releasing sh b) where
   -- ---- an entry that is placed
   module _ (from end n : ℕ) (hf : from ≡ startOf sh atLog + (4 + 24 * n)) (he : end ≡ from + 24) (hn : n < length (stateOf sh b .logged .log)) where
     placed-bytes : take (end - from) (drop from b) ≡ entryBytes (entryOf (stateOf sh b .logged .log) n)
-    placed-bytes = log-entry (midway-laid (m .midway)) (m .midway .holds .log .room) from end n hf he hn
+    placed-bytes = log-entry (m .midway) from end n hf he hn
 
     pub placed-room : (at L : ℕ) → at + lengthFor (sh .s) 5 1 ≤ L
         → Sized sh b × (24 * (length (take (end - from) (drop from b)) / 24) ≡ length (take (end - from) (drop from b))) × (length (take (end - from) (drop from b)) ≤ 98304) × (at + (24 + 4 * sh .s + 8 * 3 + length (take (end - from) (drop from b))) ≤ L)
@@ -96,7 +96,7 @@ module _ {sh : Shape} {b : List ℕ} (m : Releasing sh b) where
   -- ---- one that is not
   module _ (from end i time : ℕ) (hf : from ≡ startOf sh atEarly + (4 + 24 * i)) (he : end ≡ from + 24) (hi : i < length (stateOf sh b .waiting .early)) where
     unplaced-bytes : take (end - from) (drop from b) ≡ entryBytes (entryOf (stateOf sh b .waiting .early) i)
-    unplaced-bytes = early-entry (midway-laid (m .midway)) (m .midway .holds .early .room) from end i hf he hi
+    unplaced-bytes = early-entry (m .midway) from end i hf he hi
 
     pub unplaced-room : (L : ℕ) → lengthFor (sh .s) 5 1 ≤ L
         → Sized sh b × (24 * (length (take (end - from) (drop from b)) / 24) ≡ length (take (end - from) (drop from b))) × (length (take (end - from) (drop from b)) ≤ 98304) × (0 + (24 + 4 * sh .s + 8 * 3 + length (take (end - from) (drop from b))) ≤ L)
@@ -114,7 +114,7 @@ module _ {sh : Shape} {b : List ℕ} (m : Releasing sh b) where
   -- ---- the log, to all followers
   module _ (from end : ℕ) (hf : from ≡ startOf sh atLog + 4) (he : end ≡ from + 24 * length (stateOf sh b .logged .log)) where
     whole-bytes : take (end - from) (drop from b) ≡ flat entryBytes (stateOf sh b .logged .log)
-    whole-bytes = log-rest (midway-laid (m .midway)) (m .midway .holds .log .room) 0 (length (stateOf sh b .logged .log)) from (end - from) (omega arith) (omega arith) (omega arith)
+    whole-bytes = log-rest (m .midway) 0 (length (stateOf sh b .logged .log)) from (end - from) (omega arith) (omega arith) (omega arith)
 
     pub log-room : (at L : ℕ) → at + lengthFor (sh .s) 4 (length (stateOf sh b .logged .log)) ≤ L
         → Sized sh b × (24 * (length (take (end - from) (drop from b)) / 24) ≡ length (take (end - from) (drop from b))) × (length (take (end - from) (drop from b)) ≤ 98304) × (at + (24 + 4 * sh .s + 8 * 0 + length (take (end - from) (drop from b))) ≤ L)

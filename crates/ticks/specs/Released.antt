@@ -15,7 +15,7 @@ use Rattle.releases.specs.Releasing.{Reaches}
 
 -- at a time, with a sync point
 abbrev pub settledAt : State → ℕ → ℕ → State
-settledAt st time sync = withLogged (record { log = st .logged .log; sync = sync; commit = st .logged .commit }) (atTime time st)
+settledAt st time sync = withLogged (st .logged .log) sync (st .logged .commit) (atTime time st)
 
 -- from the state in b, once the first k entries due by a time are released: the state, and the replies, which end at r
 pub record Released (sh : Shape) (b out : List ℕ) (time k r : ℕ) (b′ out′ : List ℕ) : Type 0 where

@@ -31,9 +31,9 @@ begun-in b b₁ b₂ b₃ b₄ b₅ view len old commit e q w₁ w₂ w₃ w₄ 
 -- the numbers of a view that starts, with its log or another's
 abbrev numbered : State → ℕ → List ℕ → ℕ → List Entry → State
 numbered st view gVec len log =
-    inView (record { gView = st .view .gView; gVec = gVec; normal = view; status = 1 })
-    (withLogged (record { log = log; sync = len; commit = min (st .logged .commit) len })
-    (withChange (record { votes = st .change .votes; draft = st .change .draft; boundary = 0; replies = st .change .replies }) st))
+    inView (st .view .gView) gVec view 1
+    (withLogged log len (min (st .logged .commit) len)
+    (withChange (st .change .votes) (st .change .draft) 0 (st .change .replies) st))
 
 module _ {sh : Shape} {st : State} {b : List ℕ} (l : Laid sh st b) where
   head-begun : {b′ : List ℕ} (view len : ℕ) → st .logged .commit < 256 ^ 8 → b′ ≡ begunIn b view len → Laid sh (numbered st view (st .view .gVec) len (st .logged .log)) b′
@@ -46,7 +46,7 @@ module _ {sh : Shape} {st : State} {b : List ℕ} (l : Laid sh st b) where
 
 -- with the old tables still, and the old log or the new
 abbrev unheard : Shape → State → ℕ → List ℕ → ℕ → List Entry → State
-unheard sh st view gVec len log = withHeard (noneHeard sh) (inView (record { gView = view; gVec = gVec; normal = view; status = 1 }) (numbered st view gVec len log))
+unheard sh st view gVec len log = withHeard (noneHeard sh) (inView view gVec view 1 (numbered st view gVec len log))
 
 module _ {sh : Shape} {st : State} {b : List ℕ} (s : Stands sh st b) (view : ℕ) (msg : List ℕ) (bs : Bytes msg) (h : 16 + 4 * sh .s ≤ length msg) (es : List Entry) (r : length es ≤ sh .c) where
   -- before the log is written, and after it

@@ -11,13 +11,13 @@ use Rattle.rules.specs.State.{State}
 use Rattle.rules.specs.Image.{replyLength, lengths, stateLength, zeroBytes, headSection, sections, image, atEarly, atReplies}
 use Rattle.rules.specs.declared.Shape.{Shape}
 use Rattle.rules.proofs.Image.{length-total}
-use Rattle.places.specs.Layout.{startOf, Fits}
+use Rattle.places.specs.Layout.{longest, startOf, Fits}
 use Rattle.places.proofs.Sections.{Laid, lay, products, state-small}
 use Rattle.places.proofs.Zeros.{concat-zeros, long-zeros, table-zeros, notes-zeros, votes-zeros, replies-zeros}
 use Rattle.views.specs.Views.{emptied, tablesLength}
 
 -- the last of the tables ends where the state may go on
-pub tables-end : (sh : Shape) (early replies reply : ℕ) → Fits sh → early ≡ startOf sh atEarly → replies ≡ startOf sh atReplies → reply ≡ replyLength (sh .c) → (reply * sh .s ≤ 786472) × (replies + reply * sh .s ≡ startOf sh atEarly + tablesLength sh) × (replies + reply * sh .s ≤ stateLength sh) × (replies ≤ 2187586)
+pub tables-end : (sh : Shape) (early replies reply : ℕ) → Fits sh → early ≡ startOf sh atEarly → replies ≡ startOf sh atReplies → reply ≡ replyLength (sh .c) → (reply * sh .s ≤ replyLength 4096 * 8) × (replies + reply * sh .s ≡ startOf sh atEarly + tablesLength sh) × (replies + reply * sh .s ≤ stateLength sh) × (replies ≤ longest)
 tables-end sh early replies reply f e r k =
     let p : reply * sh .s ≡ replyLength (sh .c) * sh .s = ap (λ (x : ℕ). x * sh .s) k in
     (omega (arith, products sh f), omega arith, omega arith, omega (arith, state-small sh f))

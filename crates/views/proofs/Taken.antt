@@ -32,6 +32,6 @@ pub taken-in : (sh : Shape) (b b₁ b₂ msg : List ℕ) (view : ℕ) → b₁ �
 taken-in sh b b₁ b₂ msg view w₁ w₂ = w₂ ∙ rw w₁
 
 module _ {sh : Shape} {st : State} {b : List ℕ} (l : Laid sh st b) where
-  pub view-taken : {b′ : List ℕ} (view : ℕ) (msg : List ℕ) → Bytes msg → 16 + 4 * sh .s ≤ length msg → b′ ≡ takenIn sh b view msg → Laid sh (inView (record { gView = view; gVec = viewsOf sh msg; normal = st .view .normal; status = st .view .status }) st) b′
+  pub view-taken : {b′ : List ℕ} (view : ℕ) (msg : List ℕ) → Bytes msg → 16 + 4 * sh .s ≤ length msg → b′ ≡ takenIn sh b view msg → Laid sh (inView view (viewsOf sh msg) (st .view .normal) (st .view .status) st) b′
   view-taken view msg bs h w =
       put-views (put-view l view refl) (viewsOf sh msg) (views-long sh msg) (w ∙ ap (splice (splice b 8 (le 4 view)) (startOf sh atGVec)) (views-in msg 16 (sh .s) bs h))

@@ -5,7 +5,7 @@ use mathlib.Core.List.{List, []}
 use lib.ListN.{take, drop, replicate}
 use Rattle.octets.specs.Bytes.{le, num, part, splice, items}
 use Rattle.octets.specs.Sections.{total}
-use Rattle.rules.specs.State.{withWaiting, withChange, noneWait, State}
+use Rattle.rules.specs.State.{withWaiting, withChange, State}
 use Rattle.rules.specs.Image.{lengths, atGVec, atEarly}
 use Rattle.rules.specs.declared.Shape.{Shape}
 use Rattle.places.specs.Layout.{startOf}
@@ -17,8 +17,8 @@ viewsOf sh msg = items (λ a. num msg a 4) 4 16 (sh .s)
 -- early, late, notes, votes, draft and replies empty
 abbrev pub emptied : Shape → State → State
 emptied sh st =
-    withWaiting noneWait
-    (withChange (record { votes = replicate (sh .n) none; draft = []; boundary = st .change .boundary; replies = replicate (sh .s) none }) st)
+    withWaiting [] [] []
+    (withChange (replicate (sh .n) none) [] (st .change .boundary) (replicate (sh .s) none) st)
 
 -- how many bytes early, late, notes, votes, draft and replies have
 abbrev pub tablesLength : Shape → ℕ

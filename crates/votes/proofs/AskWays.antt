@@ -15,7 +15,7 @@ use Rattle.rules.specs.Group.{holds, only, leader}
 use Rattle.rules.specs.Wire.{Wire, wireBytes}
 use Rattle.rules.specs.Read.{lengthFor}
 use Rattle.rules.specs.State.{Vote, State}
-use Rattle.rules.specs.Image.{tableAt, stateOf}
+use Rattle.rules.specs.Image.{tableAt, image, stateOf}
 use Rattle.rules.specs.Step.{sends, sendLeader, otherGroups, changing}
 use Rattle.rules.specs.Bytes.{Left, leaves, closes}
 use Rattle.rules.specs.declared.Entry.{Entry}
@@ -23,8 +23,7 @@ use Rattle.rules.specs.declared.Shape.{Shape}
 use Rattle.rules.proofs.Choice.{all-given}
 use Rattle.entries.specs.Table.{Table}
 use Rattle.places.specs.Layout.{Stands}
-use Rattle.places.proofs.Sections.{Laid}
-use Rattle.places.proofs.Sections.{stands-fits, stands-laid}
+use Rattle.places.proofs.Sections.{Laid, stands-fits, stands-laid}
 use Rattle.handler.specs.Sending.{othersIn, leaderBytes}
 use Rattle.handler.proofs.Closes.{closes-sent, closes-tight}
 use Rattle.handler.proofs.Rows.{sends-length}
@@ -33,7 +32,7 @@ use Rattle.handler.proofs.Leaders.{all-others, others-are, verifies-sent}
 use Rattle.ballots.specs.Ballots.{votesIn}
 use Rattle.ballots.specs.declared.Cast.{Cast}
 use Rattle.votes.specs.Votes.{Brought, cameTo, keptIn, draftedIn, asksAll}
-use Rattle.votes.proofs.Came.{Comes, comes, drafted}
+use Rattle.votes.proofs.Came.{Comes, comes, kept-laid, drafted}
 
 -- the other groups of a mask, by the own one
 abbrev othersOf : Shape → ℕ → ℕ → List ℕ
@@ -88,9 +87,9 @@ module _ (sh : Shape) (b msg : List ℕ) (view : ℕ) (k : Cast) (g : Brought sh
   pub ask-short : (need : ℕ) → need ≡ lengthFor (sh .s) 18 0 → length out < need * count → leaves 9 b out ≡ outcome
   ask-short need e l = sym (closes-tight sh b out next sent-all (rw (long need e) l))
 
-  module _ (need : ℕ) (e : need ≡ lengthFor (sh .s) 18 0) (l : need * count ≤ length out) (b₁ b₂ : List ℕ) (kept : Laid sh (keptIn sh b msg view k) b₁) (w : b₂ ≡ draftedIn sh b₁ draft boundary) where
+  module _ (need : ℕ) (e : need ≡ lengthFor (sh .s) 18 0) (l : need * count ≤ length out) (b₁ b₂ : List ℕ) (kept : b₁ ≡ image sh (keptIn sh b msg view k)) (w : b₂ ≡ draftedIn sh b₁ draft boundary) where
     next-laid : Laid sh next b₂
-    next-laid = drafted kept draft boundary (h .room) w
+    next-laid = drafted (kept-laid sh b msg view k g bs v kept) draft boundary (h .room) w
 
     next-sender : Sender sh next
     next-sender = let s = come .sends in record { group = s .group; replica = s .replica; view = s .view; places = s .places; gVec = s .gVec }

@@ -1,11 +1,11 @@
 -- The state in the view of a vote: entered, or as it stands; with the vote kept, and with a draft. Assumes nothing.
-use Prim.Native.Nat.{ℕ, zero, suc, _+_, _*_, _^_, _≤_, _<_}
+use Prim.Native.Nat.{ℕ, _+_, _*_, _^_, _≤_, _<_}
 use mathlib.Core.Path.{_≡_, refl, sym, ap, subst, _∙_}
 use mathlib.Core.Bool.{Bool, true, false, not}
 use mathlib.Core.Option.{Option, none, some}
 use mathlib.Core.List.{List}
 use native.Mathlib.Omega.{arith}
-use lib.ListN.{length, set, replicate, length-replicate}
+use lib.ListN.{length, set, replicate}
 use borrow.Author.Tests.{not-true, not-false}
 use Rattle.octets.specs.Bytes.{le, num, splice, items}
 use Rattle.octets.proofs.Laws.{Bytes}
@@ -30,7 +30,7 @@ use Rattle.handler.proofs.Own.{replica-below}
 use Rattle.handler.proofs.Sends.{Sender, sender}
 use Rattle.views.specs.Views.{viewsOf}
 use Rattle.changes.specs.Changes.{enteredBy}
-use Rattle.changes.proofs.Entered.{entered-laid, entered-sender}
+use Rattle.changes.proofs.Entered.{even-none, entered-laid, entered-sender}
 use Rattle.changes.proofs.Started.{table-row}
 use Rattle.ballots.specs.Ballots.{sentLog, votesIn}
 use Rattle.ballots.specs.declared.Cast.{Cast}
@@ -40,13 +40,6 @@ use Rattle.votes.specs.Votes.{Brought, cameTo, voting, keptIn, draftedIn
 -- the vote that the message brings
 abbrev pub said : List ℕ → Cast → Vote
 said msg k = record { normal = k .normal; sync = k .sync; log = sentLog msg (k .at) }
-
--- ---- the votes of a state that entered
-
-even-none : (c n : ℕ) → Even (voteBytes c) (voteLength c) (replicate n none)
-unfolding voteBytes
-even-none c zero = tt
-even-none c (suc n) = (length-replicate {A = ℕ} (voteLength c) 0, even-none c n)
 
 -- ---- what is known of the state in the vote's view
 
@@ -117,14 +110,19 @@ module _ (sh : Shape) (b msg : List ℕ) (view : ℕ) (k : Cast) (g : Brought sh
 
     -- ---- the vote kept
 
-    pub kept : (b₁ b₂ : List ℕ) (at number normal : ℕ) → b₁ ≡ image sh (cameTo sh b msg view (k .entering)) → at ≡ k .at → number ≡ num msg at 4 → normal ≡ k .normal
-        → b₂ ≡ splice b₁ (startOf sh atVotes + voteLength (sh .c) * k .sender) (voteBytes (sh .c) (some (record { normal = normal; sync = k .sync; log = items (entryAt msg) 24 (at + 4) number }))) → Laid sh (keptIn sh b msg view k) b₂
-    kept b₁ b₂ at number normal i a n m w =
-        let q = comes in
+    laid-kept : {b₁ b₂ : List ℕ} → b₁ ≡ image sh (cameTo sh b msg view (k .entering)) → b₂ ≡ splice b₁ (startOf sh atVotes + voteLength (sh .c) * k .sender) (voteBytes (sh .c) (some (said msg k))) → Laid sh (keptIn sh b msg view k) b₂
+    laid-kept {b₁} {b₂} i w =
         let r : length (sentLog msg (k .at)) ≤ sh .c = omega (arith, g .given .room, length-items (entryAt msg) 24 (k .at + 4) (num msg (k .at) 4)) in
-        let w′ : b₂ ≡ splice b₁ (startOf sh atVotes + voteLength (sh .c) * k .sender) (voteBytes (sh .c) (some (said msg k))) = w ∙ rw (n, a, m) in
-        subst (λ (vs : List (Option Vote)). Laid sh (voting (cameTo sh b msg view (k .entering)) vs) b₂) (q .votes)
-        (put-vote (q .laid b₁ i) (k .sender) (said msg k) (q .even) r (g .given .sent .sender) w′)
+        subst (λ (vs : List (Option Vote)). Laid sh (voting (cameTo sh b msg view (k .entering)) vs) b₂) (comes .votes)
+        (put-vote (comes .laid b₁ i) (k .sender) (said msg k) (comes .even) r (g .given .sent .sender) w)
+
+    -- its bytes
+    pub kept-laid : {b′ : List ℕ} → b′ ≡ image sh (keptIn sh b msg view k) → Laid sh (keptIn sh b msg view k) b′
+    kept-laid e = laid-as (laid-kept refl refl) e
+
+    pub kept : (b₁ b₂ : List ℕ) (at number normal : ℕ) → b₁ ≡ image sh (cameTo sh b msg view (k .entering)) → at ≡ k .at → number ≡ num msg at 4 → normal ≡ k .normal
+        → b₂ ≡ splice b₁ (startOf sh atVotes + voteLength (sh .c) * k .sender) (voteBytes (sh .c) (some (record { normal = normal; sync = k .sync; log = items (entryAt msg) 24 (at + 4) number }))) → b₂ ≡ image sh (keptIn sh b msg view k)
+    kept b₁ b₂ at number normal i a n m w = laid-kept i (w ∙ rw (n, a, m)) .bytes
 
 -- ---- the view
 
@@ -143,5 +141,5 @@ pub draft-taken : (sh : Shape) (b b₁ b₂ b₃ t : List ℕ) (draft number bou
 draft-taken sh b b₁ b₂ b₃ t draft number boundary h d n w₁ w₂ w₃ = rw (w₃, w₂, w₁, d, table-row (sh .c) t number h n)
 
 module _ {sh : Shape} {st : State} {b : List ℕ} (l : Laid sh st b) where
-  pub drafted : {b′ : List ℕ} (es : List Entry) (boundary : ℕ) → length es ≤ sh .c → b′ ≡ draftedIn sh b es boundary → Laid sh (inView (record { gView = st .view .gView; gVec = st .view .gVec; normal = st .view .normal; status = 3 }) (withChange (record { votes = st .change .votes; draft = es; boundary = boundary; replies = st .change .replies }) st)) b′
+  pub drafted : {b′ : List ℕ} (es : List Entry) (boundary : ℕ) → length es ≤ sh .c → b′ ≡ draftedIn sh b es boundary → Laid sh (inView (st .view .gView) (st .view .gVec) (st .view .normal) 3 (withChange (st .change .votes) es boundary (st .change .replies) st)) b′
   drafted es boundary r w = put-status (put-boundary (put-draft l es r refl) boundary refl) 3 w

@@ -29,7 +29,6 @@ use Rattle.rules.specs.declared.Message.the-variants as cases
 use Rattle.rules.proofs.Choice.{by-cases, pick-true, pick-false, and-left, and-right, or-cases, clash}
 use Rattle.rules.proofs.Tests.{same-true}
 use Rattle.rules.proofs.KeptMessage.{view-wide, vote-parts}
-use Rattle.places.proofs.Sections.{Laid}
 use Rattle.places.proofs.Sections.{stands-fits, stands-midway}
 use Rattle.places.proofs.Head.{view-of}
 use Rattle.handler.specs.Handler.{Ready, handled}
@@ -278,11 +277,11 @@ module _ (sh : Shape) (b msg out : List ℕ) (m : Message) (h : Header) (normal 
               let x : k .sender < length (here .change .votes) = omega (arith, places-long, vote-sender .sender) in
               c ∙ sym held-here ∙ sym (held-more (here .change .votes) (k .sender) (said msg k) x first)
 
-          pub vote-few : (b′ : List ℕ) → total < most → Laid sh (keptIn sh b msg (h .view) k) b′ → quiet b′ out ≡ outcome
+          pub vote-few : (b′ : List ℕ) → total < most → b′ ≡ image sh (keptIn sh b msg (h .view) k) → quiet b′ out ≡ outcome
           vote-few b′ u i =
               let next = changing here 2 (with-it sh here (k .sender) (said msg k)) (here .change .draft) (here .change .boundary) (here .change .replies) in
               let z : next ≡ keptIn sh b msg (h .view) k = rw (come .votes, ← come .status) in
-              sym (by-rule (done next []) (few sh here (k .sender) (said msg k) first (omega (arith, log-long)) (omega (arith, count-is))) ∙ closes-quiet sh b out next ∙ ap (λ (x : State). quiet (image sh x) out) z ∙ ap (λ (x : List ℕ). quiet x out) (sym (i .bytes)))
+              sym (by-rule (done next []) (few sh here (k .sender) (said msg k) first (omega (arith, log-long)) (omega (arith, count-is))) ∙ closes-quiet sh b out next ∙ ap (λ (x : State). quiet (image sh x) out) z ∙ ap (λ (x : List ℕ). quiet x out) (sym i))
 
           pub vote-enough : (left : Left) → most ≤ total → left ≡ closes sh b out (concludes sh here (votesIn sh b msg k)) → left ≡ outcome
           vote-enough left u z =

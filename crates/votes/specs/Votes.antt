@@ -44,7 +44,7 @@ cameTo sh b msg view entering = pick entering (enteredBy sh (stateOf sh b) view 
 
 -- with these votes kept
 abbrev pub voting : State → List (Option Vote) → State
-voting st votes = withChange (record { votes = votes; draft = st .change .draft; boundary = st .change .boundary; replies = st .change .replies }) st
+voting st votes = withChange votes (st .change .draft) (st .change .boundary) (st .change .replies) st
 
 -- with the vote kept
 abbrev pub keptIn : Shape → List ℕ → List ℕ → ℕ → Cast → State

@@ -21,7 +21,6 @@ ghost use Rattle.rules.specs.Step.{onVote};
 ghost use Rattle.rules.specs.Bytes.{left, closes};
 ghost use Rattle.entries.specs.Table.{Table};
 ghost use Rattle.places.specs.Layout.{Sized, Stands};
-ghost use Rattle.places.proofs.Sections.{Laid};
 ghost use Rattle.handler.specs.Handler.{Ready, handled};
 ghost use Rattle.handler.specs.Sending.{othersIn, leaderBytes};
 ghost use Rattle.ballots.specs.Ballots.{votesIn, Sent};
@@ -65,7 +64,7 @@ fn come_to(shape: Shape, state: &mut [u8], view: u32, message: &[u8], entering: 
 // Keeps the vote under its sender's number, in its view.
 fn keep_vote(shape: Shape, state: &mut [u8], message: &[u8], cast: Cast)
     requires { ⌜ Brought shape (now state) (now message) (cast .view) cast ⌝ }
-    ensures { λ _. ⌜ Laid shape (keptIn shape (now (state .entry)) (now (message .entry)) (cast .view) cast) (now (state .exit)) ⌝ }
+    ensures { λ _. ⌜ now (state .exit) ≡ image shape (keptIn shape (now (state .entry)) (now (message .entry)) (cast .view) cast) ⌝ }
 {
     let at = cast.at;
     let number = octets::get32(message, at) as usize;

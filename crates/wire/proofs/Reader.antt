@@ -22,7 +22,8 @@ use Rattle.rules.specs.declared.Verdict.{Verdict}
 use Rattle.rules.specs.declared.Verdict.the-variants.{Fine, Wrong}
 use Rattle.rules.proofs.Tests.{sizes}
 use Rattle.rules.proofs.Verdicts.{verdict-ext}
-use Rattle.writer.specs.Said.{mostNumbers, padded}
+use Rattle.rules.proofs.EachKind.{mostNumbers}
+use Rattle.writer.specs.Said.{padded}
 use Rattle.wire.specs.Parts.{headerIn, numbersFrom, kindNumbers, partsIn, judgedAs}
 use Rattle.fields.specs.declared.Parts.{Parts}
 use Rattle.verdicts.specs.declared.Look.{Look}

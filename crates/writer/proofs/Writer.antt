@@ -6,6 +6,7 @@ use native.Mathlib.Omega.{arith}
 use native.Mathlib.Numerals.{add-one}
 use lib.ListN.{length, take, getD, replicate, length-append, length-replicate}
 use lib.Seq.{length-take-le, take-suc, take-at, take-all}
+use lib.Dec.{lit<}
 use Rattle.octets.specs.Bytes.{le, flat, items, num, splice}
 use Rattle.octets.specs.Sections.{concat}
 use Rattle.octets.proofs.Laws.{Bytes, length-le, splice-next, splice-none}
@@ -16,11 +17,11 @@ use Rattle.rules.specs.Read.{entryAt}
 use Rattle.rules.specs.Write.{wireFrom}
 use Rattle.rules.specs.declared.Header.{Header}
 use Rattle.rules.specs.declared.Message.{Message}
-use Rattle.rules.specs.declared.Message.the-variants.{WrongSizes, Malformed, Transaction, Note, ReplicaSync, FastReply, SlowReply, ChangeView, Vote, StartView, SyncStatus, Commit, VerifyRequest, VerifyReply, Tick}
 use Rattle.rules.proofs.Entries.{exact-entry}
-use Rattle.rules.proofs.Case.{block-of}
+use Rattle.rules.proofs.Case.{few-numbers, block-of}
 use Rattle.writer.specs.declared.Said.{Said}
-use Rattle.writer.specs.Said.{mostNumbers, saidFirst, saidNext, saidOf, numbersSaid, bareWire, sizeOf, Room}
+use Rattle.rules.proofs.EachKind.{mostNumbers}
+use Rattle.writer.specs.Said.{saidFirst, saidNext, saidOf, numbersSaid, bareWire, sizeOf, Room}
 
 -- y is written where x ends
 next : (b : List ℕ) (at j i : ℕ) (x y m e : List ℕ) → at + j ≤ length b → length x ≡ j → i ≡ at + j → m ≡ splice b at x → e ≡ splice m i y → e ≡ splice b at (x ++ y)
@@ -65,38 +66,41 @@ long-eights (x ∷ xs) = length-append (le 8 x) (flat (le 8) xs) ∙ omega (arit
 
 -- ---- what a case says
 
-pub count-first : (k : ℕ) (h : Header) (p : Said) → p ≡ saidFirst k h → p .count ≡ 0
-count-first k h p e = ap (λ (q : Said). q .count) e
-
-pub count-next : (p r : Said) (x : ℕ) → r ≡ saidNext p x → r .count ≡ p .count + 1
-unfolding saidNext
-count-next p r x e = ap (λ (q : Said). q .count) e
-
-pub next-is : (p q r : Said) (x : ℕ) → p ≡ q → r ≡ saidNext p x → r ≡ saidNext q x
-next-is p q r x e f = f ∙ ap (λ (t : Said). saidNext t x) e
-
-few-numbers : (m : Message) → length (numbersOf m) ≤ mostNumbers
-few-numbers WrongSizes = omega arith
-few-numbers (Malformed at) = omega arith
-few-numbers (Transaction h x y) = omega arith
-few-numbers (Note h) = omega arith
-few-numbers (ReplicaSync h) = omega arith
-few-numbers (FastReply h x y z) = omega arith
-few-numbers (SlowReply h x) = omega arith
-few-numbers (ChangeView h) = omega arith
-few-numbers (Vote h x y) = omega arith
-few-numbers (StartView h) = omega arith
-few-numbers (SyncStatus h x) = omega arith
-few-numbers (Commit h x) = omega arith
-few-numbers (VerifyRequest h x) = omega arith
-few-numbers (VerifyReply h) = omega arith
-few-numbers (Tick h x) = omega arith
-
 -- what is known of the case of a message
-pub is-said : (m k : Message) (p : Said) → m ≡ k → p ≡ saidOf k → (p ≡ saidOf m) × (p .count ≡ length (numbersOf m)) × (p .count ≤ mostNumbers)
-is-said m k p e f =
-    let s : p ≡ saidOf m = f ∙ sym (ap saidOf e) in
-    (s, ap (λ (q : Said). q .count) s, rw s (few-numbers m))
+pub count-said : (m : Message) (p : Said) → p ≡ saidOf m → p .count ≡ length (numbersOf m)
+count-said m p s = ap (λ (q : Said). q .count) s
+
+pub few-said : (m : Message) (p : Said) → p ≡ saidOf m → p .count ≤ mostNumbers
+few-said m p s = rw s (few-numbers m)
+
+-- by how many numbers it has: what it says, and that there is room for one more
+module _ (m c : Message) (e : m ≡ c) (k : ℕ) (h : Header) (p : Said) (f : p ≡ saidFirst k h) where
+  pub said-none : saidFirst k h ≡ saidOf c → p ≡ saidOf m
+  said-none s = f ∙ s ∙ sym (ap saidOf e)
+
+  module _ (x : ℕ) (p₁ : Said) (f₁ : p₁ ≡ saidNext p x) where
+    pub said-one : saidNext (saidFirst k h) x ≡ saidOf c → p₁ ≡ saidOf m
+    said-one s = f₁ ∙ rw f s ∙ sym (ap saidOf e)
+
+    module _ (y : ℕ) (p₂ : Said) (f₂ : p₂ ≡ saidNext p₁ y) where
+      pub said-two : saidNext (saidNext (saidFirst k h) x) y ≡ saidOf c → p₂ ≡ saidOf m
+      said-two s = f₂ ∙ rw (f₁, f) s ∙ sym (ap saidOf e)
+
+      pub said-three : (z : ℕ) (p₃ : Said) → p₃ ≡ saidNext p₂ z → saidNext (saidNext (saidNext (saidFirst k h) x) y) z ≡ saidOf c → p₃ ≡ saidOf m
+      said-three z p₃ f₃ s = f₃ ∙ rw (f₂, f₁, f) s ∙ sym (ap saidOf e)
+
+module _ (k : ℕ) (h : Header) (p : Said) (f : p ≡ saidFirst k h) where
+  pub room-first : p .count < mostNumbers
+  room-first = rw f (lit< tt)
+
+  module _ (x : ℕ) (p₁ : Said) (f₁ : p₁ ≡ saidNext p x) where
+    pub room-second : p₁ .count < mostNumbers
+    unfolding saidNext
+    room-second = rw (f₁, f) (lit< tt)
+
+    pub room-third : (y : ℕ) (p₂ : Said) → p₂ ≡ saidNext p₁ y → p₂ .count < mostNumbers
+    unfolding saidNext
+    room-third y p₂ f₂ = rw (f₂, f₁, f) (lit< tt)
 
 -- ---- the numbers
 

@@ -5,13 +5,10 @@ use mathlib.Core.List.{List, [], _++_}
 use lib.ListN.{length, take, set, replicate}
 use Rattle.rules.specs.Wire.{Wire, tagOf, numbersOf}
 use Rattle.rules.specs.Wire as Wires
+use Rattle.rules.proofs.EachKind.{mostNumbers}
 use Rattle.rules.specs.declared.Header.{Header}
 use Rattle.rules.specs.declared.Message.{Message}
 use Rattle.writer.specs.declared.Said.{Said}
-
--- how many numbers a case has at most
-abbrev pub mostNumbers : ℕ
-mostNumbers = 3
 
 -- a case with no numbers yet, and with one more
 abbrev pub saidFirst : ℕ → Header → Said

@@ -6,7 +6,8 @@ ghost use lib.ListN.{length};
 ghost use Rattle.octets.specs.Bytes.{le, flat, splice};
 ghost use Rattle.rules.specs.Wire.{headBytes, wireBytes, numbersOf};
 ghost use Rattle.rules.specs.Write.{wireFrom};
-ghost use Rattle.writer.specs.Said.{mostNumbers, saidFirst, saidNext, saidOf, bareWire, Room};
+ghost use Rattle.rules.proofs.EachKind.{mostNumbers};
+ghost use Rattle.writer.specs.Said.{saidFirst, saidNext, saidOf, bareWire, Room};
 use rules::Header;
 use rules::Message;
 

@@ -16,7 +16,7 @@ enum-known-m : tie.Need-enum-known-m
 enum-known-m c = search needs
 
 returns : tie.Need-returns
-returns c = handled-other 1 onTransaction _ _ _ _ _ (not-tag 2 1 (c .before .before .before .before .args .m) refl refl (c .match .keys2) tt)
+returns c = handled-other 1 onTransaction _ _ _ _ _ (not-tag 1 (c .before .before .before .before .args .m) refl (c .match .keys2) tt)
 
 first-entry-requires : tie.Need-first-entry-requires
 unfolding rowOf

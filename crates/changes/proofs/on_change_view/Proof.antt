@@ -14,7 +14,7 @@ enum-known-m : tie.Need-enum-known-m
 enum-known-m c = search needs
 
 returns : tie.Need-returns
-returns c = handled-other 7 onChangeView _ _ _ _ _ (not-tag 7 7 (c .before .before .before .before .args .m) refl refl (c .match .keys2) tt)
+returns c = handled-other 7 onChangeView _ _ _ _ _ (not-tag 7 (c .before .before .before .before .args .m) refl (c .match .keys2) tt)
 
 leads-by-requires : tie.Need-leads-by-requires
 leads-by-requires c κs = (c .before .before .before .before .before .before .before .pre .stands, change-room _ _ _ (c .before .before .before .before .before .before .before .args .out .now) _ _ (c .before .before .before .before .before .before .before .pre) (c .before .before .m .given .1))

@@ -13,7 +13,7 @@ enum-known-m : tie.Need-enum-known-m
 enum-known-m c = search needs
 
 returns : tie.Need-returns
-returns c = handled-other 9 onStartView _ _ _ _ _ (not-tag 9 9 (c .before .before .before .before .args .m) refl refl (c .match .keys2) tt)
+returns c = handled-other 9 onStartView _ _ _ _ _ (not-tag 9 (c .before .before .before .before .args .m) refl (c .match .keys2) tt)
 
 entries-at-requires : tie.Need-entries-at-requires
 entries-at-requires c κs = search needs

@@ -13,7 +13,7 @@ enum-known-m : tie.Need-enum-known-m
 enum-known-m c = search needs
 
 returns : tie.Need-returns
-returns c = handled-other 11 onCommit _ _ _ _ _ (not-tag 11 11 (c .before .before .before .before .args .m) refl refl (c .match .keys2) tt)
+returns c = handled-other 11 onCommit _ _ _ _ _ (not-tag 11 (c .before .before .before .before .args .m) refl (c .match .keys2) tt)
 
 get-commit-requires : tie.Need-get-commit-requires
 get-commit-requires c κs = search needs

@@ -14,7 +14,7 @@ enum-known-m : tie.Need-enum-known-m
 enum-known-m c = search needs
 
 returns : tie.Need-returns
-returns c = handled-other 10 onSyncStatus _ _ _ _ _ (not-tag 10 10 (c .before .before .before .before .args .m) refl refl (c .match .keys2) tt)
+returns c = handled-other 10 onSyncStatus _ _ _ _ _ (not-tag 10 (c .before .before .before .before .args .m) refl (c .match .keys2) tt)
 
 cast-from : tie.Need-cast-from
 cast-from c = search needs

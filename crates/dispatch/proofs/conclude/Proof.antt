@@ -27,7 +27,7 @@ same-length-4 : tie.Need-same-length-4
 same-length-4 c = search needs
 
 returns : tie.Need-returns
-returns c = other-vote _ (c .before .before .before .before .before .before .before .before .before .before .before .before .before .before .before .before .before .before .before .args .m) _ (c .before .before .before .before .before .before .before .before .before .before .before .before .before .before .before .before .before .before .before .args .message .now) _ _ (not-tag 13 19 (c .before .before .before .before .before .before .before .before .before .before .before .before .before .before .before .before .before .before .before .args .m) refl refl (c .before .before .before .before .before .before .before .before .before .before .before .before .before .match .keys2) tt) (c .before .before .before .before .before .before .before .before .on-vote .ensures)
+returns c = other-vote _ (c .before .before .before .before .before .before .before .before .before .before .before .before .before .before .before .before .before .before .before .args .m) _ (c .before .before .before .before .before .before .before .before .before .before .before .before .before .before .before .before .before .before .before .args .message .now) _ _ (not-tag 19 (c .before .before .before .before .before .before .before .before .before .before .before .before .before .before .before .before .before .before .before .args .m) refl (c .before .before .before .before .before .before .before .before .before .before .before .before .before .match .keys2) tt) (c .before .before .before .before .before .before .before .before .on-vote .ensures)
 
 on-verify-reply-requires : tie.Need-on-verify-reply-requires
 on-verify-reply-requires c κs = search needs

@@ -15,7 +15,7 @@ enum-known-m : tie.Need-enum-known-m
 enum-known-m c = search needs
 
 returns : tie.Need-returns
-returns c = handled-other 19 onVerifyReply _ _ _ _ _ (not-tag 13 19 (c .before .before .before .before .before .before .args .m) refl refl (c .match .keys2) tt)
+returns c = handled-other 19 onVerifyReply _ _ _ _ _ (not-tag 19 (c .before .before .before .before .before .before .args .m) refl (c .match .keys2) tt)
 
 cast-from : tie.Need-cast-from
 cast-from c = search needs

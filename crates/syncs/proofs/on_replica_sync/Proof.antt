@@ -14,7 +14,7 @@ enum-told : tie.Need-enum-told
 enum-told c = search needs
 
 returns : tie.Need-returns
-returns c = handled-other 4 onReplicaSync _ _ _ _ _ (not-tag 4 4 (c .before .before .before .before .before .args .m) refl refl (c .match .keys2) tt)
+returns c = handled-other 4 onReplicaSync _ _ _ _ _ (not-tag 4 (c .before .before .before .before .before .args .m) refl (c .match .keys2) tt)
 
 entries-at-requires : tie.Need-entries-at-requires
 entries-at-requires c κs = c .before .before .before .before .before .before .pre .stands .fits .few

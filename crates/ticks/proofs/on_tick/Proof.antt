@@ -14,7 +14,7 @@ enum-known-m : tie.Need-enum-known-m
 enum-known-m c = search needs
 
 returns : tie.Need-returns
-returns c = handled-other 23 onTick _ _ _ _ _ (not-tag 14 23 (c .before .before .before .before .before .args .m) refl refl (c .match .keys2) tt)
+returns c = handled-other 23 onTick _ _ _ _ _ (not-tag 23 (c .before .before .before .before .before .args .m) refl (c .match .keys2) tt)
 
 get-clock-requires : tie.Need-get-clock-requires
 get-clock-requires c κs = search needs

@@ -17,7 +17,7 @@ enum-known-m : tie.Need-enum-known-m
 enum-known-m c = search needs
 
 returns : tie.Need-returns
-returns c = handled-other 18 onVerifyRequest _ _ _ _ _ (not-tag 12 18 (c .before .before .before .before .args .m) refl refl (c .match .keys2) tt)
+returns c = handled-other 18 onVerifyRequest _ _ _ _ _ (not-tag 18 (c .before .before .before .before .args .m) refl (c .match .keys2) tt)
 
 cast-asker : tie.Need-cast-asker
 cast-asker c = search needs

@@ -14,7 +14,7 @@ enum-known-m : tie.Need-enum-known-m
 enum-known-m c = search needs
 
 returns : tie.Need-returns
-returns c = handled-other 8 onVote _ _ _ _ _ (not-tag 8 8 (c .before .before .before .before .before .before .args .m) refl refl (c .match .keys2) tt)
+returns c = handled-other 8 onVote _ _ _ _ _ (not-tag 8 (c .before .before .before .before .before .before .args .m) refl (c .match .keys2) tt)
 
 cast-if3 : tie.Need-cast-if3
 cast-if3 c = search needs

@@ -1,9 +1,7 @@
 -- `writer::said_of` meets its contract. Assumes nothing.
 -- Made by tools/answers from the file `answers` beside it: change that one.
-use mathlib.Core.Path.{refl}
-use native.Mathlib.Omega.{arith}
 use Rattle.writer.specs.Said.{saidNext}
-use Rattle.writer.proofs.Writer.{count-first, count-next, next-is, is-said}
+use Rattle.writer.proofs.Writer.{count-said, few-said, said-none, said-one, said-two, said-three, room-first, room-second, room-third}
 use borrow.Author.Needs.{needs}
 use Rattle.writer.proofs.said_of.Statement.{statement}
 use Rattle.writer.proofs.said_of.Tie as tie
@@ -27,10 +25,10 @@ told-requires-3 : tie.Need-told-requires-3
 told-requires-3 c κs = search needs
 
 and-number-requires : tie.Need-and-number-requires
-and-number-requires c κs = omega (arith, count-first _ _ _ (c .told3 .ensures))
+and-number-requires c κs = search (room-first, room-second, room-third)
 
 and-number-requires-2 : tie.Need-and-number-requires-2
-and-number-requires-2 c κs = omega (arith, count-first _ _ _ (c .before .told3 .ensures), count-next _ _ _ (c .and-number .ensures))
+and-number-requires-2 c κs = search (room-first, room-second, room-third)
 
 enum-known-m-2 : tie.Need-enum-known-m-2
 enum-known-m-2 c = search needs
@@ -51,13 +49,13 @@ told-requires-6 : tie.Need-told-requires-6
 told-requires-6 c κs = search needs
 
 and-number-requires-3 : tie.Need-and-number-requires-3
-and-number-requires-3 c κs = omega (arith, count-first _ _ _ (c .told6 .ensures))
+and-number-requires-3 c κs = search (room-first, room-second, room-third)
 
 and-number-requires-4 : tie.Need-and-number-requires-4
-and-number-requires-4 c κs = omega (arith, count-first _ _ _ (c .before .told6 .ensures), count-next _ _ _ (c .and-number3 .ensures))
+and-number-requires-4 c κs = search (room-first, room-second, room-third)
 
 and-number-requires-5 : tie.Need-and-number-requires-5
-and-number-requires-5 c κs = omega (arith, count-first _ _ _ (c .before .before .told6 .ensures), count-next _ _ _ (c .before .and-number3 .ensures), count-next _ _ _ (c .and-number4 .ensures))
+and-number-requires-5 c κs = search (room-first, room-second, room-third)
 
 enum-known-m-5 : tie.Need-enum-known-m-5
 enum-known-m-5 c = search needs
@@ -66,7 +64,7 @@ told-requires-7 : tie.Need-told-requires-7
 told-requires-7 c κs = search needs
 
 and-number-requires-6 : tie.Need-and-number-requires-6
-and-number-requires-6 c κs = omega (arith, count-first _ _ _ (c .told7 .ensures))
+and-number-requires-6 c κs = search (room-first, room-second, room-third)
 
 enum-known-m-6 : tie.Need-enum-known-m-6
 enum-known-m-6 c = search needs
@@ -81,10 +79,10 @@ told-requires-9 : tie.Need-told-requires-9
 told-requires-9 c κs = search needs
 
 and-number-requires-7 : tie.Need-and-number-requires-7
-and-number-requires-7 c κs = omega (arith, count-first _ _ _ (c .told9 .ensures))
+and-number-requires-7 c κs = search (room-first, room-second, room-third)
 
 and-number-requires-8 : tie.Need-and-number-requires-8
-and-number-requires-8 c κs = omega (arith, count-first _ _ _ (c .before .told9 .ensures), count-next _ _ _ (c .and-number7 .ensures))
+and-number-requires-8 c κs = search (room-first, room-second, room-third)
 
 enum-known-m-8 : tie.Need-enum-known-m-8
 enum-known-m-8 c = search needs
@@ -99,7 +97,7 @@ told-requires-11 : tie.Need-told-requires-11
 told-requires-11 c κs = search needs
 
 and-number-requires-9 : tie.Need-and-number-requires-9
-and-number-requires-9 c κs = omega (arith, count-first _ _ _ (c .told11 .ensures))
+and-number-requires-9 c κs = search (room-first, room-second, room-third)
 
 enum-known-m-10 : tie.Need-enum-known-m-10
 enum-known-m-10 c = search needs
@@ -108,7 +106,7 @@ told-requires-12 : tie.Need-told-requires-12
 told-requires-12 c κs = search needs
 
 and-number-requires-10 : tie.Need-and-number-requires-10
-and-number-requires-10 c κs = omega (arith, count-first _ _ _ (c .told12 .ensures))
+and-number-requires-10 c κs = search (room-first, room-second, room-third)
 
 enum-known-m-11 : tie.Need-enum-known-m-11
 enum-known-m-11 c = search needs
@@ -117,7 +115,7 @@ told-requires-13 : tie.Need-told-requires-13
 told-requires-13 c κs = search needs
 
 and-number-requires-11 : tie.Need-and-number-requires-11
-and-number-requires-11 c κs = omega (arith, count-first _ _ _ (c .told13 .ensures))
+and-number-requires-11 c κs = search (room-first, room-second, room-third)
 
 enum-known-m-12 : tie.Need-enum-known-m-12
 enum-known-m-12 c = search needs
@@ -132,67 +130,67 @@ told-requires-15 : tie.Need-told-requires-15
 told-requires-15 c κs = search needs
 
 and-number-requires-12 : tie.Need-and-number-requires-12
-and-number-requires-12 c κs = omega (arith, count-first _ _ _ (c .told15 .ensures))
+and-number-requires-12 c κs = search (room-first, room-second, room-third)
 
 returns : tie.Need-returns
 unfolding saidNext
-returns c = is-said _ _ _ (c .before .enum-told .given .1) (c .told .ensures)
+returns c = search (count-said, few-said (c .before .before .before .args .m), said-none, said-one, said-two, said-three)
 
 returns-2 : tie.Need-returns-2
 unfolding saidNext
-returns-2 c = is-said _ _ _ (c .before .enum-told2 .given .1) (c .told2 .ensures)
+returns-2 c = search (count-said, few-said (c .before .before .before .args .m), said-none, said-one, said-two, said-three)
 
 returns-3 : tie.Need-returns-3
 unfolding saidNext
-returns-3 c = is-said _ _ _ (c .before .before .before .before .m .given .1) (next-is _ _ _ _ (next-is _ _ _ _ (c .before .before .told3 .ensures) (c .before .and-number .ensures)) (c .and-number2 .ensures))
+returns-3 c = search (count-said, few-said (c .before .before .before .before .before .before .args .m), said-none, said-one, said-two, said-three)
 
 returns-4 : tie.Need-returns-4
 unfolding saidNext
-returns-4 c = is-said _ _ _ (c .before .before .m2 .given .1) (c .told4 .ensures)
+returns-4 c = search (count-said, few-said (c .before .before .before .before .args .m), said-none, said-one, said-two, said-three)
 
 returns-5 : tie.Need-returns-5
 unfolding saidNext
-returns-5 c = is-said _ _ _ (c .before .before .m3 .given .1) (c .told5 .ensures)
+returns-5 c = search (count-said, few-said (c .before .before .before .before .args .m), said-none, said-one, said-two, said-three)
 
 returns-6 : tie.Need-returns-6
 unfolding saidNext
-returns-6 c = is-said _ _ _ (c .before .before .before .before .before .m4 .given .1) (next-is _ _ _ _ (next-is _ _ _ _ (next-is _ _ _ _ (c .before .before .before .told6 .ensures) (c .before .before .and-number3 .ensures)) (c .before .and-number4 .ensures)) (c .and-number5 .ensures))
+returns-6 c = search (count-said, few-said (c .before .before .before .before .before .before .before .args .m), said-none, said-one, said-two, said-three)
 
 returns-7 : tie.Need-returns-7
 unfolding saidNext
-returns-7 c = is-said _ _ _ (c .before .before .before .m5 .given .1) (next-is _ _ _ _ (c .before .told7 .ensures) (c .and-number6 .ensures))
+returns-7 c = search (count-said, few-said (c .before .before .before .before .before .args .m), said-none, said-one, said-two, said-three)
 
 returns-8 : tie.Need-returns-8
 unfolding saidNext
-returns-8 c = is-said _ _ _ (c .before .before .m6 .given .1) (c .told8 .ensures)
+returns-8 c = search (count-said, few-said (c .before .before .before .before .args .m), said-none, said-one, said-two, said-three)
 
 returns-9 : tie.Need-returns-9
 unfolding saidNext
-returns-9 c = is-said _ _ _ (c .before .before .before .before .m7 .given .1) (next-is _ _ _ _ (next-is _ _ _ _ (c .before .before .told9 .ensures) (c .before .and-number7 .ensures)) (c .and-number8 .ensures))
+returns-9 c = search (count-said, few-said (c .before .before .before .before .before .before .args .m), said-none, said-one, said-two, said-three)
 
 returns-10 : tie.Need-returns-10
 unfolding saidNext
-returns-10 c = is-said _ _ _ (c .before .before .m8 .given .1) (c .told10 .ensures)
+returns-10 c = search (count-said, few-said (c .before .before .before .before .args .m), said-none, said-one, said-two, said-three)
 
 returns-11 : tie.Need-returns-11
 unfolding saidNext
-returns-11 c = is-said _ _ _ (c .before .before .before .m9 .given .1) (next-is _ _ _ _ (c .before .told11 .ensures) (c .and-number9 .ensures))
+returns-11 c = search (count-said, few-said (c .before .before .before .before .before .args .m), said-none, said-one, said-two, said-three)
 
 returns-12 : tie.Need-returns-12
 unfolding saidNext
-returns-12 c = is-said _ _ _ (c .before .before .before .m10 .given .1) (next-is _ _ _ _ (c .before .told12 .ensures) (c .and-number10 .ensures))
+returns-12 c = search (count-said, few-said (c .before .before .before .before .before .args .m), said-none, said-one, said-two, said-three)
 
 returns-13 : tie.Need-returns-13
 unfolding saidNext
-returns-13 c = is-said _ _ _ (c .before .before .before .m11 .given .1) (next-is _ _ _ _ (c .before .told13 .ensures) (c .and-number11 .ensures))
+returns-13 c = search (count-said, few-said (c .before .before .before .before .before .args .m), said-none, said-one, said-two, said-three)
 
 returns-14 : tie.Need-returns-14
 unfolding saidNext
-returns-14 c = is-said _ _ _ (c .before .before .m12 .given .1) (c .told14 .ensures)
+returns-14 c = search (count-said, few-said (c .before .before .before .before .args .m), said-none, said-one, said-two, said-three)
 
 returns-15 : tie.Need-returns-15
 unfolding saidNext
-returns-15 c = is-said _ _ _ (c .before .before .before .m13 .given .1) (next-is _ _ _ _ (c .before .told15 .ensures) (c .and-number12 .ensures))
+returns-15 c = search (count-said, few-said (c .before .before .before .before .before .args .m), said-none, said-one, said-two, said-three)
 
 pub said-of-spec : {M : Type 1} → statement M
 said-of-spec =
