@@ -1,4 +1,4 @@
--- Of a good state's bytes the readers say what the state says. Assumes nothing.
+-- Any two answers that satisfy the statement of a reader coincide; and of a good state's bytes the readers say what the state says. Assumes nothing.
 use Prim.Native.Nat.{ℕ, _-_, _≤_, _<_}
 use mathlib.Core.Path.{_≡_, refl, sym, ap, _∙_}
 use mathlib.Core.Bool.{true, _&&_}
@@ -14,6 +14,23 @@ use Rattle.rules.specs.declared.Shape.{Shape}
 use Rattle.rules.proofs.Tests.{and-both, pick-true}
 use Rattle.rules.proofs.Good.{state-image, length-image}
 use Rattle.readers.specs.Said.{nothing, fieldOf, entryFieldOf, isSized, fieldIn, groupViewIn, entryIn}
+use Rattle.readers.specs.Statements.{MeasuresFirst, TellsField, TellsView, TellsEntry}
+
+-- ---- one answer
+
+pub message-length-one : (n s : ℕ) (b : List ℕ) (r q : ℕ) → MeasuresFirst n s b r → MeasuresFirst n s b q → r ≡ q
+message-length-one n s b r q e f = e ∙ sym f
+
+pub field-one : (sh : Shape) (field : ℕ) (b : List ℕ) (r q : ℕ) → TellsField sh field b r → TellsField sh field b q → r ≡ q
+field-one sh field b r q e f = e ∙ sym f
+
+pub group-view-one : (sh : Shape) (group : ℕ) (b : List ℕ) (r q : ℕ) → TellsView sh group b r → TellsView sh group b q → r ≡ q
+group-view-one sh group b r q e f = e ∙ sym f
+
+pub entry-one : (sh : Shape) (position field : ℕ) (b : List ℕ) (r q : ℕ) → TellsEntry sh position field b r → TellsEntry sh position field b q → r ≡ q
+entry-one sh position field b r q e f = e ∙ sym f
+
+-- ---- of a good state's bytes
 
 module _ (sh : Shape) (fits : shapeFits sh ≡ true) (st : State) (g : good sh st ≡ true) where
   back : stateOf sh (image sh st) ≡ st

@@ -5,14 +5,15 @@ ghost use mathlib.Core.Path.{_≡_};
 ghost use Rattle.rules.specs.Group as rule;
 ghost use Rattle.rules.specs.Image.{stateOf};
 ghost use Rattle.places.specs.Layout.{Sized};
-ghost use Rattle.readers.specs.Said.{nextLength, fieldOf, entryFieldOf, isSized, fieldIn, groupViewIn, entryIn};
+ghost use Rattle.readers.specs.Said.{fieldOf, entryFieldOf, isSized};
+ghost use Rattle.readers.specs.Statements.{MeasuresFirst, TellsField, TellsView, TellsEntry};
 
 // What is said where there is nothing to say.
 const NOTHING: u64 = 0xffffffffffffffff;
 
 // The length of the message that the bytes begin with, 0 where they begin with none.
 pub fn message_length(n: u64, s: u64, bytes: &[u8]) -> u64
-    ensures { λ r. ⌜ r ≡ nextLength n s (now (bytes .entry)) ⌝ }
+    ensures { λ r. ⌜ MeasuresFirst n s (now (bytes .entry)) r ⌝ }
 {
     if !group::sizes_fit(n, s) {
         return 0;
@@ -75,7 +76,7 @@ fn field_of(shape: Shape, field: u64, state: &[u8]) -> u64
 
 // A field of the state in the bytes.
 pub fn field(shape: Shape, field: u64, state: &[u8]) -> u64
-    ensures { λ r. ⌜ r ≡ fieldIn shape (now (state .entry)) field ⌝ }
+    ensures { λ r. ⌜ TellsField shape field (now (state .entry)) r ⌝ }
 {
     if !is_sized(shape, state) {
         return NOTHING;
@@ -85,7 +86,7 @@ pub fn field(shape: Shape, field: u64, state: &[u8]) -> u64
 
 // The view of a group in the state's gVec.
 pub fn group_view(shape: Shape, group: u64, state: &[u8]) -> u64
-    ensures { λ r. ⌜ r ≡ groupViewIn shape (now (state .entry)) group ⌝ }
+    ensures { λ r. ⌜ TellsView shape group (now (state .entry)) r ⌝ }
 {
     if !is_sized(shape, state) {
         return NOTHING;
@@ -112,7 +113,7 @@ fn entry_field(entry: Entry, field: u64) -> u64
 
 // A field of the entry at a position of the log, from 1 on.
 pub fn entry(shape: Shape, position: u64, field: u64, state: &[u8]) -> u64
-    ensures { λ r. ⌜ r ≡ entryIn shape (now (state .entry)) position field ⌝ }
+    ensures { λ r. ⌜ TellsEntry shape position field (now (state .entry)) r ⌝ }
 {
     if !is_sized(shape, state) {
         return NOTHING;

@@ -14,8 +14,11 @@ ghost use Rattle.rules.specs.Kind.{known};
 ghost use Rattle.rules.specs.Read.{numbersAt, firstWrong};
 ghost use Rattle.replica.specs.Face as face;
 ghost use Rattle.replica.specs.Face.{codeOf, given, headFits};
-ghost use Rattle.replica.specs.Statements.{Steps, StepsByNumber, Starts, Measures, Judges, Reads, Writes};
-ghost use Rattle.replica.specs.Statements.{MeasuresFirst, TellsField, TellsView, TellsEntry, Digests, IsVersion, IsCore};
+ghost use Rattle.digest.specs.Statements.{DigestsOn};
+ghost use Rattle.fresh.specs.Statements.{Measures};
+ghost use Rattle.readers.specs.Statements.{MeasuresFirst, TellsField, TellsView, TellsEntry};
+ghost use Rattle.rooms.specs.Statements.{Steps};
+ghost use Rattle.replica.specs.Statements.{StepsByNumber, Starts, Judges, Reads, Writes, IsVersion, IsCore};
 
 // One step: the next state's bytes and the outgoing messages, or the lowest number of the table that applies and all as it came.
 pub fn step(shape: Shape, state: &mut [u8], message: &[u8], out: &mut [u8]) -> Answer
@@ -160,7 +163,7 @@ pub extern "C" fn jallumere_entry(
 // FNV-1a run on from `start`.
 #[no_mangle]
 pub extern "C" fn jallumere_digest(start: u64, bytes: &[u8]) -> u64
-    ensures { λ r. ⌜ Digests start (now (bytes .entry)) r ⌝ }
+    ensures { λ r. ⌜ DigestsOn start (now (bytes .entry)) r ⌝ }
 {
     digest::digest_on(start, bytes)
 }

@@ -1,2 +1,3 @@
--- The laws of a step.
+-- The laws of a step, and what its statement promises.
 mod Ways
+pub mod Promises

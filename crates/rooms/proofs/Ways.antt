@@ -1,39 +1,34 @@
 -- The ways through a step. Assumes nothing.
 use Prim.Native.Nat.{ℕ}
 use mathlib.Core.Path.{_≡_, refl, sym, ap, _∙_}
-use mathlib.Core.Bool.{Bool, true, false, not, true≢false, and-false}
+use mathlib.Core.Bool.{Bool, true, false, not, true≢false}
 use mathlib.Core.List.{List}
 use lib.ListN.{length}
 use lib.Dec.{eqb}
-use borrow.Author.Tests.{ne-eqb, eqb-false}
+use borrow.Author.Tests.{not-true}
 use Rattle.rules.specs.Choice.{pick}
 use Rattle.rules.specs.Group.{shapeFits}
 use Rattle.rules.specs.Wire.{tagOf}
 use Rattle.rules.specs.Read.{wireIn, decoded}
-use Rattle.rules.specs.Image.{stateLength, stateOf, goodBytes}
+use Rattle.rules.specs.Image.{stateOf, goodBytes}
 use Rattle.rules.specs.Step.{handle}
 use Rattle.rules.specs.Bytes.{Left, leaves, closes, stepBytes}
 use Rattle.rules.specs.declared.Shape.{Shape}
 use Rattle.rules.specs.declared.Message.{Message}
+use Rattle.rules.proofs.Good.{sizes-unfit, length-unfit}
 use Rattle.places.specs.Layout.{lengthFor, Stands}
 use Rattle.places.proofs.Sections.{stands}
 use Rattle.admit.specs.Refusal.{refusalOf, wrongAt}
 use Rattle.admit.proofs.Steps.{refused-step, malformed-step, handled-step}
 
--- bytes of another length than a state has
-pub wrong-length : (sh : Shape) (b : List ℕ) (n : ℕ) → n ≡ lengthFor sh → (length b ≡ n → ⊥) → false ≡ goodBytes sh b
-unfolding goodBytes lengthFor pick
-wrong-length sh b n e h = go (shapeFits sh) refl
+-- bytes of another length than a state of these sizes has
+pub wrong-length : (sh : Shape) (b : List ℕ) (r : Bool) → r ≡ eqb (length b) (lengthFor sh) → not r ≡ true → false ≡ goodBytes sh b
+unfolding lengthFor pick
+wrong-length sh b r e h = go (shapeFits sh) refl
   where
     go : (f : Bool) → shapeFits sh ≡ f → false ≡ goodBytes sh b
-    go false g = simp g
-    go true g =
-        let z : n ≡ stateLength sh = e ∙ rw g in
-        let q : eqb (length b) (stateLength sh) ≡ false = ne-eqb _ _ (λ y. h (y ∙ sym z)) in
-        simp (q, and-false)
-
-pub told-long : (sh : Shape) (b : List ℕ) (n : ℕ) → n ≡ lengthFor sh → eqb (length b) n ≡ false → false ≡ goodBytes sh b
-told-long sh b n e h = wrong-length sh b n e (eqb-false (length b) n h)
+    go false g = sizes-unfit sh b g
+    go true g = length-unfit sh b (rw g at (sym e ∙ not-true r h))
 
 -- bytes that are no good state
 pub not-good : (sh : Shape) (b msg out : List ℕ) (g : Bool) → g ≡ goodBytes sh b → not g ≡ true → leaves 1 b out ≡ stepBytes sh b msg out

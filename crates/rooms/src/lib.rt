@@ -5,12 +5,13 @@ use rules::Message;
 use rules::Shape;
 use rules::refusal;
 ghost use mathlib.Core.Path.{_≡_};
-ghost use mathlib.Core.Bool.{false};
-ghost use Rattle.rules.specs.Read.{decoded};
-ghost use Rattle.rules.specs.Write.{written, writes};
-ghost use Rattle.rules.specs.Image.{goodBytes};
-ghost use Rattle.rules.specs.Bytes.{left, stepBytes};
+ghost use lib.Dec.{eqb};
+ghost use lib.ListN.{length};
+ghost use Rattle.places.specs.Layout.{lengthFor};
+ghost use Rattle.wire.specs.Statements.{Reads, Writes};
+ghost use Rattle.good.specs.Statements.{Judges};
 ghost use Rattle.admit.specs.Refusal.{wrongAt};
+ghost use Rattle.rooms.specs.Statements.{Steps};
 
 // The longest message whose log the 512 slots serve, and the longest that the 2,400 serve: two slots for an entry, and a path's length.
 const SHORT_MESSAGE: usize = 4096;
@@ -21,14 +22,14 @@ const MIDDLE_MESSAGE: usize = 28000;
 
 // Whether the bytes are as long as a state of these sizes: what is not is refused before any room is taken.
 fn has_length(shape: Shape, state: &[u8]) -> bool
-    ensures { λ r. ⌜ (r ≡ false → false ≡ goodBytes shape (now (state .entry))) ⌝ }
+    ensures { λ r. ⌜ r ≡ eqb (length (now (state .entry))) (lengthFor shape) ⌝ }
 {
     state.len() as u64 == fresh::state_length(shape.n, shape.s, shape.c)
 }
 
 // With room for a capacity of 16: 48 rows at most.
 fn good_few(shape: Shape, state: &[u8]) -> bool
-    ensures { λ r. ⌜ r ≡ goodBytes shape (now (state .entry)) ⌝ }
+    ensures { λ r. ⌜ Judges shape (now (state .entry)) r ⌝ }
 {
     let mut slots = [0u16; 512];
     good::good(shape, state, &mut slots)
@@ -36,7 +37,7 @@ fn good_few(shape: Shape, state: &[u8]) -> bool
 
 // With room for a capacity of 256: 768 rows.
 fn good_more(shape: Shape, state: &[u8]) -> bool
-    ensures { λ r. ⌜ r ≡ goodBytes shape (now (state .entry)) ⌝ }
+    ensures { λ r. ⌜ Judges shape (now (state .entry)) r ⌝ }
 {
     let mut slots = [0u16; 2400];
     good::good(shape, state, &mut slots)
@@ -44,7 +45,7 @@ fn good_more(shape: Shape, state: &[u8]) -> bool
 
 // With room for the largest capacity.
 fn good_many(shape: Shape, state: &[u8]) -> bool
-    ensures { λ r. ⌜ r ≡ goodBytes shape (now (state .entry)) ⌝ }
+    ensures { λ r. ⌜ Judges shape (now (state .entry)) r ⌝ }
 {
     let mut slots = [0u16; 33032];
     good::good(shape, state, &mut slots)
@@ -52,7 +53,7 @@ fn good_many(shape: Shape, state: &[u8]) -> bool
 
 // Whether the bytes are those of a good state.
 pub fn good(shape: Shape, state: &[u8]) -> bool
-    ensures { λ r. ⌜ r ≡ goodBytes shape (now (state .entry)) ⌝ }
+    ensures { λ r. ⌜ Judges shape (now (state .entry)) r ⌝ }
 {
     if !has_length(shape, state) {
         return false;
@@ -70,7 +71,7 @@ pub fn good(shape: Shape, state: &[u8]) -> bool
 
 // With room for a short message.
 fn read_few(n: u64, s: u64, message: &[u8]) -> Message
-    ensures { λ r. ⌜ r ≡ decoded n s (now (message .entry)) ⌝ }
+    ensures { λ r. ⌜ Reads n s (now (message .entry)) r ⌝ }
 {
     let mut slots = [0u16; 512];
     wire::read(n, s, message, &mut slots)
@@ -78,7 +79,7 @@ fn read_few(n: u64, s: u64, message: &[u8]) -> Message
 
 // With room for one of a thousand entries.
 fn read_more(n: u64, s: u64, message: &[u8]) -> Message
-    ensures { λ r. ⌜ r ≡ decoded n s (now (message .entry)) ⌝ }
+    ensures { λ r. ⌜ Reads n s (now (message .entry)) r ⌝ }
 {
     let mut slots = [0u16; 2400];
     wire::read(n, s, message, &mut slots)
@@ -86,7 +87,7 @@ fn read_more(n: u64, s: u64, message: &[u8]) -> Message
 
 // With room for any that a group of the largest capacity sends.
 fn read_many(n: u64, s: u64, message: &[u8]) -> Message
-    ensures { λ r. ⌜ r ≡ decoded n s (now (message .entry)) ⌝ }
+    ensures { λ r. ⌜ Reads n s (now (message .entry)) r ⌝ }
 {
     let mut slots = [0u16; 33032];
     wire::read(n, s, message, &mut slots)
@@ -94,7 +95,7 @@ fn read_many(n: u64, s: u64, message: &[u8]) -> Message
 
 // What the bytes of a message say.
 pub fn read(n: u64, s: u64, message: &[u8]) -> Message
-    ensures { λ r. ⌜ r ≡ decoded n s (now (message .entry)) ⌝ }
+    ensures { λ r. ⌜ Reads n s (now (message .entry)) r ⌝ }
 {
     if message.len() <= SHORT_MESSAGE {
         return read_few(n, s, message);
@@ -109,7 +110,7 @@ pub fn read(n: u64, s: u64, message: &[u8]) -> Message
 
 // With room for a few entries.
 fn write_few(n: u64, s: u64, m: Message, views: &[u8], entries: &[u8], out: &mut [u8]) -> Answer
-    ensures { λ r. ⌜ written r (now (out .exit)) ≡ writes n s m (now (views .entry)) (now (entries .entry)) (now (out .entry)) ⌝ }
+    ensures { λ r. ⌜ Writes n s m (now (views .entry)) (now (entries .entry)) (now (out .entry)) r (now (out .exit)) ⌝ }
 {
     let mut slots = [0u16; 512];
     wire::write(n, s, m, views, entries, out, &mut slots)
@@ -117,7 +118,7 @@ fn write_few(n: u64, s: u64, m: Message, views: &[u8], entries: &[u8], out: &mut
 
 // With room for a thousand.
 fn write_more(n: u64, s: u64, m: Message, views: &[u8], entries: &[u8], out: &mut [u8]) -> Answer
-    ensures { λ r. ⌜ written r (now (out .exit)) ≡ writes n s m (now (views .entry)) (now (entries .entry)) (now (out .entry)) ⌝ }
+    ensures { λ r. ⌜ Writes n s m (now (views .entry)) (now (entries .entry)) (now (out .entry)) r (now (out .exit)) ⌝ }
 {
     let mut slots = [0u16; 2400];
     wire::write(n, s, m, views, entries, out, &mut slots)
@@ -125,7 +126,7 @@ fn write_more(n: u64, s: u64, m: Message, views: &[u8], entries: &[u8], out: &mu
 
 // With room for a log of the largest capacity.
 fn write_many(n: u64, s: u64, m: Message, views: &[u8], entries: &[u8], out: &mut [u8]) -> Answer
-    ensures { λ r. ⌜ written r (now (out .exit)) ≡ writes n s m (now (views .entry)) (now (entries .entry)) (now (out .entry)) ⌝ }
+    ensures { λ r. ⌜ Writes n s m (now (views .entry)) (now (entries .entry)) (now (out .entry)) r (now (out .exit)) ⌝ }
 {
     let mut slots = [0u16; 33032];
     wire::write(n, s, m, views, entries, out, &mut slots)
@@ -133,7 +134,7 @@ fn write_many(n: u64, s: u64, m: Message, views: &[u8], entries: &[u8], out: &mu
 
 // Writes a message with these views and entries.
 pub fn write(n: u64, s: u64, m: Message, views: &[u8], entries: &[u8], out: &mut [u8]) -> Answer
-    ensures { λ r. ⌜ written r (now (out .exit)) ≡ writes n s m (now (views .entry)) (now (entries .entry)) (now (out .entry)) ⌝ }
+    ensures { λ r. ⌜ Writes n s m (now (views .entry)) (now (entries .entry)) (now (out .entry)) r (now (out .exit)) ⌝ }
 {
     if entries.len() <= SHORT_MESSAGE {
         return write_few(n, s, m, views, entries, out);
@@ -164,7 +165,7 @@ fn step_in(
     out: &mut [u8],
     slots: &mut [u16],
 ) -> Answer
-    ensures { λ r. ⌜ left r (now (state .exit)) (now (out .exit)) ≡ stepBytes shape (now (state .entry)) (now (message .entry)) (now (out .entry)) ⌝ }
+    ensures { λ r. ⌜ Steps shape (now (state .entry)) (now (message .entry)) (now (out .entry)) r (now (state .exit)) (now (out .exit)) ⌝ }
 {
     if !good::good(shape, state, slots) {
         return Answer::Refused(refusal::WRONG_STATE, 0);
@@ -182,7 +183,7 @@ fn step_in(
 
 // With room for a capacity of 16 and a short message.
 fn step_few(shape: Shape, state: &mut [u8], message: &[u8], out: &mut [u8]) -> Answer
-    ensures { λ r. ⌜ left r (now (state .exit)) (now (out .exit)) ≡ stepBytes shape (now (state .entry)) (now (message .entry)) (now (out .entry)) ⌝ }
+    ensures { λ r. ⌜ Steps shape (now (state .entry)) (now (message .entry)) (now (out .entry)) r (now (state .exit)) (now (out .exit)) ⌝ }
 {
     let mut slots = [0u16; 512];
     step_in(shape, state, message, out, &mut slots)
@@ -190,7 +191,7 @@ fn step_few(shape: Shape, state: &mut [u8], message: &[u8], out: &mut [u8]) -> A
 
 // With room for a capacity of 256, four logs of it for a rebuild, and a message of a thousand entries.
 fn step_more(shape: Shape, state: &mut [u8], message: &[u8], out: &mut [u8]) -> Answer
-    ensures { λ r. ⌜ left r (now (state .exit)) (now (out .exit)) ≡ stepBytes shape (now (state .entry)) (now (message .entry)) (now (out .entry)) ⌝ }
+    ensures { λ r. ⌜ Steps shape (now (state .entry)) (now (message .entry)) (now (out .entry)) r (now (state .exit)) (now (out .exit)) ⌝ }
 {
     let mut slots = [0u16; 2400];
     step_in(shape, state, message, out, &mut slots)
@@ -198,7 +199,7 @@ fn step_more(shape: Shape, state: &mut [u8], message: &[u8], out: &mut [u8]) -> 
 
 // With room for the largest capacity, and four logs of it for a rebuild.
 fn step_many(shape: Shape, state: &mut [u8], message: &[u8], out: &mut [u8]) -> Answer
-    ensures { λ r. ⌜ left r (now (state .exit)) (now (out .exit)) ≡ stepBytes shape (now (state .entry)) (now (message .entry)) (now (out .entry)) ⌝ }
+    ensures { λ r. ⌜ Steps shape (now (state .entry)) (now (message .entry)) (now (out .entry)) r (now (state .exit)) (now (out .exit)) ⌝ }
 {
     let mut slots = [0u16; 33032];
     step_in(shape, state, message, out, &mut slots)
@@ -206,7 +207,7 @@ fn step_many(shape: Shape, state: &mut [u8], message: &[u8], out: &mut [u8]) -> 
 
 // One step: the next state's bytes and the outgoing messages, or the lowest number of the table that applies and all as it came.
 pub fn step(shape: Shape, state: &mut [u8], message: &[u8], out: &mut [u8]) -> Answer
-    ensures { λ r. ⌜ left r (now (state .exit)) (now (out .exit)) ≡ stepBytes shape (now (state .entry)) (now (message .entry)) (now (out .entry)) ⌝ }
+    ensures { λ r. ⌜ Steps shape (now (state .entry)) (now (message .entry)) (now (out .entry)) r (now (state .exit)) (now (out .exit)) ⌝ }
 {
     if !has_length(shape, state) {
         return Answer::Refused(refusal::WRONG_STATE, 0);

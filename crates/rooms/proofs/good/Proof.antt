@@ -1,6 +1,6 @@
 -- `rooms::good` meets its contract. Assumes nothing.
 -- Made by tools/answers from the file `answers` beside it: change that one.
-use borrow.Author.Tests.{not-true}
+use Rattle.rooms.proofs.Ways.{wrong-length}
 use borrow.Author.Needs.{needs}
 use Rattle.rooms.proofs.good.Statement.{statement}
 use Rattle.rooms.proofs.good.Tie as tie
@@ -9,7 +9,7 @@ has-length-requires : tie.Need-has-length-requires
 has-length-requires c κs = search needs
 
 returns : tie.Need-returns
-returns c = c .before .has-length .ensures (not-true _ (c .if1 .taken))
+returns c = search wrong-length
 
 good-few-requires : tie.Need-good-few-requires
 good-few-requires c κs = search needs

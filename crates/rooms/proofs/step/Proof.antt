@@ -2,8 +2,7 @@
 -- Made by tools/answers from the file `answers` beside it: change that one.
 use mathlib.Core.Path.{refl}
 use mathlib.Core.Bool.{false}
-use borrow.Author.Tests.{not-true}
-use Rattle.rooms.proofs.Ways.{not-good}
+use Rattle.rooms.proofs.Ways.{wrong-length, not-good}
 use borrow.Author.Needs.{needs}
 use Rattle.rooms.proofs.step.Statement.{statement}
 use Rattle.rooms.proofs.step.Tie as tie
@@ -15,7 +14,7 @@ same-length : tie.Need-same-length
 same-length c = search needs
 
 returns : tie.Need-returns
-returns c = not-good _ _ _ _ false (c .before .has-length .ensures (not-true _ (c .if1 .taken))) refl
+returns c = not-good _ _ _ _ false (search wrong-length) refl
 
 step-few-requires : tie.Need-step-few-requires
 step-few-requires c κs = search needs
