@@ -1,9 +1,8 @@
 -- `dispatch::handle` meets its contract: the handler of each kind. Assumes nothing.
 -- Made by tools/answers from the file `answers` beside it: change that one.
-use mathlib.Core.Path.{ap}
-use Rattle.rules.specs.Wire.{tagOf}
-use Rattle.rules.specs.Step.{onTransaction, onNote, onReplicaSync, onChangeView, onStartView, onSyncStatus, onCommit, onVerifyRequest, onTick}
-use Rattle.dispatch.proofs.Handled.{transactions, notes, syncs, changes, starts, statuses, commits, requests, ticks, by-kind, by-vote, by-reply, no-message, fast-reply, slow-reply, by-none}
+use Rattle.rules.specs.Choice.{pick}
+use Rattle.rules.specs.Step.{handle}
+use Rattle.dispatch.proofs.Handled.{taken, voted, replied, none-takes}
 use borrow.Author.Needs.{needs}
 use Rattle.dispatch.proofs.handle.Statement.{statement}
 use Rattle.dispatch.proofs.handle.Tie as tie
@@ -87,16 +86,20 @@ on-tick-requires : tie.Need-on-tick-requires
 on-tick-requires c κs = search needs
 
 returns : tie.Need-returns
-returns c = by-none 0 no-message _ (c .before .before .before .before .before .before .args .m) _ (c .before .before .before .before .before .before .args .message .now) _ (ap tagOf (c .enum-told .given .1))
+unfolding handle pick
+returns c = search (taken, voted, replied, none-takes)
 
 returns-2 : tie.Need-returns-2
-returns-2 c = by-none 0 no-message _ (c .before .before .before .before .before .before .args .m) _ (c .before .before .before .before .before .before .args .message .now) _ (ap tagOf (c .enum-told2 .given .1))
+unfolding handle pick
+returns-2 c = search (taken, voted, replied, none-takes)
 
 returns-3 : tie.Need-returns-3
-returns-3 c = by-none 5 fast-reply _ (c .before .before .before .before .before .before .args .m) _ (c .before .before .before .before .before .before .args .message .now) _ (ap tagOf (c .enum-told3 .given .1))
+unfolding handle pick
+returns-3 c = search (taken, voted, replied, none-takes)
 
 returns-4 : tie.Need-returns-4
-returns-4 c = by-none 6 slow-reply _ (c .before .before .before .before .before .before .args .m) _ (c .before .before .before .before .before .before .args .message .now) _ (ap tagOf (c .enum-told4 .given .1))
+unfolding handle pick
+returns-4 c = search (taken, voted, replied, none-takes)
 
 same-length : tie.Need-same-length
 same-length c = search needs
@@ -105,7 +108,8 @@ same-length-2 : tie.Need-same-length-2
 same-length-2 c = search needs
 
 returns-5 : tie.Need-returns-5
-returns-5 c = by-kind 1 onTransaction transactions _ _ _ _ _ _ (ap tagOf (c .before .before .before .before .before .before .before .enum-told5 .given .1)) (c .before .before .before .before .on-transaction .ensures)
+unfolding handle pick
+returns-5 c = search (taken, voted, replied, none-takes)
 
 same-length-3 : tie.Need-same-length-3
 same-length-3 c = search needs
@@ -114,7 +118,8 @@ same-length-4 : tie.Need-same-length-4
 same-length-4 c = search needs
 
 returns-6 : tie.Need-returns-6
-returns-6 c = by-kind 3 onNote notes _ _ _ _ _ _ (ap tagOf (c .before .before .before .before .before .before .before .enum-told6 .given .1)) (c .before .before .before .before .on-note .ensures)
+unfolding handle pick
+returns-6 c = search (taken, voted, replied, none-takes)
 
 same-length-5 : tie.Need-same-length-5
 same-length-5 c = search needs
@@ -126,7 +131,8 @@ same-length-7 : tie.Need-same-length-7
 same-length-7 c = search needs
 
 returns-7 : tie.Need-returns-7
-returns-7 c = by-kind 4 onReplicaSync syncs _ _ _ _ _ _ (ap tagOf (c .before .before .before .before .before .before .before .before .before .before .enum-told7 .given .1)) (c .before .before .before .before .before .before .on-replica-sync .ensures)
+unfolding handle pick
+returns-7 c = search (taken, voted, replied, none-takes)
 
 same-length-8 : tie.Need-same-length-8
 same-length-8 c = search needs
@@ -135,7 +141,8 @@ same-length-9 : tie.Need-same-length-9
 same-length-9 c = search needs
 
 returns-8 : tie.Need-returns-8
-returns-8 c = by-kind 7 onChangeView changes _ _ _ _ _ _ (ap tagOf (c .before .before .before .before .before .before .before .enum-told8 .given .1)) (c .before .before .before .before .on-change-view .ensures)
+unfolding handle pick
+returns-8 c = search (taken, voted, replied, none-takes)
 
 same-length-10 : tie.Need-same-length-10
 same-length-10 c = search needs
@@ -147,7 +154,8 @@ same-length-12 : tie.Need-same-length-12
 same-length-12 c = search needs
 
 returns-9 : tie.Need-returns-9
-returns-9 c = by-vote _ (c .before .before .before .before .before .before .before .before .before .before .before .before .before .before .before .before .args .m) _ (c .before .before .before .before .before .before .before .before .before .before .before .before .before .before .before .before .args .message .now) _ _ (ap tagOf (c .before .before .before .before .before .before .before .before .before .before .enum-told9 .given .1)) (c .before .before .before .before .before .before .concluding .ensures)
+unfolding handle pick
+returns-9 c = search (taken, voted, replied, none-takes)
 
 same-length-13 : tie.Need-same-length-13
 same-length-13 c = search needs
@@ -156,7 +164,8 @@ same-length-14 : tie.Need-same-length-14
 same-length-14 c = search needs
 
 returns-10 : tie.Need-returns-10
-returns-10 c = by-kind 9 onStartView starts _ _ _ _ _ _ (ap tagOf (c .before .before .before .before .before .before .before .enum-told10 .given .1)) (c .before .before .before .before .on-start-view .ensures)
+unfolding handle pick
+returns-10 c = search (taken, voted, replied, none-takes)
 
 same-length-15 : tie.Need-same-length-15
 same-length-15 c = search needs
@@ -165,7 +174,8 @@ same-length-16 : tie.Need-same-length-16
 same-length-16 c = search needs
 
 returns-11 : tie.Need-returns-11
-returns-11 c = by-kind 10 onSyncStatus statuses _ _ _ _ _ _ (ap tagOf (c .before .before .before .before .before .before .before .enum-told11 .given .1)) (c .before .before .before .before .on-sync-status .ensures)
+unfolding handle pick
+returns-11 c = search (taken, voted, replied, none-takes)
 
 same-length-17 : tie.Need-same-length-17
 same-length-17 c = search needs
@@ -174,7 +184,8 @@ same-length-18 : tie.Need-same-length-18
 same-length-18 c = search needs
 
 returns-12 : tie.Need-returns-12
-returns-12 c = by-kind 11 onCommit commits _ _ _ _ _ _ (ap tagOf (c .before .before .before .before .before .before .before .enum-told12 .given .1)) (c .before .before .before .before .on-commit .ensures)
+unfolding handle pick
+returns-12 c = search (taken, voted, replied, none-takes)
 
 same-length-19 : tie.Need-same-length-19
 same-length-19 c = search needs
@@ -183,7 +194,8 @@ same-length-20 : tie.Need-same-length-20
 same-length-20 c = search needs
 
 returns-13 : tie.Need-returns-13
-returns-13 c = by-kind 18 onVerifyRequest requests _ _ _ _ _ _ (ap tagOf (c .before .before .before .before .before .enum-told13 .given .1)) (c .before .before .on-verify-request .ensures)
+unfolding handle pick
+returns-13 c = search (taken, voted, replied, none-takes)
 
 same-length-21 : tie.Need-same-length-21
 same-length-21 c = search needs
@@ -195,7 +207,8 @@ same-length-23 : tie.Need-same-length-23
 same-length-23 c = search needs
 
 returns-14 : tie.Need-returns-14
-returns-14 c = by-reply _ (c .before .before .before .before .before .before .before .before .before .before .before .before .before .before .before .before .args .m) _ (c .before .before .before .before .before .before .before .before .before .before .before .before .before .before .before .before .args .message .now) _ _ (ap tagOf (c .before .before .before .before .before .before .before .before .before .before .enum-told14 .given .1)) (c .before .before .before .before .before .before .concluding2 .ensures)
+unfolding handle pick
+returns-14 c = search (taken, voted, replied, none-takes)
 
 same-length-24 : tie.Need-same-length-24
 same-length-24 c = search needs
@@ -207,7 +220,8 @@ same-length-26 : tie.Need-same-length-26
 same-length-26 c = search needs
 
 returns-15 : tie.Need-returns-15
-returns-15 c = by-kind 23 onTick ticks _ _ _ _ _ _ (ap tagOf (c .before .before .before .before .before .before .before .before .before .before .enum-told15 .given .1)) (c .before .before .before .before .before .before .on-tick .ensures)
+unfolding handle pick
+returns-15 c = search (taken, voted, replied, none-takes)
 
 pub handle-spec : {M : Type 1} → statement M
 handle-spec =
