@@ -129,6 +129,10 @@ zeros-stop s at j k n v h e z l = zeros-off s at j k n (eqb v 0) h (zeros-word s
 pub zeros-none : (s : List ℕ) (at : ℕ) → zeros (part s at 0) ≡ true
 zeros-none s at = ap zeros (part-none s at)
 
+-- a first part that is zero, under another name of its length
+pub zeros-begun : (s : List ℕ) (at j k : ℕ) (x : Bool) → x ≡ zeros (part s at k) → x ≡ true → j ≡ k → zeros (part s at j) ≡ true
+zeros-begun s at j k x e z q = ap (λ (i : ℕ). zeros (part s at i)) q ∙ sym e ∙ z
+
 pub zeros-done : (s : List ℕ) (at i n : ℕ) → zeros (part s at i) ≡ true → i ≤ n → n ≤ i → true ≡ zeros (part s at n)
 zeros-done s at i n h l g =
     let q : i ≡ n = omega arith in

@@ -32,6 +32,10 @@ const MOST: usize = 65535;
 // How many slots a path has.
 const PATH: usize = 64;
 
+// How many slots a path may pass before its end, on the average of all the rows that are put in. Plain keys pass half a slot, and random ones
+// no more, in a table of two slots for a row.
+const WAY: usize = 3;
+
 // How many rows are searched at less cost than that of a table.
 const FEW: usize = 12;
 
@@ -156,13 +160,12 @@ fn row(x: u16) -> usize
     x as usize
 }
 
-// The slot at which the path of key x ends, or the table's size.
-fn path_end(b: &[u8], sp: Spots, table: &[u16], x: u64) -> usize
-    requires { ⌜ Inside (now b) sp × (64 ≤ length (now table)) × (length (now table) ≤ 65535) ⌝ }
-    ensures { λ r. ⌜ r ≡ slotAt (keyOf (now (b .entry)) sp) (countOf sp) (now (table .entry)) x ⌝ }
+// The slot at which the path of key x ends, which begins at `start`, or the table's size.
+fn path_end(b: &[u8], sp: Spots, table: &[u16], x: u64, start: usize) -> usize
+    requires { ⌜ Inside (now b) sp × (start ≡ slotOf (length (now table)) x) × (start + 64 ≤ length (now table)) × (length (now table) ≤ 65535) ⌝ }
+    ensures { λ r. ⌜ (r ≡ slotAt (keyOf (now (b .entry)) sp) (countOf sp) (now (table .entry)) x) × (start ≤ r) ⌝ }
 {
     let m = count(sp);
-    let start = slot(x, table.len());
     let mut n = 0;
     while n < PATH {
         let e = row(table[start + n]);
@@ -189,22 +192,29 @@ fn empty(table: &mut [u16])
 }
 
 // Puts row after row from row `from` on into the slot at which the path of its key ends. Tells at which row it stopped: it has the key of
-// an earlier one, or it is the end; or one more than there are rows, where no slot on a path was free.
+// an earlier one, or it is the end; or one more than there are rows, where no slot on a path was free, or paths are long on the whole.
 fn lay(b: &[u8], sp: Spots, table: &mut [u16], from: usize) -> usize
     requires { ⌜ Inside (now b) sp × (64 ≤ length (now table)) × (length (now table) ≤ 65535)
         × (countOf sp ≤ 65535) × (from ≤ countOf sp) × Holds (keyOf (now b) sp) (countOf sp) (now table) from ⌝ }
     ensures { λ r. ⌜ Laid (keyOf (now (b .entry)) sp) (countOf sp) (now (table .entry)) (now (table .exit)) r ⌝ }
 {
     let m = count(sp);
+    let most = PATH + WAY * (m - from);
+    let mut passed = 0;
     let mut i = from;
     while i < m {
         let x = key(b, sp, i);
-        let p = path_end(b, sp, table, x);
+        let start = slot(x, table.len());
+        let p = path_end(b, sp, table, x, start);
         if table.len() <= p {
             return m + 1;
         }
         if row(table[p]) < m {
             return i;
+        }
+        passed += p - start;
+        if most < passed {
+            return m + 1;
         }
         table[p] = i as u16;
         i += 1;
@@ -363,7 +373,8 @@ pub fn find(b: &[u8], sp: Spots, slots: &[u16], x: u64) -> usize
     let m = count(sp);
     let size = row(slots[1]);
     let end = 2 + size;
-    let p = path_end(b, sp, &slots[2..end], x);
+    let start = slot(x, size);
+    let p = path_end(b, sp, &slots[2..end], x, start);
     if size <= p {
         return m;
     }

@@ -11,15 +11,14 @@ use Rattle.rules.specs.Group.{shapeFits}
 use Rattle.rules.specs.Wire.{tagOf}
 use Rattle.rules.specs.Read.{wireIn, decoded}
 use Rattle.rules.specs.Image.{stateOf, goodBytes}
-use Rattle.rules.specs.Step.{handle}
-use Rattle.rules.specs.Bytes.{Left, leaves, closes, stepBytes}
+use Rattle.rules.specs.Bytes.{leaves, stepBytes}
 use Rattle.rules.specs.declared.Shape.{Shape}
 use Rattle.rules.specs.declared.Message.{Message}
 use Rattle.rules.proofs.Good.{sizes-unfit, length-unfit}
 use Rattle.places.specs.Layout.{lengthFor, Stands}
 use Rattle.places.proofs.Sections.{stands}
 use Rattle.admit.specs.Refusal.{refusalOf, wrongAt}
-use Rattle.admit.proofs.Steps.{refused-step, malformed-step, handled-step}
+use Rattle.admit.proofs.Steps.{malformed-step}
 
 -- bytes of another length than a state of these sizes has
 pub wrong-length : (sh : Shape) (b : List ℕ) (r : Bool) → r ≡ eqb (length b) (lengthFor sh) → not r ≡ true → false ≡ goodBytes sh b
@@ -43,12 +42,7 @@ is-good sh b false e f = absurd (true≢false f)
 pub good-stands : (sh : Shape) (b : List ℕ) (g : Bool) → g ≡ goodBytes sh b → not g ≡ false → Stands sh (stateOf sh b) b
 good-stands sh b g e f = stands sh b (is-good sh b g e f)
 
-module _ (sh : Shape) (b msg : List ℕ) (m : Message) (r : ℕ) (g : Bool) (e : g ≡ goodBytes sh b) (f : not g ≡ false) (d : m ≡ decoded (sh .n) (sh .s) msg) (q : r ≡ refusalOf sh (stateOf sh b) (tagOf m) (wireIn (sh .s) msg)) where
-  pub by-offset : (out : List ℕ) (at : ℕ) → at ≡ wrongAt m msg → r ≡ 2 → record { refused = true; number = r; offset = at; sent = 0; state = b; out = out } ≡ stepBytes sh b msg out
-  by-offset out at a n = ap (λ (x : ℕ). record { refused = true; number = x; offset = at; sent = 0; state = b; out = out }) n ∙ malformed-step sh b msg out m r (is-good sh b g e f) d q at a n
-
-  pub by-refusal : (out : List ℕ) → (r ≡ 2 → ⊥) → (r ≡ 0 → ⊥) → leaves r b out ≡ stepBytes sh b msg out
-  by-refusal out o n = refused-step sh b msg out m r (is-good sh b g e f) d q n o
-
-  pub by-handler : (out : List ℕ) (x : Left) → r ≡ 0 → x ≡ closes sh b out (handle (tagOf m) sh (stateOf sh b) (wireIn (sh .s) msg)) → x ≡ stepBytes sh b msg out
-  by-handler out x n h = h ∙ handled-step sh b msg out m r (is-good sh b g e f) d q n
+-- 2 comes with the offset of the first wrong field
+pub by-offset : (sh : Shape) (b msg out : List ℕ) (m : Message) (r at : ℕ) → goodBytes sh b ≡ true → m ≡ decoded (sh .n) (sh .s) msg → r ≡ refusalOf sh (stateOf sh b) (tagOf m) (wireIn (sh .s) msg)
+    → at ≡ wrongAt m msg → r ≡ 2 → record { refused = true; number = r; offset = at; sent = 0; state = b; out = out } ≡ stepBytes sh b msg out
+by-offset sh b msg out m r at g d q a e = ap (λ (x : ℕ). record { refused = true; number = x; offset = at; sent = 0; state = b; out = out }) e ∙ malformed-step sh b msg out m r g d q at a e

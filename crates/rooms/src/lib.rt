@@ -5,12 +5,16 @@ use rules::Message;
 use rules::Shape;
 use rules::refusal;
 ghost use mathlib.Core.Path.{_≡_};
+ghost use mathlib.Core.Bool.{true};
 ghost use lib.Dec.{eqb};
 ghost use lib.ListN.{length};
+ghost use Rattle.rules.specs.Wire.{tagOf};
+ghost use Rattle.rules.specs.Read.{wireIn, decoded};
+ghost use Rattle.rules.specs.Image.{stateOf, goodBytes};
 ghost use Rattle.places.specs.Layout.{lengthFor};
 ghost use Rattle.wire.specs.Statements.{Reads, Writes};
 ghost use Rattle.good.specs.Statements.{Judges};
-ghost use Rattle.admit.specs.Refusal.{wrongAt};
+ghost use Rattle.admit.specs.Refusal.{refusalOf, wrongAt};
 ghost use Rattle.rooms.specs.Statements.{Steps};
 
 // The longest message whose log the 512 slots serve, and the longest that the 2,400 serve: two slots for an entry, and a path's length.
@@ -157,21 +161,20 @@ fn wrong_at(m: Message, message: &[u8]) -> usize
     wire::decode::offset_of(m)
 }
 
-// One step by the slots that are lent: the tests in the order of the table, and then the handler of the message's kind.
-fn step_in(
+// What a good state answers to a message that is read: the tests in the order of the table, and then the handler of the message's kind.
+fn answer(
     shape: Shape,
     state: &mut [u8],
+    m: Message,
+    number: u8,
     message: &[u8],
     out: &mut [u8],
     slots: &mut [u16],
 ) -> Answer
+    requires { ⌜ (goodBytes shape (now state) ≡ true) × (m ≡ decoded (shape .n) (shape .s) (now message))
+        × (number ≡ refusalOf shape (stateOf shape (now state)) (tagOf m) (wireIn (shape .s) (now message))) ⌝ }
     ensures { λ r. ⌜ Steps shape (now (state .entry)) (now (message .entry)) (now (out .entry)) r (now (state .exit)) (now (out .exit)) ⌝ }
 {
-    if !good::good(shape, state, slots) {
-        return Answer::Refused(refusal::WRONG_STATE, 0);
-    }
-    let m = wire::read(shape.n, shape.s, message, slots);
-    let number = admit::refusal(shape, state, m, message);
     if number == refusal::MALFORMED {
         return Answer::Refused(number, wrong_at(m, message));
     }
@@ -186,7 +189,12 @@ fn step_few(shape: Shape, state: &mut [u8], message: &[u8], out: &mut [u8]) -> A
     ensures { λ r. ⌜ Steps shape (now (state .entry)) (now (message .entry)) (now (out .entry)) r (now (state .exit)) (now (out .exit)) ⌝ }
 {
     let mut slots = [0u16; 512];
-    step_in(shape, state, message, out, &mut slots)
+    if !good::good(shape, state, &mut slots) {
+        return Answer::Refused(refusal::WRONG_STATE, 0);
+    }
+    let m = wire::read(shape.n, shape.s, message, &mut slots);
+    let number = admit::refusal(shape, state, m, message);
+    answer(shape, state, m, number, message, out, &mut slots)
 }
 
 // With room for a capacity of 256, four logs of it for a rebuild, and a message of a thousand entries.
@@ -194,7 +202,12 @@ fn step_more(shape: Shape, state: &mut [u8], message: &[u8], out: &mut [u8]) -> 
     ensures { λ r. ⌜ Steps shape (now (state .entry)) (now (message .entry)) (now (out .entry)) r (now (state .exit)) (now (out .exit)) ⌝ }
 {
     let mut slots = [0u16; 2400];
-    step_in(shape, state, message, out, &mut slots)
+    if !good::good(shape, state, &mut slots) {
+        return Answer::Refused(refusal::WRONG_STATE, 0);
+    }
+    let m = wire::read(shape.n, shape.s, message, &mut slots);
+    let number = admit::refusal(shape, state, m, message);
+    answer(shape, state, m, number, message, out, &mut slots)
 }
 
 // With room for the largest capacity, and four logs of it for a rebuild.
@@ -202,7 +215,12 @@ fn step_many(shape: Shape, state: &mut [u8], message: &[u8], out: &mut [u8]) -> 
     ensures { λ r. ⌜ Steps shape (now (state .entry)) (now (message .entry)) (now (out .entry)) r (now (state .exit)) (now (out .exit)) ⌝ }
 {
     let mut slots = [0u16; 33032];
-    step_in(shape, state, message, out, &mut slots)
+    if !good::good(shape, state, &mut slots) {
+        return Answer::Refused(refusal::WRONG_STATE, 0);
+    }
+    let m = wire::read(shape.n, shape.s, message, &mut slots);
+    let number = admit::refusal(shape, state, m, message);
+    answer(shape, state, m, number, message, out, &mut slots)
 }
 
 // One step: the next state's bytes and the outgoing messages, or the lowest number of the table that applies and all as it came.
@@ -212,11 +230,17 @@ pub fn step(shape: Shape, state: &mut [u8], message: &[u8], out: &mut [u8]) -> A
     if !has_length(shape, state) {
         return Answer::Refused(refusal::WRONG_STATE, 0);
     }
-    if (shape.c <= 16) & (message.len() <= SHORT_MESSAGE) {
-        return step_few(shape, state, message, out);
+    if 256 < shape.c {
+        return step_many(shape, state, message, out);
     }
-    if (shape.c <= 256) & (message.len() <= MIDDLE_MESSAGE) {
+    if MIDDLE_MESSAGE < message.len() {
+        return step_many(shape, state, message, out);
+    }
+    if 16 < shape.c {
         return step_more(shape, state, message, out);
     }
-    step_many(shape, state, message, out)
+    if SHORT_MESSAGE < message.len() {
+        return step_more(shape, state, message, out);
+    }
+    step_few(shape, state, message, out)
 }
