@@ -1,8 +1,16 @@
-// FNV-1a at 64 bits. The product modulo 2^64 is made of shifts, which drop the high bits, and of sums that wrap, so that small machines need no wide multiply for it.
+// FNV-1a at 64 bits, kept as two halves of 32: small machines need no wide multiply for it, and neither half waits for the other from byte to byte.
 ghost use mathlib.Core.Path.{_≡_};
 ghost use Prim.Native.Nat.{_*_, _/_, _%_, _^_};
+ghost use lib.Bits.{bitXor};
 ghost use Rattle.rules.specs.Digest.{prime};
+ghost use Rattle.digest.specs.Halves.{wholeOf};
 ghost use Rattle.digest.specs.Statements.{DigestsOn, Digests};
+
+// 64 bits by halves: of sums and shifts of 64 bits the compiler makes one product by the prime.
+struct Halves {
+    low: u32,
+    high: u32,
+}
 
 // The digest of no bytes.
 pub const BASIS: u64 = 0xcbf29ce484222325;
@@ -25,35 +33,58 @@ fn carried_by_435(x: u32) -> u32
     (half_times_435(x >> 16) + (half_times_435(x % 65536) >> 16)) >> 16
 }
 
-// The product by 435, by halves of 32 bits: of shifts and sums of 64 bits the compiler makes the one product by the prime again.
-fn times_435(h: u64) -> u64
-    ensures { λ r. ⌜ r ≡ h * 435 % 2 ^ 64 ⌝ }
+// The product by 435.
+fn times_435(h: Halves) -> Halves
+    ensures { λ r. ⌜ wholeOf r ≡ wholeOf h * 435 % 2 ^ 64 ⌝ }
 {
-    let low = (h % 4294967296) as u32;
-    let high = (h >> 32) as u32;
-    let upper = std::num::wrapping_add_u32(half_times_435(high), carried_by_435(low));
-    ((upper as u64) << 32) + half_times_435(low) as u64
+    Halves {
+        low: half_times_435(h.low),
+        high: std::num::wrapping_add_u32(half_times_435(h.high), carried_by_435(h.low)),
+    }
+}
+
+// The upper half of h << 40, which the lower half of h alone reaches. The lower half is 0.
+fn shifted_by_40(h: Halves) -> u32
+    ensures { λ r. ⌜ r * 2 ^ 32 ≡ wholeOf h * 2 ^ 40 % 2 ^ 64 ⌝ }
+{
+    h.low << 8
 }
 
 // The product by the prime, which is 2^40 + 435.
-fn times_prime(h: u64) -> u64
-    ensures { λ r. ⌜ r ≡ h * prime % 2 ^ 64 ⌝ }
+fn times_prime(h: Halves) -> Halves
+    ensures { λ r. ⌜ wholeOf r ≡ wholeOf h * prime % 2 ^ 64 ⌝ }
 {
-    std::num::wrapping_add_u64(h << 40, times_435(h))
+    let product = times_435(h);
+    Halves {
+        low: product.low,
+        high: std::num::wrapping_add_u32(product.high, shifted_by_40(h)),
+    }
+}
+
+// A byte xored in: it reaches the lower half alone.
+fn with_byte(byte: u8, h: Halves) -> Halves
+    ensures { λ r. ⌜ wholeOf r ≡ bitXor byte (wholeOf h) ⌝ }
+{
+    Halves {
+        low: byte as u32 ^ h.low,
+        high: h.high,
+    }
 }
 
 // The digest h run on over more bytes.
 pub fn digest_on(h: u64, bytes: &[u8]) -> u64
     ensures { λ r. ⌜ DigestsOn h (now (bytes .entry)) r ⌝ }
 {
-    let mut sum = h;
+    let mut sum = Halves {
+        low: (h % 4294967296) as u32,
+        high: (h >> 32) as u32,
+    };
     let mut i = 0;
     while i < bytes.len() {
-        let byte = bytes[i] as u64;
-        sum = times_prime(byte ^ sum);
+        sum = times_prime(with_byte(bytes[i], sum));
         i += 1;
     }
-    sum
+    ((sum.high as u64) << 32) + sum.low as u64
 }
 
 // The digest of bytes from the start.
