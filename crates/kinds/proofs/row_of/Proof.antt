@@ -2,6 +2,7 @@
 -- Made by tools/answers from the file `answers` beside it: change that one.
 use Rattle.rules.specs.Choice.{any}
 use Rattle.rules.specs.Kind.{rowOf}
+use Rattle.rules.proofs.EachKind.{none-of}
 use Rattle.kinds.proofs.Readings.{row-is, no-row-is}
 use borrow.Author.Needs.{needs}
 use Rattle.kinds.proofs.row_of.Statement.{statement}
@@ -48,59 +49,58 @@ listed-requires-13 c κs = search needs
 
 returns : tie.Need-returns
 unfolding rowOf any
-returns c = search (row-is, no-row-is) depth 60
+returns c = search row-is
 
 returns-2 : tie.Need-returns-2
 unfolding rowOf any
-returns-2 c = search (row-is, no-row-is) depth 60
+returns-2 c = search row-is
 
 returns-3 : tie.Need-returns-3
 unfolding rowOf any
-returns-3 c = search (row-is, no-row-is) depth 60
+returns-3 c = search row-is
 
 returns-4 : tie.Need-returns-4
 unfolding rowOf any
-returns-4 c = search (row-is, no-row-is) depth 60
+returns-4 c = search row-is
 
 returns-5 : tie.Need-returns-5
 unfolding rowOf any
-returns-5 c = search (row-is, no-row-is) depth 60
+returns-5 c = search row-is
 
 returns-6 : tie.Need-returns-6
 unfolding rowOf any
-returns-6 c = search (row-is, no-row-is) depth 60
+returns-6 c = search row-is
 
 returns-7 : tie.Need-returns-7
 unfolding rowOf any
-returns-7 c = search (row-is, no-row-is) depth 60
+returns-7 c = search row-is
 
 returns-8 : tie.Need-returns-8
 unfolding rowOf any
-returns-8 c = search (row-is, no-row-is) depth 60
+returns-8 c = search row-is
 
 returns-9 : tie.Need-returns-9
 unfolding rowOf any
-returns-9 c = search (row-is, no-row-is) depth 60
+returns-9 c = search row-is
 
 returns-10 : tie.Need-returns-10
 unfolding rowOf any
-returns-10 c = search (row-is, no-row-is) depth 60
+returns-10 c = search row-is
 
 returns-11 : tie.Need-returns-11
 unfolding rowOf any
-returns-11 c = search (row-is, no-row-is) depth 60
+returns-11 c = search row-is
 
 returns-12 : tie.Need-returns-12
 unfolding rowOf any
-returns-12 c = search (row-is, no-row-is) depth 60
+returns-12 c = search row-is
 
 returns-13 : tie.Need-returns-13
 unfolding rowOf any
-returns-13 c = search (row-is, no-row-is) depth 60
+returns-13 c = search row-is
 
 returns-14 : tie.Need-returns-14
-unfolding rowOf any
-returns-14 c = search (row-is, no-row-is) depth 60
+returns-14 c = no-row-is (none-of _ _ (c .match .rest))
 
 pub row-of-spec : {M : Type 1} → statement M
 row-of-spec =

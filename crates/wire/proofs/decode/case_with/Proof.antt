@@ -2,6 +2,7 @@
 -- Made by tools/answers from the file `answers` beside it: change that one.
 use Rattle.rules.specs.Choice.{pick}
 use Rattle.rules.specs.Wire.{caseAt}
+use Rattle.rules.proofs.EachKind.{none-of}
 use Rattle.rules.proofs.Case.{case-by, no-case}
 use borrow.Author.Needs.{needs}
 use Rattle.wire.proofs.decode.case_with.Statement.{statement}
@@ -69,7 +70,7 @@ unfolding caseAt pick
 returns-13 c = search case-by
 
 returns-14 : tie.Need-returns-14
-returns-14 c = no-case _ _ (search depth 60)
+returns-14 c = no-case _ _ (none-of _ _ (c .match .rest))
 
 pub case-with-spec : {M : Type 1} → statement M
 case-with-spec =
