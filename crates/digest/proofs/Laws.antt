@@ -45,15 +45,17 @@ prime-apart h high low s l p q =
     let e : (high + s) % 2 ^ 32 * 2 ^ 32 + low ≡ (s * 2 ^ 32 + (high * 2 ^ 32 + low)) % 2 ^ 64 = omega arith in
     e ∙ rw (p, q) (plus (2 ^ 64) h (2 ^ 40) 435 _ _ refl refl)
 
--- a byte xored in
-pub xor-low : (byte high low : ℕ) → byte < 2 ^ 32 → low < 2 ^ 32 → high * 2 ^ 32 + bitXor byte low ≡ bitXor byte (high * 2 ^ 32 + low)
+-- a byte xored in reaches the lower half alone
+xor-low :
+    (byte high low : ℕ) → byte < 2 ^ 32 → low < 2 ^ 32 → high * 2 ^ 32 + bitXor byte low ≡ bitXor byte (high * 2 ^ 32 + low)
 xor-low byte high low b l = sym (simp (zero-mul, zero-add, xor-zero-l) at (xor-block 32 0 high byte low b l))
 
 -- what is left to run over, a byte further on
 pub digest-more :
-    (h x g : ℕ) (s : List ℕ) (i : ℕ) → i < length s → x ≡ bitXor (getD s i 0) h → g ≡ x * prime % 2 ^ 64 → digestFrom h (drop i s) ≡ digestFrom g (drop (i + 1) s)
+    (high low g : ℕ) (s : List ℕ) (i : ℕ) → i < length s → getD s i 0 < 2 ^ 32 → low < 2 ^ 32 → g ≡ (high * 2 ^ 32 + bitXor (getD s i 0) low) * prime % 2 ^ 64
+    → digestFrom (high * 2 ^ 32 + low) (drop i s) ≡ digestFrom g (drop (i + 1) s)
 unfolding digestFrom
-digest-more h x g s i l f e = simp (drop-cons s i 0 l, e, f, add-one i)
+digest-more high low g s i l b f e = simp (drop-cons s i 0 l, e, xor-low (getD s i 0) high low b f, add-one i)
 
 -- nothing left
 pub digest-done : (h : ℕ) (s : List ℕ) (i : ℕ) → length s ≤ i → digestFrom h (drop i s) ≡ h

@@ -1,12 +1,11 @@
-// FNV-1a at 64 bits, kept as two halves of 32: small machines need no wide multiply for it, and neither half waits for the other from byte to byte.
+// FNV-1a at 64 bits, kept as two halves of 32 from byte to byte, of shifts, which drop the high bits, and of sums that wrap: small machines need no wide multiply for it, and on others the products of the halves run side by side.
 ghost use mathlib.Core.Path.{_≡_};
 ghost use Prim.Native.Nat.{_*_, _/_, _%_, _^_};
-ghost use lib.Bits.{bitXor};
 ghost use Rattle.rules.specs.Digest.{prime};
 ghost use Rattle.digest.specs.Halves.{wholeOf};
 ghost use Rattle.digest.specs.Statements.{DigestsOn, Digests};
 
-// 64 bits by halves: of sums and shifts of 64 bits the compiler makes one product by the prime.
+// A number of 64 bits by halves: of shifts and sums of whole ones the compiler makes the one product by the prime again.
 struct Halves {
     low: u32,
     high: u32,
@@ -43,7 +42,7 @@ fn times_435(h: Halves) -> Halves
     }
 }
 
-// The upper half of h << 40, which the lower half of h alone reaches. The lower half is 0.
+// The upper half of h << 40, which only the lower half of h reaches. Its lower half is 0.
 fn shifted_by_40(h: Halves) -> u32
     ensures { λ r. ⌜ r * 2 ^ 32 ≡ wholeOf h * 2 ^ 40 % 2 ^ 64 ⌝ }
 {
@@ -61,16 +60,6 @@ fn times_prime(h: Halves) -> Halves
     }
 }
 
-// A byte xored in: it reaches the lower half alone.
-fn with_byte(byte: u8, h: Halves) -> Halves
-    ensures { λ r. ⌜ wholeOf r ≡ bitXor byte (wholeOf h) ⌝ }
-{
-    Halves {
-        low: byte as u32 ^ h.low,
-        high: h.high,
-    }
-}
-
 // The digest h run on over more bytes.
 pub fn digest_on(h: u64, bytes: &[u8]) -> u64
     ensures { λ r. ⌜ DigestsOn h (now (bytes .entry)) r ⌝ }
@@ -81,7 +70,9 @@ pub fn digest_on(h: u64, bytes: &[u8]) -> u64
     };
     let mut i = 0;
     while i < bytes.len() {
-        sum = times_prime(with_byte(bytes[i], sum));
+        let byte = bytes[i] as u32;
+        sum.low = byte ^ sum.low;
+        sum = times_prime(sum);
         i += 1;
     }
     ((sum.high as u64) << 32) + sum.low as u64

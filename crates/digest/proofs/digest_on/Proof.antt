@@ -1,7 +1,7 @@
 -- `digest::digest_on` meets its contract: what is left to run over, run on from the sum, gives the whole.
 -- Made by tools/answers from the file `answers` beside it: change that one.
-use mathlib.Core.Path.{_≡_, _∙_, sym, refl, ap}
-use Prim.Native.Nat.{ℕ, _+_, _*_, _%_, _^_, _≤_, _-_}
+use mathlib.Core.Path.{_≡_, _∙_, sym, ap}
+use Prim.Native.Nat.{ℕ, _+_, _*_, _%_, _^_, _<_, _≤_, _-_}
 use native.Mathlib.Nat.{div-add-mod'}
 use native.Mathlib.Omega.{arith}
 use lib.ListN.{length, drop}
@@ -13,25 +13,25 @@ use Rattle.digest.proofs.digest_on.Statement.{statement}
 use Rattle.digest.proofs.digest_on.Tie as tie
 
 abbrev Inv-loop : tie.InvT-loop
-Inv-loop h bytes sum₀ i₀ sum i = (i ≤ length bytes) × (digestFrom h bytes ≡ digestFrom (wholeOf sum) (drop i bytes))
+Inv-loop h bytes sum₀ i₀ sum i = (i ≤ length bytes) × (digestFrom h bytes ≡ digestFrom (wholeOf sum) (drop i bytes)) × (sum .low < 2 ^ 32)
 
 abbrev μ-loop : tie.MeasureT-loop
 μ-loop h bytes sum₀ i₀ sum i = length bytes - i
 
-cast-t6 : tie.Need-cast-t6 Inv-loop μ-loop
-cast-t6 c = search needs
+cast-t7 : tie.Need-cast-t7 Inv-loop μ-loop
+cast-t7 c = search needs
 
-cast-t8 : tie.Need-cast-t8 Inv-loop μ-loop
-cast-t8 c = search needs
+cast-t9 : tie.Need-cast-t9 Inv-loop μ-loop
+cast-t9 c = search needs
 
 loop-holds : tie.Need-loop-holds Inv-loop μ-loop
-loop-holds c = (search needs, ap (λ (n : ℕ). digestFrom n (c .before .args .bytes .now)) (sym (div-add-mod' (c .before .args .h) 4294967296)))
+loop-holds c = (search needs, ap (λ (n : ℕ). digestFrom n (c .before .args .bytes .now)) (sym (div-add-mod' (c .before .args .h) 4294967296)), omega arith)
 
-shared-slice-read-with-byte : tie.Need-shared-slice-read-with-byte Inv-loop μ-loop
-shared-slice-read-with-byte c = search needs
+shared-slice-read-byte : tie.Need-shared-slice-read-byte Inv-loop μ-loop
+shared-slice-read-byte c = search needs
 
-with-byte-requires : tie.Need-with-byte-requires Inv-loop μ-loop
-with-byte-requires c κs = search needs
+cast-byte : tie.Need-cast-byte Inv-loop μ-loop
+cast-byte c = omega (arith, c .shared-slice-known2 .given (c .before .before .loop .i))
 
 times-prime-requires : tie.Need-times-prime-requires Inv-loop μ-loop
 times-prime-requires c κs = search needs
@@ -43,7 +43,7 @@ loop-less : tie.Need-loop-less Inv-loop μ-loop
 loop-less c = search needs
 
 loop-again : tie.Need-loop-again Inv-loop μ-loop
-loop-again c = let l = c .before .before .before .before .loop in (search needs, l .inv .1 ∙ digest-more (wholeOf (l .sum)) _ _ _ (l .i) (omega arith) (c .before .with-byte .ensures) (c .times-prime .ensures))
+loop-again c = let l = c .before .before .before .before .loop in let b = c .before .before .shared-slice-known2 .given (l .i) in (search needs, l .inv .1 ∙ digest-more (l .sum .high) (l .sum .low) _ _ (l .i) (omega arith) (omega arith) (l .inv .2) (search needs), omega arith)
 
 cast-result : tie.Need-cast-result Inv-loop μ-loop
 cast-result c = search needs
@@ -63,11 +63,11 @@ digest-on-spec =
     (tie.spec
     Inv-loop
     μ-loop
-    cast-t6
-    cast-t8
+    cast-t7
+    cast-t9
     loop-holds
-    shared-slice-read-with-byte
-    with-byte-requires
+    shared-slice-read-byte
+    cast-byte
     times-prime-requires
     add-i
     loop-less
