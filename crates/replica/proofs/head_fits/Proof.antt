@@ -1,0 +1,1 @@
+-- No proof yet. While this file stands the check looks for none by itself, which would take long.
