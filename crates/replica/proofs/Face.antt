@@ -70,7 +70,7 @@ module _ (n s : ℕ) (g : Given) (numbers views entries out : List ℕ) (h : Ver
     unfolding unfitIn andThen firstWrong pick
     miscounted r at d near q =
         let wrong : eqb (length numbers) (numbersIn (g .kind)) ≡ false = ne-eqb (length numbers) (numbersIn (g .kind)) (λ z. d (z ∙ sym c)) in
-        unfit-puts r (numbersAt s (g .kind)) _ (rw (sym e ∙ fine, wrong) refl) (q ∙ go (sizesFit n s) refl)
+        unfit-puts r (numbersAt s (g .kind)) (numbersAt s (g .kind) + 4) (rw (sym e ∙ fine, wrong) refl) (q ∙ go (sizesFit n s) refl)
       where
         go : (t : Bool) → sizesFit n s ≡ t → coded (pick t 2 1) (pick t at 0) ≡ coded (pick t 2 1) (pick t (numbersAt s (g .kind)) 0)
         go true z = ap (coded 2) (near (sizes n s z .groups))
@@ -108,10 +108,11 @@ pub record Narrow (g : Given) : Type 0 where
   pub view : g .view < 4294967296
 
 pub narrow-fits : (g : Given) (h : Verdict) → h ≡ firstWrong (headFits g) → h ≡ Fine → Narrow g
+unfolding headFits
 narrow-fits g h e f =
     let r = rows-right (headFits g) (sym e ∙ f) in
     record {
-      kind = omega (arith, kind-small (g .kind) (r 0) .0);
+      kind = kind-small (g .kind) (r 0);
       toGroup = ltb-true _ _ (r 1);
       toMask = ltb-true _ _ (r 2);
       fromGroup = ltb-true _ _ (r 3);
@@ -125,4 +126,4 @@ none-known k l = go (known k) refl
   where
     go : (t : Bool) → known k ≡ t → false ≡ t
     go false e = refl
-    go true e = absurd (let z = kind-small k e .0 in omega arith)
+    go true e = absurd (let z = kind-small k e in omega arith)

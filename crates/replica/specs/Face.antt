@@ -55,7 +55,7 @@ given kind toGroup toMask fromGroup fromReplica view =
     record { kind = kind; toGroup = toGroup; toMask = toMask; fromGroup = fromGroup; fromReplica = fromReplica; view = view }
 
 -- the kind is known, and each field fits its bytes
-abbrev pub headFits : Given → List Row
+unfoldable pub headFits : Given → List Row
 headFits g =
     (0 to 1 is known (g .kind))
     ∷ (1 to 2 is ltb (g .toGroup) 256)

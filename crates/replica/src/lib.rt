@@ -216,7 +216,7 @@ fn unfit(n: u64, s: u64, at: usize) -> u64
 
 // Where the count of a kind's numbers stands; 0 for more groups than there can be.
 fn count_at(s: u64, kind: u8) -> usize
-    ensures { λ r. ⌜ s ≤ 8 → r ≡ numbersAt s kind ⌝ }
+    ensures { λ r. ⌜ (s ≤ 8 → r ≡ numbersAt s kind) ⌝ }
 {
     if 8 < s {
         return 0;
