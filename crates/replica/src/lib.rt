@@ -46,6 +46,9 @@ fn code(answer: Answer) -> u64
     }
 }
 
+// What the proved core says where the model says 1.
+const PROVED: u64 = 0;
+
 // The version of the interface: major * 10000 + minor * 100 + patch.
 #[no_mangle]
 pub extern "C" fn jallumere_version() -> u64
@@ -59,7 +62,7 @@ pub extern "C" fn jallumere_version() -> u64
 pub extern "C" fn jallumere_is_model() -> u64
     ensures { λ r. ⌜ IsCore r ⌝ }
 {
-    0
+    PROVED
 }
 
 // The state's length, 0 for wrong sizes.
