@@ -17,7 +17,7 @@
 #include <stdint.h>
 
 /* The version of this interface: major * 10000 + minor * 100 + patch. */
-#define JALLUMERE_VERSION 10000
+#define JALLUMERE_VERSION 20000
 
 /* What stands in the place of a group's or a replica's number for whatever is outside every group. */
 #define JALLUMERE_OUTSIDE 255
@@ -28,9 +28,12 @@
 /* Where a digest begins afresh: FNV-1a's offset basis, which is the digest of no bytes. */
 #define JALLUMERE_DIGEST_START UINT64_C(0xcbf29ce484222325)
 
-/* The two parts of what jallumere_step and jallumere_write give: one of the answers below, and a length in bytes. */
+/* The parts of what jallumere_step, jallumere_read and jallumere_write give, which is a number + 256 * a length or an
+ * offset: one of the answers below; the length in bytes of what was written, 0 after a refusal; and the offset in the
+ * message of its first wrong field, 0 but after JALLUMERE_MALFORMED. Neither of the two is ever taken for the other. */
 #define JALLUMERE_NUMBER(answer) ((unsigned)((answer) % 256))
-#define JALLUMERE_LENGTH(answer) ((size_t)((answer) / 256))
+#define JALLUMERE_LENGTH(answer) jallumere_part(answer, JALLUMERE_DONE)
+#define JALLUMERE_OFFSET(answer) jallumere_part(answer, JALLUMERE_MALFORMED)
 
 /* Kinds of messages: a message's first byte. */
 enum jallumere_kind {
@@ -53,7 +56,7 @@ enum jallumere_kind {
 enum jallumere_answer {
     JALLUMERE_DONE = 0,
     JALLUMERE_WRONG_STATE = 1,        /* a size, own number or length is wrong, or the state is not good */
-    JALLUMERE_MALFORMED = 2,          /* the bytes are no message, or a kind 5 or 6 was given to a step */
+    JALLUMERE_MALFORMED = 2,          /* the bytes are no message, or a step was given a kind 5 or 6; with an offset */
     JALLUMERE_NOT_ADDRESSED_HERE = 3, /* another group, or a mask without this replica */
     JALLUMERE_WRONG_VIEW = 4,         /* of another view, or of one that is not greater where it must be */
     JALLUMERE_WRONG_STATUS = 5,       /* the status does not take this kind */
@@ -62,6 +65,11 @@ enum jallumere_answer {
     JALLUMERE_FULL = 8,               /* a table or the log would pass c */
     JALLUMERE_NO_ROOM = 9             /* `out` is too short */
 };
+
+/* What goes with a number in an answer; 0 in an answer with another. */
+static inline size_t jallumere_part(uint64_t answer, unsigned number) {
+    return answer % 256 == number ? (size_t)(answer / 256) : 0;
+}
 
 /* What JALLUMERE_FIELD_STATUS says. */
 enum jallumere_status {
@@ -125,10 +133,12 @@ uint64_t jallumere_start(uint64_t n, uint64_t s, uint64_t c, uint64_t group, uin
 
 /*
  * One step: takes the message and makes `state` the next state; what is to be sent stands first in `out`,
- * message after message (jallumere_message_length cuts them apart), and the rest of `out` stays. Gives an answer
- * + 256 * the length of the outgoing bytes: JALLUMERE_NUMBER and JALLUMERE_LENGTH take it apart. A refusal has
- * length 0 and leaves every byte of `state` and `out`. After JALLUMERE_DONE the state is to be on the disk before
- * anything of `out` is sent. An `out` of c * (96 + 4 * s) + 24 + 4 * s bytes is never too short.
+ * message after message (jallumere_message_length cuts them apart), and the rest of `out` stays. Gives
+ * JALLUMERE_DONE + 256 * the length of the outgoing bytes; or JALLUMERE_MALFORMED + 256 * the offset that
+ * jallumere_read gives, of a message of kind 5 or 6 always 0; or another refusal alone. JALLUMERE_NUMBER,
+ * JALLUMERE_LENGTH and JALLUMERE_OFFSET take it apart. A refusal leaves every byte of `state` and `out`. After
+ * JALLUMERE_DONE the state is to be on the disk before anything of `out` is sent. An `out` of
+ * c * (96 + 4 * s) + 24 + 4 * s bytes is never too short.
  */
 uint64_t jallumere_step(uint64_t n, uint64_t s, uint64_t c, uint8_t *state, size_t state_length,
                         const uint8_t *message, size_t message_length, uint8_t *out, size_t out_length);
@@ -167,8 +177,10 @@ uint64_t jallumere_entry(uint64_t n, uint64_t s, uint64_t c, uint64_t position, 
 
 /*
  * Whether these bytes are a well-formed message of any kind, 5 and 6 too: JALLUMERE_DONE well formed,
- * JALLUMERE_WRONG_STATE wrong n or s, JALLUMERE_MALFORMED else. There is no limit to a log's length here. Writes
- * nothing.
+ * JALLUMERE_WRONG_STATE wrong n or s, else JALLUMERE_MALFORMED + 256 * the offset of the first wrong field in wire
+ * order: of a message that is cut its length, of bytes after the end the offset of the first of them, of two fields
+ * that disagree that of the later, of a log that is not good that of the first entry with which it stops being good.
+ * There is no limit to a log's length here. Writes nothing.
  */
 uint64_t jallumere_read(uint64_t n, uint64_t s, const uint8_t *message, size_t message_length);
 
@@ -181,12 +193,14 @@ uint64_t jallumere_message_length(uint64_t n, uint64_t s, const uint8_t *bytes, 
 
 /*
  * Writes the message with these fields first in `out` and leaves the rest of it. Gives JALLUMERE_DONE + 256 *
- * the message's length; or, with length 0 and `out` as it was, JALLUMERE_WRONG_STATE for a wrong n or s,
- * JALLUMERE_MALFORMED where the message would be malformed (a field that does not fit into its bytes is out of
- * range) and JALLUMERE_NO_ROOM where `out` is too short; the lowest that applies. `numbers` are the kind's numbers
- * in their order, `numbers_count` of them; another count than the kind's is malformed. `views` is the gVec, 4 bytes
- * a group, `entries` the entries, 24 bytes each (timestamp 8, command 8, request 4, coordinator 2, mask 2), both as
- * they stand in a message and without their counts; a length that is no multiple of 4 or 24 is malformed.
+ * the message's length; or, with `out` as it was, JALLUMERE_WRONG_STATE for a wrong n or s, JALLUMERE_MALFORMED where
+ * the message would be malformed (a field that does not fit into its bytes is out of range) and JALLUMERE_NO_ROOM
+ * where `out` is too short; the lowest that applies. `numbers` are the kind's numbers in their order, `numbers_count`
+ * of them; another count than the kind's is malformed. `views` is the gVec, 4 bytes a group, `entries` the entries, 24
+ * bytes each (timestamp 8, command 8, request 4, coordinator 2, mask 2), both as they stand in a message and without
+ * their counts; a length that is no multiple of 4 or 24 is malformed. With JALLUMERE_MALFORMED comes 256 * the offset
+ * at which the first wrong field would stand in the message; of a wrong number of numbers, and of a block that is no
+ * multiple, that of the section's count.
  */
 uint64_t jallumere_write(uint64_t n, uint64_t s, uint64_t kind, uint64_t to_group, uint64_t to_mask,
                          uint64_t from_group, uint64_t from_replica, uint64_t view, const uint64_t *numbers,

@@ -283,9 +283,10 @@ static void check_same(const cell *now, const uint64_t answers[2]) {
                 memcmp(out[0], out[1], JALLUMERE_LENGTH(answers[1])) == 0;
     if (same && JALLUMERE_NUMBER(answers[1]) == now->answer)
         return;
-    fprintf(stderr, "bench: %s at kind %u, %s, n %ju, S %ju, C %ju, log %ju: %u and %u\n",
+    fprintf(stderr, "bench: %s at kind %u, %s, n %ju, S %ju, C %ju, log %ju: %u + 256 * %ju and %u + 256 * %ju\n",
             same ? "not the answer that the row names" : "core and model differ", now->of->kind, now->of->name,
-            SIZES(&now->at), now->filled, JALLUMERE_NUMBER(answers[0]), JALLUMERE_NUMBER(answers[1]));
+            SIZES(&now->at), now->filled, JALLUMERE_NUMBER(answers[0]), answers[0] / 256, JALLUMERE_NUMBER(answers[1]),
+            answers[1] / 256);
     exit(1);
 }
 

@@ -52,6 +52,13 @@ static inline const char *answer_name(uint64_t answer) {
     return answer < ANSWERS ? names[answer] : "unknown number";
 }
 
+/* Whether an answer keeps to its form: a length within the room beside 0, an offset within the message beside 2, and
+ * beside the others nothing. */
+static inline bool answer_fits(uint64_t answer, size_t room, size_t message_length) {
+    unsigned number = JALLUMERE_NUMBER(answer);
+    return answer / 256 <= (number == JALLUMERE_DONE ? room : number == JALLUMERE_MALFORMED ? message_length : 0);
+}
+
 static inline const char *status_name(uint64_t status) {
     static const char *const names[] = {"no status", "normal", "view change", "cross-shard"};
     return names[status <= JALLUMERE_STATUS_CROSS_SHARD ? status : 0];
@@ -65,6 +72,7 @@ typedef struct {
     uint64_t numbers[NUMBERS_MOST];
     const uint8_t *views, *entries;
     uint64_t view_count, number_count, count;
+    uint64_t zeros; /* what stands in their place in a message that is read */
 } message;
 
 /* An empty message of a kind: numbers and views (which are to be set) as many as it has, from and to outside. */

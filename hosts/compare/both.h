@@ -45,8 +45,27 @@ static const char *const origins[] = {"run",           "odd run",     "built",  
                                       "damaged state", "wrong sizes", "recorded", NULL};
 static const char *const full_tables[] = {"log", "early", "late", "notes", "draft", "a vote", "a reply", NULL};
 static const char *const after[] = {"done, by status after", NULL};
+static const char *const wrong_fields[] = {"kind",
+                                           "group",
+                                           "mask",
+                                           "sender's group",
+                                           "sender's replica",
+                                           "three zeros",
+                                           "gView",
+                                           "gVec's count",
+                                           "numbers' count",
+                                           "first number",
+                                           "second number",
+                                           "entries' count",
+                                           "entry, or its time",
+                                           "request",
+                                           "coordinator",
+                                           "mask of an entry",
+                                           "where it is cut",
+                                           "behind its end",
+                                           NULL};
 
-enum table { STEPS, SPANS, FULL, SOURCES, PLACED, ENTERED, STATES, MESSAGES, TABLES };
+enum table { STEPS, SPANS, FULL, SOURCES, PLACED, ENTERED, STATES, MESSAGES, OFFSETS, TABLES };
 enum { COLUMNS = 10 };
 
 /* Of each table its head, what its rows are (NULL: kinds), how many columns there are, and whether they are pairs. */
@@ -64,6 +83,7 @@ static const struct {
     [STATES] = {"\nstates                     good not good\n", origins, 2, false},
     [MESSAGES] = {"\nmessages                 read 0        1        2  write 0        1        2        9\n", NULL, 7,
                   false},
+    [OFFSETS] = {"\nmalformed, at             read     step    write\n", wrong_fields, 3, false},
 };
 
 /* What is no kind at all is counted as kind 0. */
@@ -103,6 +123,25 @@ static void count_step(const uint8_t *state, unsigned kind, unsigned number, enu
     counts[PLACED][kind][status == JALLUMERE_STATUS_CROSS_SHARD ? 4 : 2 * (status - 1) + state_leads(&at, state)]++;
     counts[ENTERED][0][state_of[1][AT_STATUS] - 1]++;
     lost_goodness[kind] += model_good(SIZES(&at), state_of[1], at.length) != JALLUMERE_DONE;
+}
+
+/* The field of a message of some kind that begins at an offset, by its place in wrong_fields. */
+static unsigned field_at(uint64_t kind, size_t offset) {
+    static const uint8_t of_header[] = {0, 1, 2, 3, 4, 5, 0, 0, 6, 0, 0, 0, 7},
+                         of_entry[] = {12, 13, 13, 13, 13, 14, 15};
+    if (offset <= HEADER_LENGTH)
+        return of_header[offset];
+    size_t opening = length_of_kind(kind, at.s, 0), numbers = opening - 8 - 8 * (size_t)forms[kind].numbers;
+    return offset >= opening       ? of_entry[((offset - opening) % ENTRY_LENGTH + 2) / 4]
+           : offset == opening - 4 ? 11
+                                   : 8 + (unsigned)(offset - numbers + 4) / 8;
+}
+
+/* Where a message of some kind was found malformed; of one that is read it is known how long it is and should be. */
+static void count_offset(uint64_t answer, unsigned column, uint64_t kind, size_t length, size_t end) {
+    size_t offset = JALLUMERE_OFFSET(answer);
+    if (JALLUMERE_NUMBER(answer) == JALLUMERE_MALFORMED)
+        counts[OFFSETS][offset == length ? 16 : offset != 0 && offset == end ? 17 : field_at(kind, offset)][column]++;
 }
 
 /* Counts stand in pairs where there are two to a column; of kinds the last line is what is none. */
@@ -182,8 +221,10 @@ _Noreturn static void end_with_difference(const char *call, const char *why, con
 /* ---- calls that write nothing ------------------------------------------------------------------------ */
 
 static uint64_t agree(const char *call, uint64_t core, uint64_t model, const uint8_t *bytes, size_t length) {
-    char why[96];
-    snprintf(why, sizeof why, "the core answers %" PRIu64 ", the model %" PRIu64, core, model);
+    char why[160];
+    snprintf(why, sizeof why,
+             "the core answers %" PRIu64 " (%u + 256 * %" PRIu64 "), the model %" PRIu64 " (%u + 256 * %" PRIu64 ")",
+             core, JALLUMERE_NUMBER(core), core / 256, model, JALLUMERE_NUMBER(model), model / 256);
     if (core != model)
         end_with_difference(call, why, bytes, length);
     return core;
@@ -219,9 +260,10 @@ static bool try_good(const uint8_t *state, enum origin from) {
 static uint64_t try_read(letter told) {
     letter given = copy_of(told.bytes, told.length);
     uint64_t answer = AGREE(read, given.bytes, given.length, at.n, at.s, given.bytes, given.length);
-    AGREE(message_length, given.bytes, given.length, at.n, at.s, given.bytes, given.length);
+    uint64_t end = AGREE(message_length, given.bytes, given.length, at.n, at.s, given.bytes, given.length);
     free(given.bytes);
-    counts[MESSAGES][kind_row(told)][answer]++;
+    counts[MESSAGES][kind_row(told)][JALLUMERE_NUMBER(answer)]++;
+    count_offset(answer, 0, kind_row(told), told.length, end);
     return answer;
 }
 
@@ -248,18 +290,19 @@ static void lend(const uint8_t *state, size_t length, size_t room) {
     }
 }
 
-/* Whether a side kept to what it was lent: guards whole, and nothing written where it refused. */
-static const char *misuse(int side, uint64_t answer, const uint8_t *state, size_t length, size_t room) {
+/* Whether a side kept to what it was lent: guards whole, and nothing written where it refused; and whether its answer
+ * is one that may be given for such a message. */
+static const char *misuse(int side, uint64_t answer, const uint8_t *state, size_t length, size_t room, letter told) {
     size_t sent = JALLUMERE_LENGTH(answer);
     if (memcmp(state_of[side] - GUARD_LENGTH, pattern, GUARD_LENGTH) != 0 ||
         memcmp(state_of[side] + length, pattern, GUARD_LENGTH) != 0)
         return "written outside of the state";
-    if (sent > room)
-        return "outgoing length beyond the room";
+    if (!answer_fits(answer, room, told.length))
+        return "a length beyond the room, an offset beyond the message, or one of them beside another refusal";
     if (memcmp(out_of[side] - GUARD_LENGTH, pattern, GUARD_LENGTH) != 0 ||
         memcmp(out_of[side] + sent, pattern + GUARD_LENGTH + sent, room - sent + GUARD_LENGTH) != 0)
         return "written behind the outgoing bytes";
-    if (JALLUMERE_NUMBER(answer) != 0 && (sent != 0 || (length != 0 && memcmp(state_of[side], state, length) != 0)))
+    if (JALLUMERE_NUMBER(answer) != 0 && length != 0 && memcmp(state_of[side], state, length) != 0)
         return "a refusal that left something behind";
     return NULL;
 }
@@ -274,12 +317,12 @@ static uint64_t compare_sides(const char *call, const uint64_t answers[SIDES], c
                       : memcmp(out_of[0], out_of[1], room) != 0       ? "the outgoing buffers differ"
                                                                       : NULL;
     for (int side = 0; side < SIDES && why == NULL; side++)
-        why = misuse(side, answers[side], state, length, room);
+        why = misuse(side, answers[side], state, length, room, told);
     if (why == NULL)
         return answers[1];
     for (int side = 0; side < SIDES; side++)
-        printf("%s: answer %u, outgoing length %zu\n", side_names[side], JALLUMERE_NUMBER(answers[side]),
-               JALLUMERE_LENGTH(answers[side]));
+        printf("%s: answer %u, length or offset %" PRIu64 "\n", side_names[side], JALLUMERE_NUMBER(answers[side]),
+               answers[side] / 256);
     while (byte < length && state_of[0][byte] == state_of[1][byte])
         byte++;
     if (byte < length && length == lay_out(SIZES(&at)).length)
@@ -301,6 +344,7 @@ static uint64_t try_step(const uint8_t *state, letter told, size_t room, enum or
             steps[side](SIZES(&at), state_of[side], at.length, given.bytes, given.length, out_of[side], room);
     uint64_t answer = compare_sides("step", answers, state, at.length, room, given);
     count_step(state, kind_row(told), JALLUMERE_NUMBER(answer), from);
+    count_offset(answer, 1, kind_row(told), told.length, model_message_length(at.n, at.s, given.bytes, given.length));
     exact += JALLUMERE_NUMBER(answer) == 0 && JALLUMERE_LENGTH(answer) == room;
     free(given.bytes);
     return answer;
@@ -311,6 +355,13 @@ static void try_start(uint64_t group, uint64_t replica) {
     const uint64_t answers[] = {jallumere_start(SIZES(&at), group, replica, state_of[0], at.length),
                                 model_start(SIZES(&at), group, replica, state_of[1], at.length)};
     starts[compare_sides("start", answers, pattern, at.length, 0, (letter){0}) != JALLUMERE_DONE]++;
+}
+
+/* Whether a message with these fields can be put into bytes, which are then read. */
+static bool has_bytes(const message *made, size_t views_length, size_t entries_length) {
+    const uint64_t bytes = made->kind | made->to_group | made->to_mask | made->from_group | made->from_replica;
+    return bytes <= UINT8_MAX && made->view <= UINT32_MAX && views_length == 4 * made->view_count &&
+           entries_length == ENTRY_LENGTH * made->count;
 }
 
 static uint64_t try_write(const message *made, size_t views_length, size_t entries_length, size_t room) {
@@ -331,6 +382,12 @@ static uint64_t try_write(const message *made, size_t views_length, size_t entri
                views_length, entries_length);
     uint64_t answer = compare_sides("write", answers, NULL, 0, room, given);
     counts[MESSAGES][is_kind(made->kind) ? made->kind : 0][columns[JALLUMERE_NUMBER(answer)]]++;
+    count_offset(answer, 2, made->kind, SIZE_MAX, SIZE_MAX);
+    if (has_bytes(made, views_length, entries_length)) {
+        uint64_t read = model_read(at.n, at.s, given.bytes, given.length), number = JALLUMERE_NUMBER(answer);
+        if (read != (number == JALLUMERE_DONE || number == JALLUMERE_NO_ROOM ? JALLUMERE_DONE : answer))
+            end_with_difference("write", "the reader says otherwise of these bytes", given.bytes, given.length);
+    }
     free(given.bytes);
     return answer;
 }

@@ -35,7 +35,7 @@ static void try_writing(letter told) {
     else if (edited == 3)
         made.number_count = below(NUMBERS_MOST + 1);
     else if (edited == 2)
-        views_length = below(views_length + 1);
+        views_length = chance(50) ? below(views_length + 1) : views_length + 1 + below(3); /* the numbers' count */
     else if (edited == 1)
         entries_length = below(entries_length + 1);
     uint64_t answer = try_write(&made, views_length, entries_length, told.length + below(40));
@@ -282,7 +282,8 @@ static void run_shares(void) {
     }
 }
 
-/* Logs beyond the greatest capacity, for the reader: good ones, and with a transaction twice, close by or apart. */
+/* Logs beyond the greatest capacity, for the reader: good ones, and with a transaction twice, close by or apart; and
+ * these with an entry spoilt. */
 static void try_long_logs(void) {
     static const uint64_t counts[] = {4096, 4097, 6000, 8193, 9000};
     static uint8_t views[8], entries[ENTRY_LENGTH * 9000], room[LETTER_ROOM];
@@ -300,8 +301,12 @@ static void try_long_logs(void) {
         if (i % 3 != 0)
             memcpy(entries + ENTRY_LENGTH * other + AT_TRANSACTION, entries + ENTRY_LENGTH * one + AT_TRANSACTION,
                    TRANSACTION_LENGTH);
-        compose(&told, &made);
-        try_read(told);
+        for (unsigned j = 0; j < 5; j++) {
+            compose(&told, &made);
+            if (j != 0)
+                spoil_entry(&told);
+            try_read(told);
+        }
     }
 }
 
@@ -322,7 +327,8 @@ static void run_some(void) {
 
 /* A trace is a row of records. 01, n (1), S (1), C (2), group (1), replica (1) starts afresh. 02, outgoing room (4),
  * message length (4), the message, and what is expected: refusal (1), outgoing length (4), FNV-1a of the outgoing
- * bytes (8), FNV-1a of the state (8). */
+ * bytes (8), FNV-1a of the state (8). 05, n (1), S (1), message length (4), the message is one for the reader, of which
+ * the refusal (1) and the offset (4) are expected. */
 static letter records;
 
 static const uint8_t *take(size_t length) {
@@ -354,9 +360,25 @@ static bool replay_step(uint8_t *state, bool shown) {
     return !same;
 }
 
+/* The same of a message for the reader. */
+static bool replay_read(bool shown) {
+    const uint8_t *sizes = take(2);
+    size_t length = load(take(4), 4);
+    letter told = {(uint8_t *)take(length), length};
+    const uint8_t *expected = take(1 + 4);
+    at = (layout){.n = sizes[0], .s = sizes[1]};
+    uint64_t answer = try_read(told), recorded = expected[0] + 256 * load(expected + 1, 4);
+    if (answer != recorded && !shown)
+        printf("the record says otherwise of a message of kind %u and %zu bytes, n %" PRIu64 ", S %" PRIu64
+               ": expected answer %u and offset %" PRIu64 ", given %u and %" PRIu64 "\n",
+               length == 0 ? 0 : told.bytes[0], length, at.n, at.s, expected[0], recorded / 256,
+               JALLUMERE_NUMBER(answer), answer / 256);
+    return answer != recorded;
+}
+
 /* Gives the number of differences. */
 static uint64_t replay(const char *path) {
-    uint64_t begun = 0, differences = 0;
+    uint64_t begun = 0, read = 0, differences = 0;
     records.bytes = read_file(path, &records.length);
     while (records.length != 0) {
         uint8_t record = *take(1);
@@ -368,11 +390,15 @@ static uint64_t replay(const char *path) {
             begun++;
         } else if (record == 2 && at.length != 0)
             differences += replay_step(spare_state, differences != 0);
-        else
+        else if (record == 5) {
+            differences += replay_read(differences != 0);
+            read++;
+        } else
             stop("the file of traces has a record of no known sort");
     }
     show_tables();
-    printf("%" PRIu64 " starts, %" PRIu64 " recorded steps, %" PRIu64 " differences\n", begun, steps_done, differences);
+    printf("%" PRIu64 " starts, %" PRIu64 " recorded steps, %" PRIu64 " recorded messages, %" PRIu64 " differences\n",
+           begun, steps_done, read, differences);
     return differences;
 }
 

@@ -116,7 +116,10 @@ static void take(struct site *own, const uint8_t *message, size_t length) {
         send_and_reply(own);
         apply_committed(own);
     } else {
-        fprintf(stderr, "refused with %u: a message of kind %u\n", JALLUMERE_NUMBER(answer), message[0]);
+        fprintf(stderr, "refused with %u: a message of kind %u", JALLUMERE_NUMBER(answer), message[0]);
+        if (JALLUMERE_NUMBER(answer) == JALLUMERE_MALFORMED)
+            fprintf(stderr, ", wrong at byte %zu", JALLUMERE_OFFSET(answer));
+        fprintf(stderr, "\n");
         if (JALLUMERE_NUMBER(answer) == JALLUMERE_WRONG_STATE)
             stop("the state in memory is not good");
     }

@@ -65,6 +65,10 @@ check "a report that cannot be sent stops the host" 1 $?
 check "and is sent when it starts again" "0 36" "$? $(size sent)"
 printf 'no message' | "$one" 0 0 0 again >sent 2>said
 check "what is no message is not taken" "1 1" "$? $(says 'no message')"
+for program in "$one" "$two"; do
+    (head -c 8 transaction && printf '\1' && tail -c 55 transaction) | "$program" 0 0 0 again >sent 2>said
+    check "a malformed message is told with the place where it is wrong" "0 1" "$? $(says 'refused with 2: .*, wrong at byte 8')"
+done
 
 cp 0/site kept
 printf '\116' | dd of=0/site bs=1 seek=99 conv=notrunc 2>/dev/null

@@ -1,22 +1,22 @@
-/* A state's bytes as a report for people; and, where the state is not good, why not.
+/* A state's bytes as a report for people; and, where the state is not good, why not. Or a message's: see message.c.
  *
  * Whether a state is good is decided by the core (jallumere_good). The reasons are the model's; where the two
  * disagree, the report says so.
  *
- * inspect STATE [--sites N --groups S --capacity C] [--all]: 0 good, 1 not good, 2 bad usage or no such shape. */
-#include "../common/host.h"
-#include "../common/messages.h"
+ * inspect STATE [--sites N --groups S --capacity C] [--all]: 0 good, 1 not good, 2 bad usage or no such shape.
+ * inspect --message MESSAGE [--sites N --groups S] [--all]: 0 well formed, 1 not, 2 bad usage. */
+#include "report.h"
+
 #include "../model/model.h"
 
 const char program_name[] = "inspect";
 
-enum { SHOWN_ENTRIES = 20, SHOWN_REASONS = 12, SHAPES_MOST = 64 };
+enum { SHOWN_REASONS = 12, SHAPES_MOST = 64 };
 
-/* What was asked for on the command line; sizes that were not given are 0. */
-static const char *path;
-static uint64_t asked_n, asked_s, asked_c;
-static bool show_all;
+uint64_t asked_n, asked_s;
+bool show_all;
 
+static uint64_t asked_c;
 static const uint8_t *state;
 static layout at;
 
@@ -190,18 +190,25 @@ static bool take_shape(size_t length) {
 }
 
 int main(int count, char **words) {
+    const char *path = NULL, *told = NULL;
     const option options[] = {{"--sites", .number = &asked_n, .least = 3, .most = REPLICAS_MOST},
                               {"--groups", .number = &asked_s, .least = 1, .most = GROUPS_MOST},
                               {"--capacity", .number = &asked_c, .least = CAPACITY_LEAST, .most = CAPACITY_MOST},
+                              {"--message", .word = &told},
                               {"--all", .flag = &show_all},
                               {NULL, .flag = NULL}};
     size_t length;
     read_words(count, words, options, &path);
-    if (path == NULL)
-        stop("which state? ./jallumere inspect --help");
-    if ((asked_n == 0) != (asked_s == 0) || (asked_n == 0) != (asked_c == 0))
-        stop("--sites, --groups and --capacity go together: give all three or none");
-    state = read_file(path, &length);
+    if ((path == NULL) == (told == NULL))
+        stop("which state, or which message? ./jallumere inspect --help");
+    if ((asked_n == 0) != (asked_s == 0) || (asked_n == 0 || told != NULL) != (asked_c == 0))
+        stop("--sites, --groups and, for a state, --capacity go together: give all or none");
+    if (asked_n != 0 && asked_n % 2 == 0)
+        stop("sites are 3, 5 or 7");
+    const uint8_t *bytes = read_file(told != NULL ? told : path, &length);
+    if (told != NULL)
+        return report_message(bytes, length) ? 0 : 1;
+    state = bytes;
     bool good = take_shape(length);
     print_report();
     print_verdict(good);

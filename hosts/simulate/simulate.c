@@ -255,8 +255,8 @@ static letter *write_letter(const message *made, uint64_t group, uint64_t mask, 
         jallumere_write(at.n, at.s, made->kind, group, mask, JALLUMERE_OUTSIDE, JALLUMERE_OUTSIDE, made->view,
                         made->numbers, forms[made->kind].numbers, made->views, 4 * made->view_count, made->entries,
                         ENTRY_LENGTH * made->count, bytes, sizeof bytes);
-    PROMISE(JALLUMERE_NUMBER(answer) == JALLUMERE_DONE, NULL, "the writer refuses a kind %ju with %u", made->kind,
-            JALLUMERE_NUMBER(answer));
+    PROMISE(JALLUMERE_NUMBER(answer) == JALLUMERE_DONE, NULL, "the writer refuses a kind %ju with %u, offset %zu",
+            made->kind, JALLUMERE_NUMBER(answer), JALLUMERE_OFFSET(answer));
     return keep_letter(bytes, JALLUMERE_LENGTH(answer), from);
 }
 
@@ -362,8 +362,9 @@ static void take_outgoing(const site *own, size_t length) {
     for (size_t reach = 0, first; reach < length; reach += first) {
         first = (size_t)jallumere_message_length(at.n, at.s, outgoing + reach, length - reach);
         PROMISE(first != 0, own, "the outgoing bytes are no row of messages from byte %zu on", reach);
-        PROMISE(jallumere_read(at.n, at.s, outgoing + reach, first) == 0, own,
-                "it sent a message of kind %u that is not well formed", outgoing[reach]);
+        uint64_t read = jallumere_read(at.n, at.s, outgoing + reach, first);
+        PROMISE(read == JALLUMERE_DONE, own, "it sent a message of kind %u that is not well formed at byte %zu",
+                outgoing[reach], JALLUMERE_OFFSET(read));
         letter *sent = keep_letter(outgoing + reach, first, place_of(own));
         const message *told = &sent->told;
         PROMISE(told->from_group == own->is.group && told->from_replica == own->is.replica, own,
@@ -397,10 +398,12 @@ static void tell(const site *own, const message *told) {
         note(own, "commits up to %u, reached by %u of %ju sites", is->commit, reached_by(is->group, is->commit), at.n);
 }
 
-static void check_refusal(site *own, const message *told, unsigned refusal) {
+static void check_refusal(site *own, const message *told, uint64_t answer) {
     bool tick = told->kind == JALLUMERE_TICK;
+    unsigned refusal = JALLUMERE_NUMBER(answer);
     PROMISE(refusal != JALLUMERE_WRONG_STATE && refusal != JALLUMERE_MALFORMED && refusal != JALLUMERE_NO_ROOM, own,
-            "refusal %u (%s) for a kind %ju", refusal, answer_name(refusal), told->kind);
+            "refusal %u (%s) for a kind %ju, offset %zu", refusal, answer_name(refusal), told->kind,
+            JALLUMERE_OFFSET(answer));
     PROMISE(memcmp(before, own->state, at.length) == 0, own, "a refusal changed its state");
     if (refusal != JALLUMERE_FULL)
         return;
@@ -441,15 +444,15 @@ static unsigned take_step(site *own, const letter *taken) {
     unsigned refusal = JALLUMERE_NUMBER(answer);
     size_t length = JALLUMERE_LENGTH(answer);
     step_count++;
-    PROMISE(refusal < ANSWERS && length <= outgoing_room && (refusal == JALLUMERE_DONE || length == 0), own,
-            "the step answers %ju", answer);
+    PROMISE(refusal < ANSWERS && answer_fits(answer, outgoing_room, taken->length), own, "the step answers %ju",
+            answer);
     PROMISE(memcmp(outgoing + length, outgoing_before + length, outgoing_room - length) == 0, own,
             "the step wrote past what it sends");
     answers[refusal]++;
     if (refusal == JALLUMERE_DONE)
         check_done(own, &taken->told);
     else
-        check_refusal(own, &taken->told, refusal);
+        check_refusal(own, &taken->told, answer);
     PUT("[\"p\",%u,%d,%zu,%u,%u,%u,%u,%u,%u,%ju,%ju,%d,%zu],\n", now, place_of(own), taken->number, refusal, is->status,
         is->view, is->logged, is->sync, is->commit, load(own->state + at.early, 4), load(own->state + at.late, 4),
         own->leads, length);

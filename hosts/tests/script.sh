@@ -172,10 +172,17 @@ test_bad_words() {
     refused 'simulate --capacity 15' 'from 16 to 4096'
     refused 'simulate --page nowhere/run.html' 'cannot be written'
     refused 'simulate --states nowhere' 'is no folder'
-    refused 'inspect' 'which state'
+    refused 'inspect' 'which state, or which message'
     refused 'inspect nowhere.state' 'cannot be read'
     refused 'inspect calls --sites 3' 'go together'
+    refused 'inspect calls --sites 3 --groups 1 --sites 3' 'go together'
     refused 'inspect calls calls' 'one state at a time'
+    refused 'inspect --message' '--message takes a FILE behind it'
+    refused 'inspect --message nowhere.message' 'cannot be read'
+    refused 'inspect --message calls --groups 1' 'go together'
+    refused 'inspect --message calls --sites 3 --groups 1 --capacity 16' 'go together'
+    refused 'inspect --message calls calls' 'one state at a time'
+    refused 'inspect calls --message calls' 'one at a time'
     refused 'compare --traces nowhere.bin' 'cannot be read'
     refused 'compare 5' "takes no '5'"
     refused 'bench --svg' '--svg takes a FILE behind it'
@@ -260,6 +267,85 @@ test_other_core() {
     check "another archive can be the core" runs_printed 1
     JALLUMERE_CORE=nowhere.a jallumere simulate --steps 30
     check "another archive must be there" said "'nowhere.a', which cannot be read"
+}
+
+begins_with() { head -n 1 "$room/out" | grep -qxF -e "$1"; }
+
+inspected() { # WORDS STATUS FIRST-LINE A-LINE SIZES: what inspect says of the file 'message'
+    # shellcheck disable=SC2086
+    JALLUMERE_CORE=model jallumere inspect --message message $5
+    check "$1: the exit status" is_status "$2"
+    check "$1: the verdict comes first" begins_with "$3"
+    check "$1: the report" printed "$4"
+    check "$1: core and report agree" not printed DISAGREEMENT
+}
+
+make_tick() { printf '\27\0\2\377\377\0\0\0\0\0\0\0\0\0\0\0\1\0\0\0\5\0\0\0\0\0\0\0\0\0\0\0' >tick; }
+
+# A core that is the model but for its reader, which finds everything wrong at byte 3.
+make_other_core() {
+    gcc -O0 -I "$tree/include" -I "$tree/hosts/common" -Djallumere_read=of_the_model -c -o one.o "$tree/hosts/model/core.c"
+    echo 'unsigned long jallumere_read(void) { return 2 + 256 * 3; }' | gcc -x c -c -o two.o - && ar rcs other.a one.o two.o
+}
+
+# A tick of 32 bytes, a replica sync with two entries of group 0, and what is wrong with them.
+test_message() {
+    local good='The message is well formed.' wrong='The message is NOT well formed: it is wrong at byte'
+    local sizes='--sites 3 --groups 1'
+    fresh_tree
+    make_tick
+    printf '\4\0\6\0\0\0\0\0\0\0\0\0\1\0\0\0\0\0\0\0\0\0\0\0\2\0\0\0' >log
+    printf '\11\0\0\0\0\0\0\0\115\0\0\0\0\0\0\0\1\0\0\0\11\0\1\0' >>log
+    printf '\10\0\0\0\0\0\0\0\115\0\0\0\0\0\0\0\2\0\0\0\11\0\1\0' >>log
+    cp tick message
+    inspected "a tick" 0 "$good" '^ *20  time  *5$' "$sizes"
+    check "a tick has nothing marked" not printed WRONG
+    inspected "a tick without sizes" 0 "$good" '3 sites in a group, 1 group (not given: the first sizes in which it is well formed)' ''
+    (head -c 8 tick && printf '\1' && tail -c 23 tick) >message
+    inspected "a wrong field" 1 "$wrong 8." '^ *^ WRONG at byte 8: a tick has gView 0$' "$sizes"
+    head -c 27 tick >message
+    inspected "a cut message" 1 "$wrong 27." 'WRONG at byte 27: the message ends here, after 7 of the 8 bytes of the time' "$sizes"
+    check "a cut message is shown as far as it goes" eval '[ "$(grep -c "^ *[0-9][0-9]*  " "$room/out")" -eq 10 ]'
+    head -c 16 tick >message
+    inspected "a message cut between fields" 1 "$wrong 16." "WRONG at byte 16: the message ends here, before the numbers' count" "$sizes"
+    cat tick tick >message
+    inspected "bytes behind" 1 "$wrong 32." 'WRONG at byte 32: .* 32 bytes follow, which begin with another message' "$sizes"
+    cp log message
+    inspected "a log that stops being good" 1 "$wrong 52." 'WRONG at byte 52: timestamp 8 falls below 9 of entry 1' "$sizes"
+    (head -c 52 log && printf '\12' && tail -c 23 log) >message
+    inspected "a good log" 0 "$good" '^ *52  entry 2  *at 10, transaction 9.2, groups 0, ' "$sizes"
+    (head -c 52 log && printf '\12' && tail -c 23 log | head -c 15 && printf '\1' && tail -c 7 log) >message
+    inspected "a transaction twice" 1 "$wrong 52." 'WRONG at byte 52: transaction 9.1 stands in entry 1 already' "$sizes"
+    (head -c 44 log && printf '\0' && tail -c 31 log) >message
+    inspected "a field of an entry" 1 "$wrong 44." 'WRONG at byte 44: request 0 is out of range' "$sizes"
+    : >message
+    inspected "an empty file" 1 "$wrong 0." 'WRONG at byte 0: the message has no bytes' ''
+    echo 'some text that is no message' >message
+    inspected "a text" 1 "$wrong 0." 'WRONG at byte 0: there is no kind 115' ''
+    JALLUMERE_CORE=model jallumere inspect --message - <tick
+    check "a message comes from the standard input" is_status 0
+    make_other_core
+    JALLUMERE_CORE=other.a jallumere inspect --message tick
+    check "the verdict is the core's" is_status 1
+    check "a core that says otherwise is told" printed '^DISAGREEMENT: this report finds nothing wrong.$'
+}
+
+# A tick as it is and one byte short, each with what is expected of the reader.
+test_traces() {
+    fresh_tree
+    make_tick
+    (printf '\5\3\1\40\0\0\0' && cat tick && printf '\0\0\0\0\0\5\3\1\37\0\0\0' && head -c 31 tick && printf '\2\37\0\0\0') >messages
+    JALLUMERE_CORE=model jallumere compare --traces messages
+    check "recorded messages are compared" is_status 0
+    check "recorded messages are counted" printed ' 2 recorded messages, 0 differences$'
+    (head -c 83 messages && printf '\36\0\0\0') >others
+    JALLUMERE_CORE=model jallumere compare --traces others
+    check "another offset is a difference" is_status 1
+    check "another offset is told" printed 'expected answer 2 and offset 30, given 2 and 31$'
+    make_other_core
+    JALLUMERE_CORE=other.a jallumere compare --traces messages
+    check "a core with another offset is told" printed '^DIFFERENCE in read: the core answers 770 (2 + 256 \* 3), the model 0 '
+    check "a core with another offset ends the comparison" is_status 1
 }
 
 test_missing() {
@@ -529,7 +615,7 @@ PATH=$room/native:$PATH
 make_rt
 make_tools
 make_bare_commands
-[ $# -gt 0 ] || set -- help bad_words first_command not_proved other_core missing arm 'lock with' 'lock without' signals closed_pipe read_only bench \
+[ $# -gt 0 ] || set -- help bad_words first_command not_proved other_core message traces missing arm 'lock with' 'lock without' signals closed_pipe read_only bench \
     replay_and_gate progress terminal
 for name in "$@"; do
     # shellcheck disable=SC2086

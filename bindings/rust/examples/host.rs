@@ -124,7 +124,7 @@ impl Site {
             }
             Err(Refusal::WrongState) => Err("the state in memory is not good".into()),
             Err(refusal) => {
-                eprintln!("refused with {}: a message of kind {}", refusal.number(), message[0]);
+                eprintln!("refused with {}: a message of kind {}: {refusal}", refusal.number(), message[0]);
                 Ok(())
             }
         }

@@ -36,7 +36,7 @@ mod raw;
 pub use names::{Answer, Core, Field, Kind, Refusal, Status};
 
 /// The version of the interface that this crate is written for: major * 10000 + minor * 100 + patch.
-pub const VERSION: u64 = 10_000;
+pub const VERSION: u64 = 20_000;
 
 /// Group and replica of whatever stands outside every group: coordinators, clocks, the view manager.
 pub const OUTSIDE: u64 = 255;
@@ -224,14 +224,15 @@ fn some(said: u64) -> Option<u64> {
     (said != u64::MAX).then_some(said)
 }
 
-/// Whether these bytes are a well-formed message of any kind.
+/// Whether these bytes are a well-formed message of any kind; [`Refusal::Malformed`] tells where they are wrong first.
 pub fn read(sizes: Sizes, message: &[u8]) -> Result<(), Refusal> {
     // SAFETY: pointer and length are those of one slice, which is read alone.
     let answer = unsafe { raw::jallumere_read(sizes.sites, sizes.groups, message.as_ptr(), message.len()) };
     Answer::from_code(answer).result().map(|_| ())
 }
 
-/// Writes a message first in `out` and gives its length; the rest of `out` stays.
+/// Writes a message first in `out` and gives its length; the rest of `out` stays. The offset in [`Refusal::Malformed`] is
+/// where the first wrong field would stand, or the count of its section where there are too many or too few of them.
 pub fn write(sizes: Sizes, message: &Message<'_>, out: &mut [u8]) -> Result<usize, Refusal> {
     // SAFETY: pointers and lengths are those of slices that do not overlap (the three that are read may), lent for the
     // call alone.

@@ -62,27 +62,63 @@ numbered! {
     }
 }
 
-numbered! {
-    /// Why a call was refused. The lowest number that applies is given, and after a refusal all memory is as it came.
-    Refusal {
-        /// 1: a size, an own number or the state's length is wrong, or the state is not good.
-        WrongState = 1,
-        /// 2: the message is malformed, or it is a reply to a coordinator.
-        Malformed = 2,
-        /// 3: the message is not addressed to this site.
-        NotAddressedHere = 3,
-        /// 4: the message is of a wrong view.
-        WrongView = 4,
-        /// 5: this site is in a status that does not take the message.
-        WrongStatus = 5,
-        /// 6: this site or the sender has a wrong role.
-        WrongRole = 6,
-        /// 7: there is nothing to do now.
-        NothingToDo = 7,
-        /// 8: a table or the log would pass the capacity.
-        Full = 8,
-        /// 9: the outgoing buffer is too short.
-        NoRoom = 9,
+/// Why a call was refused. The lowest number that applies is given, and after a refusal all memory is as it came.
+#[derive(Clone, Copy, Debug, PartialEq, Eq, PartialOrd, Ord, Hash)]
+pub enum Refusal {
+    /// 1: a size, an own number or the state's length is wrong, or the state is not good.
+    WrongState,
+    /// 2: the message is malformed, or it is a reply to a coordinator.
+    Malformed {
+        /// Where the first wrong field begins, in bytes from the message's beginning: in one that is cut its length, in
+        /// one with bytes after its end the first of them; 0 for a reply that was given to a step.
+        offset: usize,
+    },
+    /// 3: the message is not addressed to this site.
+    NotAddressedHere,
+    /// 4: the message is of a wrong view.
+    WrongView,
+    /// 5: this site is in a status that does not take the message.
+    WrongStatus,
+    /// 6: this site or the sender has a wrong role.
+    WrongRole,
+    /// 7: there is nothing to do now.
+    NothingToDo,
+    /// 8: a table or the log would pass the capacity.
+    Full,
+    /// 9: the outgoing buffer is too short.
+    NoRoom,
+}
+
+impl Refusal {
+    /// The refusal with this number, if the rules have one; one for a malformed message has this offset.
+    pub fn from_number(number: u64, offset: usize) -> Option<Refusal> {
+        Some(match number {
+            1 => Refusal::WrongState,
+            2 => Refusal::Malformed { offset },
+            3 => Refusal::NotAddressedHere,
+            4 => Refusal::WrongView,
+            5 => Refusal::WrongStatus,
+            6 => Refusal::WrongRole,
+            7 => Refusal::NothingToDo,
+            8 => Refusal::Full,
+            9 => Refusal::NoRoom,
+            _ => return None,
+        })
+    }
+
+    /// Its number in the rules.
+    pub fn number(self) -> u64 {
+        match self {
+            Refusal::WrongState => 1,
+            Refusal::Malformed { .. } => 2,
+            Refusal::NotAddressedHere => 3,
+            Refusal::WrongView => 4,
+            Refusal::WrongStatus => 5,
+            Refusal::WrongRole => 6,
+            Refusal::NothingToDo => 7,
+            Refusal::Full => 8,
+            Refusal::NoRoom => 9,
+        }
     }
 }
 
@@ -90,7 +126,7 @@ impl fmt::Display for Refusal {
     fn fmt(&self, to: &mut fmt::Formatter<'_>) -> fmt::Result {
         to.write_str(match self {
             Refusal::WrongState => "wrong size, number or state",
-            Refusal::Malformed => "malformed message",
+            Refusal::Malformed { offset } => return write!(to, "malformed message, wrong at byte {offset}"),
             Refusal::NotAddressedHere => "not addressed here",
             Refusal::WrongView => "wrong view",
             Refusal::WrongStatus => "wrong status",
@@ -142,7 +178,8 @@ numbered! {
     }
 }
 
-/// What the C functions `jallumere_step` and `jallumere_write` give: a refusal's number, 0 for done, + 256 * a length.
+/// What the C functions `jallumere_step`, `jallumere_read` and `jallumere_write` give: a refusal's number, 0 for done,
+/// + 256 * what goes with it: a length beside 0, the offset of the first wrong field beside 2.
 #[derive(Clone, Copy, Debug, PartialEq, Eq, Hash)]
 pub struct Answer(u64);
 
@@ -158,12 +195,16 @@ impl Answer {
 
     /// The bytes that were written; 0 after a refusal.
     pub fn length(self) -> u64 {
-        self.0 / 256
+        if self.number() == 0 {
+            self.0 / 256
+        } else {
+            0
+        }
     }
 
     /// The length, or the refusal. A number that the rules do not have is no answer of a core.
     pub fn result(self) -> Result<usize, Refusal> {
-        match (self.number(), Refusal::from_number(self.number())) {
+        match (self.number(), Refusal::from_number(self.number(), (self.0 / 256) as usize)) {
             (_, Some(refusal)) => Err(refusal),
             (0, None) => Ok(self.length() as usize),
             _ => panic!("the core answered {}, which its rules do not have", self.0),

@@ -73,10 +73,62 @@ fn a_wrong_start_leaves_memory_as_it_came() {
 fn the_writer_gives_the_bytes_of_the_rules() {
     assert_eq!(tick(2, 5), TICK);
     assert_eq!(read(SIZES, &TICK), Ok(()));
-    assert_eq!(read(SIZES, &TICK[..31]), Err(Refusal::Malformed));
-    assert_eq!(read(SIZES, &[&TICK[..], &[0]].concat()), Err(Refusal::Malformed));
-    assert_eq!(read(SIZES, &[]), Err(Refusal::Malformed));
     assert_eq!(read(Sizes { sites: 4, ..SIZES }, &TICK), Err(Refusal::WrongState));
+}
+
+fn malformed<T>(offset: usize) -> Result<T, Refusal> {
+    Err(Refusal::Malformed { offset })
+}
+
+/// A message that is cut is wrong where it ends, one with bytes after its end at the first of them, and any other at its
+/// first wrong field.
+#[test]
+fn the_reader_tells_where_a_message_is_wrong() {
+    for length in 0..TICK.len() {
+        assert_eq!(read(SIZES, &TICK[..length]), malformed(length));
+    }
+    assert_eq!(read(SIZES, &[&TICK[..], &[0, 0]].concat()), malformed(32));
+    let transaction = transaction(1, 0b111);
+    for (place, value, offset) in [(0, 2, 0), (1, 1, 1), (2, 8, 2), (4, 0, 4), (7, 1, 5), (9, 1, 8), (12, 1, 12), (16, 1, 16)] {
+        let mut wrong = transaction.clone();
+        wrong[place] = value;
+        assert_eq!(read(SIZES, &wrong), malformed(offset), "byte {place}");
+        wrong[62] = 0; // the mask, behind all others
+        assert_eq!(read(SIZES, &wrong), malformed(offset), "byte {place} before another");
+    }
+    for (place, value, offset) in [(27, 0x80, 28), (36, 2, 36), (47, 1, 40), (56, 0, 56), (62, 2, 62)] {
+        let mut wrong = transaction.clone();
+        wrong[place] = value;
+        assert_eq!(read(SIZES, &wrong), malformed(offset), "byte {place}");
+        assert_eq!(read(SIZES, &wrong[..offset]), malformed(offset), "cut before byte {offset}");
+    }
+}
+
+#[test]
+fn a_log_is_wrong_where_it_stops_being_good() {
+    let log = |entries: &[Entry]| {
+        let bytes: Vec<u8> = entries.iter().flat_map(|entry| entry.bytes().unwrap()).collect();
+        let from = Message { from_group: 0, from_replica: 0, ..Message::from_outside(Kind::ReplicaSync, 0, 6) };
+        let mut out = [0; 128];
+        write(SIZES, &Message { views: &[0; 4], entries: &bytes, ..from }, &mut out)
+    };
+    let entry = |timestamp, request| Entry { timestamp, command: 77, request, coordinator: 9, mask: 1 };
+    assert_eq!(log(&[entry(5, 1), entry(5, 2)]), Ok(76));
+    assert_eq!(log(&[entry(5, 1), entry(4, 2)]), malformed(52));
+    assert_eq!(log(&[entry(5, 1), entry(6, 1)]), malformed(52));
+    assert_eq!(log(&[entry(5, 1), entry(6, 0)]), malformed(68));
+    assert_eq!(log(&[entry(5, 1), Entry { mask: 3, ..entry(6, 2) }]), malformed(52));
+}
+
+#[test]
+fn a_step_tells_where_a_message_is_wrong() {
+    let mut state = fresh(1);
+    let mut out = [0; 128];
+    assert_eq!(step(SIZES, &mut state, &TICK[..31], &mut out), malformed(31));
+    for reply in [&[5][..], &[6], &[5; 200]] {
+        assert_eq!(step(SIZES, &mut state, reply, &mut out), malformed(0), "{reply:?}");
+    }
+    assert_eq!(read(SIZES, &[5]), malformed(1));
 }
 
 #[test]
@@ -84,10 +136,14 @@ fn a_refused_write_leaves_the_buffer() {
     let message = Message { numbers: &[0], ..Message::from_outside(Kind::Tick, 0, 2) };
     let mut out = [0xa5; 40];
     assert_eq!(write(SIZES, &message, &mut out[..31]), Err(Refusal::NoRoom));
-    assert_eq!(write(SIZES, &Message { to_mask: 8, ..message }, &mut out), Err(Refusal::Malformed));
-    assert_eq!(write(SIZES, &Message { entries: &[0; 23], ..message }, &mut out), Err(Refusal::Malformed));
-    assert_eq!(write(SIZES, &Message { numbers: &[], ..message }, &mut out), Err(Refusal::Malformed));
-    assert_eq!(write(SIZES, &Message { numbers: &[0, 0], ..message }, &mut out), Err(Refusal::Malformed));
+    assert_eq!(write(SIZES, &Message { to_mask: 8, ..message }, &mut out), malformed(2));
+    assert_eq!(write(SIZES, &Message { from_group: 511, ..message }, &mut out), malformed(3));
+    assert_eq!(write(SIZES, &Message { view: 1 << 32, ..message }, &mut out), malformed(8));
+    assert_eq!(write(SIZES, &Message { views: &[0; 3], ..message }, &mut out), malformed(12));
+    assert_eq!(write(SIZES, &Message { numbers: &[], ..message }, &mut out), malformed(16));
+    assert_eq!(write(SIZES, &Message { numbers: &[0, 0], ..message }, &mut out), malformed(16));
+    assert_eq!(write(SIZES, &Message { numbers: &[1 << 63], entries: &[0; 23], ..message }, &mut out), malformed(20));
+    assert_eq!(write(SIZES, &Message { entries: &[0; 23], ..message }, &mut out), malformed(28));
     assert_eq!(out, [0xa5; 40]);
     assert_eq!(write(SIZES, &message, &mut out), Ok(32));
     assert_eq!(out[32..], [0xa5; 8]);
@@ -132,8 +188,8 @@ fn refusals_leave_memory_as_it_came() {
     let from_second = Message { from_group: 0, from_replica: 2, ..Message::from_outside(Kind::SyncStatus, 0, 2) };
     let status = bytes_of(&Message { numbers: &[0], views: &[0; 4], ..from_second });
     let cases: [(&[u8], usize, Refusal); 7] = [
-        (&TICK[..31], 128, Refusal::Malformed),
-        (&[], 128, Refusal::Malformed),
+        (&TICK[..31], 128, Refusal::Malformed { offset: 31 }),
+        (&[], 128, Refusal::Malformed { offset: 0 }),
         (&tick(1, 5), 128, Refusal::NotAddressedHere),
         (&change(0, &[0; 4]), 128, Refusal::WrongView),
         (&status, 128, Refusal::WrongRole),
@@ -177,7 +233,7 @@ fn the_digest_is_fnv_1a() {
 #[test]
 fn numbers_have_their_names() {
     let named = |of: fn(u64) -> Option<u64>| (0..=255).filter_map(of).collect::<Vec<_>>();
-    assert_eq!(named(|number| Refusal::from_number(number).map(Refusal::number)), (1..=9).collect::<Vec<_>>());
+    assert_eq!(named(|number| Refusal::from_number(number, 7).map(Refusal::number)), (1..=9).collect::<Vec<_>>());
     assert_eq!(named(|number| Kind::from_number(number).map(Kind::number)), [1, 3, 4, 5, 6, 7, 8, 9, 10, 11, 18, 19, 23]);
     assert_eq!(named(|number| Status::from_number(number).map(Status::number)), [1, 2, 3]);
     assert_eq!(named(|number| Field::from_number(number).map(Field::number)), (1..=10).collect::<Vec<_>>());
@@ -199,12 +255,17 @@ fn stands_in_header(prefix: &str, name: String, number: u64) -> bool {
         .any(|stands| stands.trim().strip_prefix(&line).is_some_and(|rest| !rest.starts_with(|c: char| c.is_ascii_digit())))
 }
 
+/// Without the offset that one of them has.
+fn name_of(refusal: Refusal) -> String {
+    format!("{refusal:?}").split(' ').next().unwrap_or_default().to_string()
+}
+
 #[test]
 fn names_are_those_of_the_header() {
     for number in 0..=255 {
         let named = [
             Kind::from_number(number).map(|kind| ("", format!("{kind:?}"))),
-            Refusal::from_number(number).map(|refusal| ("", format!("{refusal:?}"))),
+            Refusal::from_number(number, 0).map(|refusal| ("", name_of(refusal))),
             Status::from_number(number).map(|status| ("_STATUS", format!("{status:?}"))),
             Field::from_number(number).map(|field| ("_FIELD", format!("{field:?}"))),
         ];
@@ -219,9 +280,12 @@ fn names_are_those_of_the_header() {
 }
 
 #[test]
-fn an_answer_is_a_number_and_a_length() {
+fn an_answer_is_a_number_and_a_length_or_an_offset() {
     let answer = Answer::from_code(36 * 256);
     assert_eq!((answer.number(), answer.length(), answer.result()), (0, 36, Ok(36)));
+    let answer = Answer::from_code(2 + 36 * 256);
+    assert_eq!((answer.number(), answer.length(), answer.result()), (2, 0, malformed(36)));
+    assert_eq!(Refusal::Malformed { offset: 36 }.to_string(), "malformed message, wrong at byte 36");
     assert_eq!(Answer::from_code(8).result(), Err(Refusal::Full));
     assert_eq!(Answer::from_code(0).result(), Ok(0));
 }

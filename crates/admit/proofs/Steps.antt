@@ -3,28 +3,30 @@ use Prim.Native.Nat.{ℕ}
 use mathlib.Core.Path.{_≡_, refl, sym, ap, _∙_, subst}
 use mathlib.Core.Bool.{Bool, true, false, true≢false}
 use mathlib.Core.List.{List}
+use native.Mathlib.Nat.{suc-ne-zero}
 use lib.Dec.{eqb}
 use borrow.Author.Tests.{eqb-true, eq-eqb, ne-eqb}
+use Rattle.octets.specs.Bytes.{num}
 use Rattle.rules.specs.Choice.{pick, any}
 use Rattle.rules.specs.Group.{sizesFit, shapeFits}
-use Rattle.rules.specs.Wire.{Wire, tagOf}
+use Rattle.rules.specs.Wire.{Wire, offsetIn, tagOf}
 use Rattle.rules.specs.Kind.{known, toOutside}
 use Rattle.rules.specs.Read.{Read, malformed, message, read, wireIn, caseRead, decoded}
 use Rattle.rules.specs.State.{State}
 use Rattle.rules.specs.Image.{stateOf, goodBytes}
 use Rattle.rules.specs.Step.{Outcome, refused, step, handle, here, viewRight, statusRight, roleRight}
-use Rattle.rules.specs.Bytes.{Left, leaves, closes, stepRead, stepBytes}
+use Rattle.rules.specs.Bytes.{Left, leaves, leavesAt, closes, stepRead, stepBytes}
 use Rattle.rules.specs.declared.Shape.{Shape}
 use Rattle.rules.specs.declared.Message.{Message}
 use Rattle.rules.proofs.Tests.{and-l}
 use Rattle.rules.proofs.Good.{good-bytes}
-use Rattle.rules.proofs.Case.{tag-case}
+use Rattle.rules.proofs.Case.{tag-case, offset-case}
 use Rattle.rules.proofs.Messages.{read-whole, whole-known}
 use Rattle.places.proofs.Sections.{stands}
 use Rattle.handler.specs.Handler.{Ready}
 use Rattle.handler.proofs.Told.{Told, told}
 use Rattle.handler.proofs.Closes.{closes-refused}
-use Rattle.admit.specs.Refusal.{refusalOf}
+use Rattle.admit.specs.Refusal.{refusalOf, wrongAt}
 
 -- ---- the tests in a row
 
@@ -86,7 +88,7 @@ sizes sh e = and-l _ _ e
 
 module _ (sh : Shape) (b msg out : List ℕ) (m : Message) (r : ℕ) (g : goodBytes sh b ≡ true) (d : m ≡ decoded (sh .n) (sh .s) msg) (q : r ≡ refusalOf sh (stateOf sh b) (tagOf m) (wireIn (sh .s) msg)) where
   abbrev here-then : Left
-  here-then = stepRead sh b out (read (sh .n) (sh .s) msg)
+  here-then = stepRead sh b out (num msg 0 1) (read (sh .n) (sh .s) msg)
 
   good-step : here-then ≡ stepBytes sh b msg out
   unfolding stepBytes pick
@@ -97,48 +99,77 @@ module _ (sh : Shape) (b msg out : List ℕ) (m : Message) (r : ℕ) (g : goodBy
   case x e = d ∙ rw (sizes sh (good-bytes sh b g .fits), e)
 
   -- bytes that are no message
-  none : (at : ℕ) → read (sh .n) (sh .s) msg ≡ malformed at → (r ≡ 2) × (here-then ≡ leaves 2 b out)
+  none : (at : ℕ) → read (sh .n) (sh .s) msg ≡ malformed at → (r ≡ 2) × (leavesAt (wrongAt m msg) b out ≡ here-then)
   unfolding stepRead
-  none at e = (q ∙ none-two sh (stateOf sh b) (tagOf m) (wireIn (sh .s) msg) (ap tagOf (case (malformed at) e)), ap (stepRead sh b out) e)
-
-  module _ (t : Told (sh .n) (sh .s) m msg) (z : eqb (tagOf m) 0 ≡ false) where
-    by-refusal : here-then ≡ closes sh b out (pick (eqb r 0) (handle (tagOf m) sh (stateOf sh b) (wireIn (sh .s) msg)) (refused r))
-    unfolding stepRead
-    by-refusal =
-        ap (stepRead sh b out) (t .reading)
-        ∙ ap (closes sh b out) (by-number sh (stateOf sh b) (tagOf m) (wireIn (sh .s) msg) z (t .kind))
-        ∙ ap (λ (x : ℕ). closes sh b out (pick (eqb x 0) (handle (tagOf m) sh (stateOf sh b) (wireIn (sh .s) msg)) (refused x))) (sym q)
-
-  -- bytes that are one
-  known-kind : (w : Wire) → read (sh .n) (sh .s) msg ≡ message w → known (tagOf m) ≡ true
-  known-kind w e =
-      let k = whole-known (sh .n) (sh .s) msg w (read-whole (sh .n) (sh .s) msg w e) in
-      ap (λ (x : Message). known (tagOf x)) (case (message w) e) ∙ ap known (tag-case w k) ∙ k
+  none at e =
+      let m-is = case (malformed at) e in (
+        q ∙ none-two sh (stateOf sh b) (tagOf m) (wireIn (sh .s) msg) (ap tagOf m-is),
+        sym (ap (stepRead sh b out (num msg 0 1)) e ∙ ap (λ (x : Message). leavesAt (wrongAt x msg) b out) (sym m-is)),
+      )
 
   abbrev judged : ℕ → Left
   judged x = closes sh b out (pick (eqb x 0) (handle (tagOf m) sh (stateOf sh b) (wireIn (sh .s) msg)) (refused x))
 
-  by-read : (x : Read) → read (sh .n) (sh .s) msg ≡ x → here-then ≡ judged r
-  unfolding pick
-  by-read (malformed at) e =
-      let p = none at e in
-      p .1 ∙ sym (closes-refused sh b out 2) ∙ ap judged (sym (p .0))
-  by-read (message w) e =
+  module _ (t : Told (sh .n) (sh .s) m msg) (z : eqb (tagOf m) 0 ≡ false) where
+    by-refusal : here-then ≡ judged r
+    unfolding stepRead
+    by-refusal =
+        ap (stepRead sh b out (num msg 0 1)) (t .reading)
+        ∙ ap (closes sh b out) (by-number sh (stateOf sh b) (tagOf m) (wireIn (sh .s) msg) z (t .kind))
+        ∙ ap judged (sym q)
+
+  -- bytes that are one
+  known-kind : (w : Wire) → read (sh .n) (sh .s) msg ≡ message w → known (w .kind) ≡ true
+  known-kind w e = whole-known (sh .n) (sh .s) msg w (read-whole (sh .n) (sh .s) msg w e)
+
+  known-tag : (w : Wire) → read (sh .n) (sh .s) msg ≡ message w → known (tagOf m) ≡ true
+  known-tag w e =
       let k = known-kind w e in
-      by-refusal (told (sh .n) (sh .s) m msg d k) (known-some (tagOf m) k)
+      ap (λ (x : Message). known (tagOf x)) (case (message w) e) ∙ ap known (tag-case w k) ∙ k
 
-  judged-step : judged r ≡ stepBytes sh b msg out
-  judged-step = sym (by-read (read (sh .n) (sh .s) msg) refl) ∙ good-step
-
-  pub refused-step : (r ≡ 0 → ⊥) → leaves r b out ≡ stepBytes sh b msg out
+  one : (w : Wire) → read (sh .n) (sh .s) msg ≡ message w → (here-then ≡ judged r) × (wrongAt m msg ≡ 0)
   unfolding pick
-  refused-step n =
+  one w e =
+      let k = known-tag w e in
+      let o : offsetIn m ≡ 0 = ap offsetIn (case (message w) e) ∙ offset-case w (known-kind w e) in
+      (by-refusal (told (sh .n) (sh .s) m msg d k) (known-some (tagOf m) k), either (toOutside (num msg 0 1)) (offsetIn m) o)
+    where
+      either : (t : Bool) (x : ℕ) → x ≡ 0 → pick t 0 x ≡ 0
+      either true x e = refl
+      either false x e = e
+
+  -- another number than 2 comes from a message alone
+  by-read : (r ≡ 2 → ⊥) → (x : Read) → read (sh .n) (sh .s) msg ≡ x → here-then ≡ judged r
+  by-read n (malformed at) e = absurd (n (none at e .0))
+  by-read n (message w) e = one w e .0
+
+  judged-step : (r ≡ 2 → ⊥) → judged r ≡ stepBytes sh b msg out
+  judged-step n = sym (by-read n (read (sh .n) (sh .s) msg) refl) ∙ good-step
+
+  refused-so : (r ≡ 0 → ⊥) → leaves r b out ≡ judged r
+  unfolding pick
+  refused-so n =
       let e : judged r ≡ closes sh b out (refused r) = ap (λ (x : Bool). closes sh b out (pick x (handle (tagOf m) sh (stateOf sh b) (wireIn (sh .s) msg)) (refused r))) (ne-eqb r 0 n) in
-      sym (closes-refused sh b out r) ∙ sym e ∙ judged-step
+      sym (closes-refused sh b out r) ∙ sym e
+
+  pub refused-step : (r ≡ 0 → ⊥) → (r ≡ 2 → ⊥) → leaves r b out ≡ stepBytes sh b msg out
+  refused-step n o = refused-so n ∙ judged-step o
+
+  -- 2, with the offset of the first wrong field
+  pub malformed-step : (at : ℕ) → at ≡ wrongAt m msg → r ≡ 2 → leavesAt at b out ≡ stepBytes sh b msg out
+  malformed-step at a f = ap (λ (x : ℕ). leavesAt x b out) a ∙ go (read (sh .n) (sh .s) msg) refl ∙ good-step
+    where
+      go : (x : Read) → read (sh .n) (sh .s) msg ≡ x → leavesAt (wrongAt m msg) b out ≡ here-then
+      go (malformed at) e = none at e .1
+      go (message w) e =
+          let p = one w e in
+          ap (λ (x : ℕ). leavesAt x b out) (p .1) ∙ ap (λ (x : ℕ). leaves x b out) (sym f) ∙ refused-so (λ z. absurd (suc-ne-zero 1 (sym f ∙ z))) ∙ sym (p .0)
 
   pub handled-step : r ≡ 0 → closes sh b out (handle (tagOf m) sh (stateOf sh b) (wireIn (sh .s) msg)) ≡ stepBytes sh b msg out
   unfolding pick
-  handled-step n = sym (ap (λ (x : Bool). closes sh b out (pick x (handle (tagOf m) sh (stateOf sh b) (wireIn (sh .s) msg)) (refused r))) (eq-eqb r 0 n)) ∙ judged-step
+  handled-step n =
+      sym (ap (λ (x : Bool). closes sh b out (pick x (handle (tagOf m) sh (stateOf sh b) (wireIn (sh .s) msg)) (refused r))) (eq-eqb r 0 n))
+      ∙ judged-step (λ z. absurd (suc-ne-zero 1 (sym z ∙ n)))
 
   some-kind : r ≡ 0 → eqb (tagOf m) 0 ≡ false
   some-kind n = go (eqb (tagOf m) 0) refl

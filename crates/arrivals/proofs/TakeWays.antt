@@ -152,5 +152,5 @@ module _ (sh : Shape) (b out : List ℕ) (e : Entry) (s : Stands sh (stateOf sh 
       out-full l = sym (ap (closes sh b out) done-so ∙ closes-tight sh b out (takenEarly sh st′ e) (noteSends sh st′ e) (rw d at l))
 
       pub taken : need ≤ length out → (sent : ℕ) (b′ out′ : List ℕ) → sent ≡ length (flat wireBytes (noteSends sh st′ e)) → out′ ≡ splice out 0 (flat wireBytes (noteSends sh st′ e)) → b′ ≡ image sh (takenEarly sh st′ e)
-          → _≡_ {A = Left} (record { refused = false; number = 0; sent = sent; state = b′; out = out′ }) (closes sh b out (leaderTakes sh st′ e))
+          → _≡_ {A = Left} (record { refused = false; number = 0; offset = 0; sent = sent; state = b′; out = out′ }) (closes sh b out (leaderTakes sh st′ e))
       taken l sent b′ out′ v o w = sym (ap (closes sh b out) done-so ∙ closes-sent sh b out (takenEarly sh st′ e) (noteSends sh st′ e) (rw d at l) ∙ rw (v, o, w))

@@ -127,13 +127,13 @@ fn follower_takes(shape: Shape, state: &mut [u8], e: Entry, out: &mut [u8]) -> A
 {
     if stamps::may_follow(shape, state, e) {
         if shape.c as usize <= entries::count(places::early(shape, state)) {
-            return Answer::Refused(refusal::FULL);
+            return Answer::Refused(refusal::FULL, 0);
         }
         add_early(shape, state, e);
         return Answer::Done(0);
     }
     if shape.c as usize <= entries::count(places::late(shape, state)) {
-        return Answer::Refused(refusal::FULL);
+        return Answer::Refused(refusal::FULL, 0);
     }
     add_late(shape, state, e);
     Answer::Done(0)
@@ -183,13 +183,13 @@ fn leader_takes(shape: Shape, state: &mut [u8], e: Entry, out: &mut [u8]) -> Ans
         ≡ closes shape (now (state .entry)) (now (out .entry)) (leaderTakes shape (stateOf shape (now (state .entry))) e) ⌝ }
 {
     if shape.c as usize <= entries::count(places::early(shape, state)) {
-        return Answer::Refused(refusal::FULL);
+        return Answer::Refused(refusal::FULL, 0);
     }
     if !room_for_note(shape, state, e) {
-        return Answer::Refused(refusal::FULL);
+        return Answer::Refused(refusal::FULL, 0);
     }
     if out.len() < notes_length(shape, state, e) {
-        return Answer::Refused(refusal::NO_ROOM);
+        return Answer::Refused(refusal::NO_ROOM, 0);
     }
     let sent = tell_notes(shape, state, e, out);
     take_early(shape, state, e);
@@ -205,18 +205,18 @@ pub fn on_note(shape: Shape, state: &mut [u8], m: Message, message: &[u8], out: 
         ≡ handled 3 onNote shape m (now (state .entry)) (now (message .entry)) (now (out .entry)) ⌝ }
 {
     let Message::Note(h) = m else {
-        return Answer::Refused(refusal::MALFORMED);
+        return Answer::Refused(refusal::MALFORMED, 0);
     };
     let from = h.from_group as u64;
     let e = handler::first_entry(shape, state, m, message, kind::TIMESTAMP_NOTE);
     if is_among(places::log(shape, state), shape.c as usize, e) {
-        return Answer::Refused(refusal::NOTHING_TO_DO);
+        return Answer::Refused(refusal::NOTHING_TO_DO, 0);
     }
     if stamps::is_noted(shape, state, e, from) {
-        return Answer::Refused(refusal::NOTHING_TO_DO);
+        return Answer::Refused(refusal::NOTHING_TO_DO, 0);
     }
     if !room_for_note(shape, state, e) {
-        return Answer::Refused(refusal::FULL);
+        return Answer::Refused(refusal::FULL, 0);
     }
     keep_and_lift(shape, state, e, from, e.stamp);
     Answer::Done(0)
@@ -235,11 +235,11 @@ pub fn on_transaction(
         ≡ handled 1 onTransaction shape m (now (state .entry)) (now (message .entry)) (now (out .entry)) ⌝ }
 {
     let Message::Transaction(_, send_time, bound) = m else {
-        return Answer::Refused(refusal::MALFORMED);
+        return Answer::Refused(refusal::MALFORMED, 0);
     };
     let entry = handler::first_entry(shape, state, m, message, kind::TRANSACTION);
     if known(shape, state, entry) {
-        return Answer::Refused(refusal::NOTHING_TO_DO);
+        return Answer::Refused(refusal::NOTHING_TO_DO, 0);
     }
     let e = stamps::stamped(send_time + bound, entry);
     if handler::leads(shape, state) {

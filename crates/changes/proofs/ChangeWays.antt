@@ -122,7 +122,7 @@ module _ (sh : Shape) (b msg out : List ℕ) (m : Message) (h : Header) (r : Rea
               let y : need ≡ 40 + 4 * sh .s + 24 * count = n ∙ vote-room (sh .s) count in
               (omega (arith, group-below (r .stands)), omega arith)
 
-          pub change-sent : (sent : ℕ) (out′ : List ℕ) → sent ≡ length (messageBytes sh b′ (voteIn sh b′) (logIn sh b′)) → out′ ≡ splice out 0 (messageBytes sh b′ (voteIn sh b′) (logIn sh b′)) → _≡_ {A = Left} (record { refused = false; number = 0; sent = sent; state = b′; out = out′ }) (handled 7 onChangeView sh m b msg out)
+          pub change-sent : (sent : ℕ) (out′ : List ℕ) → sent ≡ length (messageBytes sh b′ (voteIn sh b′) (logIn sh b′)) → out′ ≡ splice out 0 (messageBytes sh b′ (voteIn sh b′) (logIn sh b′)) → _≡_ {A = Left} (record { refused = false; number = 0; offset = 0; sent = sent; state = b′; out = out′ }) (handled 7 onChangeView sh m b msg out)
           change-sent sent out′ v o =
               let f = stands-fits (r .stands) in
               let x = vote-sent (next-laid b′ i) table sized next-sender (group-below (r .stands)) (f .normal) (f .sync) in

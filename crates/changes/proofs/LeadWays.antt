@@ -72,7 +72,7 @@ module _ {sh : Shape} {st : State} {b : List ℕ} (s : Stands sh st b) (view : �
         let y : need ≡ 24 + 4 * sh .s + 24 * number = e ∙ start-room (sh .s) number in
         (omega (arith, replica-below s), omega (arith, number-is))
 
-    pub lead-sent : (sent : ℕ) (out′ : List ℕ) → sent ≡ length (messageBytes sh b′ (startIn sh b′) (logIn sh b′)) → out′ ≡ splice out 0 (messageBytes sh b′ (startIn sh b′) (logIn sh b′)) → _≡_ {A = Left} (record { refused = false; number = 0; sent = sent; state = b′; out = out′ }) (closes sh b out (ledBy sh st view (viewsOf sh msg) log))
+    pub lead-sent : (sent : ℕ) (out′ : List ℕ) → sent ≡ length (messageBytes sh b′ (startIn sh b′) (logIn sh b′)) → out′ ≡ splice out 0 (messageBytes sh b′ (startIn sh b′) (logIn sh b′)) → _≡_ {A = Left} (record { refused = false; number = 0; offset = 0; sent = sent; state = b′; out = out′ }) (closes sh b out (ledBy sh st view (viewsOf sh msg) log))
     lead-sent sent out′ q o =
         let x = start-sent (next-laid b′ begun-is) table (s .fits) next-sender in
         let g : length (wireBytes sent-log) ≤ length out = rw (long, ← e) k in

@@ -108,7 +108,7 @@ pub fn on_change_view(
         ≡ handled 7 onChangeView shape m (now (state .entry)) (now (message .entry)) (now (out .entry)) ⌝ }
 {
     let Message::ChangeView(h) = m else {
-        return Answer::Refused(refusal::MALFORMED);
+        return Answer::Refused(refusal::MALFORMED, 0);
     };
     let view = h.view;
     if leads_by(shape, state, message) {
@@ -117,7 +117,7 @@ pub fn on_change_view(
     }
     let count = places::log_length(shape, state);
     if out.len() < kinds::length_for(shape.s, kind::VOTE, count) {
-        return Answer::Refused(refusal::NO_ROOM);
+        return Answer::Refused(refusal::NO_ROOM, 0);
     }
     enter(shape, state, view, false, message);
     let sent = tell_vote(shape, state, out);
@@ -139,13 +139,13 @@ pub fn on_start_view(
         ≡ handled 9 onStartView shape m (now (state .entry)) (now (message .entry)) (now (out .entry)) ⌝ }
 {
     let Message::StartView(h) = m else {
-        return Answer::Refused(refusal::MALFORMED);
+        return Answer::Refused(refusal::MALFORMED, 0);
     };
     let view = h.view;
     let at = kinds::entries_at(shape.s, kind::START_VIEW);
     let number = octets::get32(message, at) as usize;
     if (shape.c as usize) < number {
-        return Answer::Refused(refusal::FULL);
+        return Answer::Refused(refusal::FULL, 0);
     }
     views::begin(shape, state, view, message, message, at + 4, number);
     Answer::Done(0)
@@ -168,7 +168,7 @@ pub fn start_leading(
 {
     let number = entries::count(draft);
     if out.len() < kinds::length_for(shape.s, kind::START_VIEW, number) {
-        return Answer::Refused(refusal::NO_ROOM);
+        return Answer::Refused(refusal::NO_ROOM, 0);
     }
     views::begin(shape, state, view, message, draft, 4, number);
     let sent = tell_start(shape, state, out);

@@ -63,7 +63,7 @@ pub fn answer_of(m: Message) -> u64 {
 pub fn number_of(answer: Answer) -> u64 {
     match answer {
         Answer::Done(_) => 0,
-        Answer::Refused(number) => number as u64,
+        Answer::Refused(number, _) => number as u64,
     }
 }
 
@@ -71,7 +71,7 @@ pub fn number_of(answer: Answer) -> u64 {
 pub fn length_of(answer: Answer) -> usize {
     match answer {
         Answer::Done(length) => length,
-        Answer::Refused(_) => 0,
+        Answer::Refused(_, _) => 0,
     }
 }
 
@@ -150,10 +150,10 @@ fn stamp_of(kind: u8) -> u8 {
 // Writes a message with the first bytes of gVec 3, 2 and of those entries.
 fn write_with(n: u64, s: u64, kind: u8, views: usize, entries: usize, out: &mut [u8]) -> Answer {
     if 8 < views {
-        return Answer::Refused(NOT_WRITTEN);
+        return Answer::Refused(NOT_WRITTEN, 0);
     }
     if 48 < entries {
-        return Answer::Refused(NOT_WRITTEN);
+        return Answer::Refused(NOT_WRITTEN, 0);
     }
     let gvec = [3u8, 0, 0, 0, 2, 0, 0, 0];
     let block = two_entries(stamp_of(kind));

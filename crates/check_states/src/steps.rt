@@ -34,7 +34,7 @@ fn header(kind: u8, to_group: u8, view: u32) -> Header {
 fn length_of(answer: Answer) -> usize {
     match answer {
         Answer::Done(length) => length,
-        Answer::Refused(_) => 0,
+        Answer::Refused(_, _) => 0,
     }
 }
 

@@ -134,7 +134,7 @@ module _ (sh : Shape) (b msg out : List ℕ) (m : Message) (h : Header) (p : ℕ
       pub kept : (need c sent : ℕ) (b′ out′ : List ℕ) → need ≡ lengthFor (sh .s) 11 0 → need ≤ length out → c ≡ commitPoint (sh .n) (st .site .replica) len heard (st .logged .commit) → b′ ≡ image sh (committed st c heard)
           → sent ≡ length (messageBytes sh b′ (Commit (headedIn b′ 11 (num b′ 0 1) (only from)) c) [])
           → out′ ≡ splice out 0 (messageBytes sh b′ (Commit (headedIn b′ 11 (num b′ 0 1) (only from)) c) [])
-          → _≡_ {A = Left} (record { refused = false; number = 0; sent = sent; state = b′; out = out′ }) (handled 10 onSyncStatus sh m b msg out)
+          → _≡_ {A = Left} (record { refused = false; number = 0; offset = 0; sent = sent; state = b′; out = out′ }) (handled 10 onSyncStatus sh m b msg out)
       kept need c sent b′ out′ n k y w v o =
           let x = commit-sent (r .stands) from p c from-below b′ w in
           sends-one 10 onSyncStatus sh b msg out m own _ _ (says c y) b′ out′ sent (omega (arith, commit-long (r .stands) (only from) c)) w (v ∙ ap length x) (o ∙ ap (splice out 0) x)

@@ -34,13 +34,13 @@ pub fn on_commit(
         ≡ handled 11 onCommit shape m (now (state .entry)) (now (message .entry)) (now (out .entry)) ⌝ }
 {
     let Message::Commit(_, point) = m else {
-        return Answer::Refused(refusal::MALFORMED);
+        return Answer::Refused(refusal::MALFORMED, 0);
     };
     if point <= places::get_commit(state) {
-        return Answer::Refused(refusal::NOTHING_TO_DO);
+        return Answer::Refused(refusal::NOTHING_TO_DO, 0);
     }
     if places::get_sync(state) < point {
-        return Answer::Refused(refusal::NOTHING_TO_DO);
+        return Answer::Refused(refusal::NOTHING_TO_DO, 0);
     }
     places::put_commit(state, point);
     Answer::Done(0)
@@ -102,18 +102,18 @@ pub fn on_sync_status(
         ≡ handled 10 onSyncStatus shape m (now (state .entry)) (now (message .entry)) (now (out .entry)) ⌝ }
 {
     let Message::SyncStatus(h, point) = m else {
-        return Answer::Refused(refusal::MALFORMED);
+        return Answer::Refused(refusal::MALFORMED, 0);
     };
     let from = h.from_replica as u64;
     if is_stale(shape, state, from, point) {
-        return Answer::Refused(refusal::NOTHING_TO_DO);
+        return Answer::Refused(refusal::NOTHING_TO_DO, 0);
     }
     let len = places::log_length(shape, state) as u64;
     if len < point {
-        return Answer::Refused(refusal::NOTHING_TO_DO);
+        return Answer::Refused(refusal::NOTHING_TO_DO, 0);
     }
     if out.len() < kinds::length_for(shape.s, kind::COMMIT, 0) {
-        return Answer::Refused(refusal::NO_ROOM);
+        return Answer::Refused(refusal::NO_ROOM, 0);
     }
     let commit = keep_status(shape, state, from, point, len);
     let sent = tell_commit(shape, state, out, from, commit);

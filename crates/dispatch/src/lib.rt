@@ -120,10 +120,10 @@ pub fn handle(
         left r (now (state .exit)) (now (out .exit)) ≡ closes shape b (now (out .entry)) outcome) ⌝ }
 {
     match m {
-        Message::WrongSizes => Answer::Refused(refusal::MALFORMED),
-        Message::Malformed(_) => Answer::Refused(refusal::MALFORMED),
-        Message::FastReply(_, _, _, _) => Answer::Refused(refusal::MALFORMED),
-        Message::SlowReply(_, _) => Answer::Refused(refusal::MALFORMED),
+        Message::WrongSizes => Answer::Refused(refusal::MALFORMED, 0),
+        Message::Malformed(_) => Answer::Refused(refusal::MALFORMED, 0),
+        Message::FastReply(_, _, _, _) => Answer::Refused(refusal::MALFORMED, 0),
+        Message::SlowReply(_, _) => Answer::Refused(refusal::MALFORMED, 0),
         Message::Transaction(_, _, _) => arrivals::on_transaction(shape, state, m, message, out),
         Message::Note(_) => arrivals::on_note(shape, state, m, message, out),
         Message::ReplicaSync(_) => syncs::on_replica_sync(shape, state, m, message, out, slots),

@@ -3,7 +3,7 @@ use Prim.Native.Nat.{ℕ, suc, _+_, _*_, _<_}
 use mathlib.Core.Path.{_≡_, refl, sym, ap, _∙_}
 use mathlib.Core.Bool.{Bool, true, false, _&&_, _||_, not}
 use mathlib.Core.Bool.{and-true, and-false}
-use mathlib.Core.List.{List, [], _∷_, _++_}
+use mathlib.Core.List.{[], _∷_}
 use native.Mathlib.Omega.{arith}
 use lib.Dec.{eqb, leb}
 use native.Mathlib.Numerals.{add-one}
@@ -11,10 +11,10 @@ use borrow.Author.Tests.{lt-leb, not-true, not-false}
 use Rattle.rules.specs.Choice.{pick, allOf}
 use Rattle.rules.specs.Entry.{latest, stampFits}
 use Rattle.rules.specs.Kind.{viewsIn, numbersIn}
-use Rattle.rules.specs.Read.{Fields, Row, _to_is_, bodyRows, numberRows, numbersAt, entriesAt, numberFits, entriesFit, firstWrong, andThen}
+use Rattle.rules.specs.Read.{Fields, _to_is_, bodyRows, numberRows, numbersAt, entriesAt, numberFits, entriesFit, firstWrong, andThen}
 use Rattle.rules.specs.declared.Verdict.{Verdict}
 use Rattle.rules.specs.declared.Verdict.the-variants.{Fine, Wrong}
-use Rattle.rules.proofs.Verdicts.{wrong-stays}
+use Rattle.rules.proofs.Verdicts.{wrong-stays, rows-after}
 use Rattle.fields.specs.Parts.{numbersWrong}
 
 pub either-is : (t a b : Bool) → ((t && a) || (not t && b)) ≡ pick t a b
@@ -36,15 +36,6 @@ pub too-late : (t : ℕ) → latest < t → stampFits t ≡ false
 too-late t h = rw (lt-leb t latest h) (and-false (leb 1 t))
 
 -- ---- rows one after the other
-
-pub rows-after : (xs ys : List Row) → firstWrong (xs ++ ys) ≡ andThen (firstWrong xs) (firstWrong ys)
-unfolding firstWrong andThen pick
-rows-after [] ys = refl
-rows-after (r ∷ xs) ys = go (r .right) (rows-after xs ys)
-  where
-    go : (t : Bool) → firstWrong (xs ++ ys) ≡ andThen (firstWrong xs) (firstWrong ys) → pick t (firstWrong (xs ++ ys)) (Wrong (r .at) (r .end)) ≡ andThen (pick t (firstWrong xs) (Wrong (r .at) (r .end))) (firstWrong ys)
-    go true e = e
-    go false e = refl
 
 module _ (s : ℕ) (m : Fields) where
   abbrev verdict : ℕ → Verdict

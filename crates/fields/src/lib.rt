@@ -49,7 +49,7 @@ pub struct Parts {
 }
 
 // A field from a up to u, and what comes after it.
-fn field(right: bool, a: usize, u: usize, rest: Verdict) -> Verdict
+pub fn field(right: bool, a: usize, u: usize, rest: Verdict) -> Verdict
     ensures { λ r. ⌜ r ≡ choice.pick right rest (Verdict.Wrong a u) ⌝ }
 {
     if right { rest } else { Verdict::Wrong(a, u) }
@@ -189,7 +189,7 @@ fn entries_fit(p: Parts, numbers: &[u64]) -> bool
 }
 
 // One verdict, and where it is fine another.
-fn and_then(first: Verdict, rest: Verdict) -> Verdict
+pub fn and_then(first: Verdict, rest: Verdict) -> Verdict
     ensures { λ r. ⌜ r ≡ reading.andThen first rest ⌝ }
 {
     match first {

@@ -74,22 +74,22 @@ module _ (sh : Shape) (k r : ℕ) (b : List ℕ) where
       = and-both (shapeFits sh) (ltb k (sh .s) && (ltb r (sh .n) && eqb (length b) (stateLength sh))) z
       (and-both (ltb k (sh .s)) (ltb r (sh .n) && eqb (length b) (stateLength sh)) (lt-ltb k (sh .s) hk)
       (and-both (ltb r (sh .n)) (eqb (length b) (stateLength sh)) (lt-ltb r (sh .n) hr) (eq-eqb (length b) (stateLength sh) l))) in
-      ap (λ (x : List ℕ). record { refused = false; number = 0; sent = 0; state = x; out = [] }) (f .bytes) ∙ sym (pick-true asked _ _ t)
+      ap (λ (x : List ℕ). record { refused = false; number = 0; offset = 0; sent = 0; state = x; out = [] }) (f .bytes) ∙ sym (pick-true asked _ _ t)
 
-  not-asked : asked ≡ false → left (Refused 1) b [] ≡ startBytes sh k r b
+  not-asked : asked ≡ false → left (Refused 1 0) b [] ≡ startBytes sh k r b
   unfolding startBytes
   not-asked t = sym (pick-false asked _ _ t)
 
-  pub wrong-shape : shapeFits sh ≡ false → left (Refused 1) b [] ≡ startBytes sh k r b
+  pub wrong-shape : shapeFits sh ≡ false → left (Refused 1 0) b [] ≡ startBytes sh k r b
   wrong-shape e = not-asked (first (shapeFits sh) _ e)
 
-  pub wrong-group : sh .s ≤ k → left (Refused 1) b [] ≡ startBytes sh k r b
+  pub wrong-group : sh .s ≤ k → left (Refused 1 0) b [] ≡ startBytes sh k r b
   wrong-group h = not-asked (second (shapeFits sh) _ (first (ltb k (sh .s)) _ (le-ltb k (sh .s) h)))
 
-  pub wrong-replica : sh .n ≤ r → left (Refused 1) b [] ≡ startBytes sh k r b
+  pub wrong-replica : sh .n ≤ r → left (Refused 1 0) b [] ≡ startBytes sh k r b
   wrong-replica h = not-asked (second (shapeFits sh) _ (second (ltb k (sh .s)) _ (first (ltb r (sh .n)) _ (le-ltb r (sh .n) h))))
 
-  pub wrong-size : (length b ≡ stateLength sh → ⊥) → left (Refused 1) b [] ≡ startBytes sh k r b
+  pub wrong-size : (length b ≡ stateLength sh → ⊥) → left (Refused 1 0) b [] ≡ startBytes sh k r b
   wrong-size h = not-asked (second (shapeFits sh) _ (second (ltb k (sh .s)) _ (second (ltb r (sh .n)) _ (ne-eqb (length b) (stateLength sh) h))))
 
 -- ---- the length of a state

@@ -11,11 +11,11 @@ use Rattle.fresh.specs.Statements.{Starts, Measures}
 
 pub left-state : (x : Answer) (c o : List ℕ) → left x c o .state ≡ c
 left-state (Done sent) c o = refl
-left-state (Refused number) c o = refl
+left-state (Refused number offset) c o = refl
 
 pub left-out : (x : Answer) (c o : List ℕ) → left x c o .out ≡ o
 left-out (Done sent) c o = refl
-left-out (Refused number) c o = refl
+left-out (Refused number offset) c o = refl
 
 -- what is left says the answer itself, and every byte of state and buffer
 pub left-one : (x y : Answer) (c d o u : List ℕ) → left x c o ≡ left y d u → (x ≡ y) × (c ≡ d) × (o ≡ u)

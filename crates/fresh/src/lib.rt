@@ -21,16 +21,16 @@ pub fn start(shape: Shape, group: u64, replica: u64, state: &mut [u8]) -> Answer
     ensures { λ r. ⌜ Starts shape group replica (now (state .entry)) r (now (state .exit)) ⌝ }
 {
     if !group::shape_fits(shape) {
-        return Answer::Refused(refusal::WRONG_STATE);
+        return Answer::Refused(refusal::WRONG_STATE, 0);
     }
     if shape.s <= group {
-        return Answer::Refused(refusal::WRONG_STATE);
+        return Answer::Refused(refusal::WRONG_STATE, 0);
     }
     if shape.n <= replica {
-        return Answer::Refused(refusal::WRONG_STATE);
+        return Answer::Refused(refusal::WRONG_STATE, 0);
     }
     if state.len() != places::places_of(shape).end {
-        return Answer::Refused(refusal::WRONG_STATE);
+        return Answer::Refused(refusal::WRONG_STATE, 0);
     }
     octets::fill_zero(state, 0, state.len());
     octets::put8(state, 0, group as u8);

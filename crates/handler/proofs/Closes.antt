@@ -22,7 +22,7 @@ use Rattle.handler.specs.Handler.{handled}
 
 -- state and outgoing buffer after a step that sends nothing
 abbrev pub quiet : List ℕ → List ℕ → Left
-quiet b out = record { refused = false; number = 0; sent = 0; state = b; out = out }
+quiet b out = record { refused = false; number = 0; offset = 0; sent = 0; state = b; out = out }
 
 module _ (sh : Shape) (b out : List ℕ) where
   pub closes-refused : (number : ℕ) → closes sh b out (refused number) ≡ leaves number b out
@@ -31,7 +31,7 @@ module _ (sh : Shape) (b out : List ℕ) where
 
   module _ (st : State) (ws : List Wire) where
     -- messages are sent
-    pub closes-sent : length (flat wireBytes ws) ≤ length out → closes sh b out (done st ws) ≡ record { refused = false; number = 0; sent = length (flat wireBytes ws); state = image sh st; out = splice out 0 (flat wireBytes ws) }
+    pub closes-sent : length (flat wireBytes ws) ≤ length out → closes sh b out (done st ws) ≡ record { refused = false; number = 0; offset = 0; sent = length (flat wireBytes ws); state = image sh st; out = splice out 0 (flat wireBytes ws) }
     unfolding closes pick
     closes-sent h = rw (le-leb (length (flat wireBytes ws)) (length out) h)
 
@@ -51,7 +51,7 @@ module _ (sh : Shape) (b out : List ℕ) where
     one = append-nil (wireBytes w)
 
     -- one message is sent
-    pub closes-one : length (wireBytes w) ≤ length out → closes sh b out (done st (w ∷ [])) ≡ record { refused = false; number = 0; sent = length (wireBytes w); state = image sh st; out = splice out 0 (wireBytes w) }
+    pub closes-one : length (wireBytes w) ≤ length out → closes sh b out (done st (w ∷ [])) ≡ record { refused = false; number = 0; offset = 0; sent = length (wireBytes w); state = image sh st; out = splice out 0 (wireBytes w) }
     closes-one h = rw one at (closes-sent st (w ∷ []) (rw one h))
 
     -- or there is no room for it

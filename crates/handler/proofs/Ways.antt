@@ -40,7 +40,7 @@ module _ (k : ℕ) (on : Shape → State → Wire → Outcome) (sh : Shape) (b m
     no-room h = sym (closes-tight sh b out next ws h) ∙ by-rule (done next ws) q
 
     -- the state changes, and messages are sent
-    pub sends : (b′ out′ : List ℕ) (sent : ℕ) → length (flat wireBytes ws) ≤ length out → b′ ≡ image sh next → sent ≡ length (flat wireBytes ws) → out′ ≡ splice out 0 (flat wireBytes ws) → _≡_ {A = Left} (record { refused = false; number = 0; sent = sent; state = b′; out = out′ }) (handled k on sh m b msg out)
+    pub sends : (b′ out′ : List ℕ) (sent : ℕ) → length (flat wireBytes ws) ≤ length out → b′ ≡ image sh next → sent ≡ length (flat wireBytes ws) → out′ ≡ splice out 0 (flat wireBytes ws) → _≡_ {A = Left} (record { refused = false; number = 0; offset = 0; sent = sent; state = b′; out = out′ }) (handled k on sh m b msg out)
     sends b′ out′ sent h w v o = rw (w, v, o) (sym (closes-sent sh b out next ws h) ∙ by-rule (done next ws) q)
 
   -- the same of one message
@@ -48,7 +48,7 @@ module _ (k : ℕ) (on : Shape → State → Wire → Outcome) (sh : Shape) (b m
     pub no-room-for : length out < length (wireBytes w) → leaves 9 b out ≡ handled k on sh m b msg out
     no-room-for h = sym (closes-short sh b out next w h) ∙ by-rule (done next (w ∷ [])) q
 
-    pub sends-one : (b′ out′ : List ℕ) (sent : ℕ) → length (wireBytes w) ≤ length out → b′ ≡ image sh next → sent ≡ length (wireBytes w) → out′ ≡ splice out 0 (wireBytes w) → _≡_ {A = Left} (record { refused = false; number = 0; sent = sent; state = b′; out = out′ }) (handled k on sh m b msg out)
+    pub sends-one : (b′ out′ : List ℕ) (sent : ℕ) → length (wireBytes w) ≤ length out → b′ ≡ image sh next → sent ≡ length (wireBytes w) → out′ ≡ splice out 0 (wireBytes w) → _≡_ {A = Left} (record { refused = false; number = 0; offset = 0; sent = sent; state = b′; out = out′ }) (handled k on sh m b msg out)
     sends-one b′ out′ sent h i v o = rw (i, v, o) (sym (closes-one sh b out next w h) ∙ by-rule (done next (w ∷ [])) q)
 
 -- ---- what the message says

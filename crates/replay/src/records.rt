@@ -1,5 +1,6 @@
 // The records of a file, one after the other.
 use crate::line;
+use crate::readings;
 use crate::table;
 use rules::Answer;
 use rules::Shape;
@@ -11,6 +12,7 @@ pub struct Run {
     pub records: u64,
     pub starts: u64,
     pub steps: u64,
+    pub readings: u64,
     pub differences: u64,
     pub over: bool,
 }
@@ -23,13 +25,14 @@ fn fresh() -> Run {
         records: 0,
         starts: 0,
         steps: 0,
+        readings: 0,
         differences: 0,
         over: false,
     }
 }
 
 // One more difference.
-fn with_difference(mut run: Run, differs: bool) -> Run {
+pub fn with_difference(mut run: Run, differs: bool) -> Run {
     if differs {
         run.differences = line::one_more(run.differences);
     }
@@ -37,7 +40,7 @@ fn with_difference(mut run: Run, differs: bool) -> Run {
 }
 
 // A record that cannot be run is a difference, and the last record.
-fn broken(mut run: Run, why: &[u8]) -> Run {
+pub fn broken(mut run: Run, why: &[u8]) -> Run {
     line::number(b"record ", run.records, b": ");
     io::write_all(1, why);
     io::write_all(1, b"\n");
@@ -46,10 +49,10 @@ fn broken(mut run: Run, why: &[u8]) -> Run {
 }
 
 // The number of an answer.
-fn number_of(answer: Answer) -> u8 {
+pub fn number_of(answer: Answer) -> u8 {
     match answer {
         Answer::Done(_) => 0,
-        Answer::Refused(number) => number,
+        Answer::Refused(number, _) => number,
     }
 }
 
@@ -57,12 +60,12 @@ fn number_of(answer: Answer) -> u8 {
 fn length_of(answer: Answer) -> usize {
     match answer {
         Answer::Done(length) => length,
-        Answer::Refused(_) => 0,
+        Answer::Refused(_, _) => 0,
     }
 }
 
 // Fills the first `length` bytes, and answers whether there were as many.
-fn read_first(fd: i32, buffer: &mut [u8], length: usize) -> bool {
+pub fn read_first(fd: i32, buffer: &mut [u8], length: usize) -> bool {
     if buffer.len() < length {
         return false;
     }
@@ -210,7 +213,8 @@ fn record(fd: i32, mut run: Run, state: &mut [u8], counts: &mut [u64]) -> Run {
     match octets::look8(&tag, 0) {
         1 => start_record(fd, run, state),
         2 => step_record(fd, run, state, counts),
-        _ => broken(run, b"neither a start nor a step"),
+        5 => readings::record(fd, run, state),
+        _ => broken(run, b"neither a start, a step nor a reading"),
     }
 }
 

@@ -6,11 +6,11 @@ use mathlib.Core.Path.{_≡_}
 use mathlib.Core.List.{List, []}
 use Rattle.rules.specs.Choice.{pick}
 use Rattle.rules.specs.Read.{decoded}
-use Rattle.rules.specs.Wire.{answerOf}
+use Rattle.rules.specs.Wire.{answerOf, offsetIn}
 use Rattle.rules.specs.Image.{goodBytes}
 use Rattle.rules.specs.Bytes.{stepBytes, startBytes}
 use Rattle.rules.specs.declared.Shape.{Shape}
-use Rattle.replica.specs.Face.{version, Gives, Puts, Given, writesFrom}
+use Rattle.replica.specs.Face.{version, coded, Gives, Puts, Given, writesFrom}
 
 -- jallumere_step: of the state's bytes b, a message and the buffer out are left the number r, the state's bytes b′ and the buffer out′
 abbrev pub StepsByNumber : Shape → (b message out : List ℕ) → (r : ℕ) (b′ out′ : List ℕ) → Type 0
@@ -24,9 +24,9 @@ Starts shape group replica b r b′ = Gives (startBytes shape group replica b) r
 abbrev pub Judges : Shape → (b : List ℕ) → (r : ℕ) → Type 0
 Judges shape b r = r ≡ pick (goodBytes shape b) 0 1
 
--- jallumere_read: the number of the reader's answer
+-- jallumere_read: the reader's answer, and with 2 the offset
 abbrev pub Reads : (n s : ℕ) (message : List ℕ) → (r : ℕ) → Type 0
-Reads n s message r = r ≡ answerOf (decoded n s message)
+Reads n s message r = r ≡ coded (answerOf (decoded n s message)) (offsetIn (decoded n s message))
 
 -- jallumere_write: of the header g, the numbers, views and entries and the buffer out are left the number r and the buffer out′
 abbrev pub Writes : (n s : ℕ) → Given → (numbers views entries out : List ℕ) → (r : ℕ) (out′ : List ℕ) → Type 0

@@ -37,7 +37,7 @@ fn start_merged(
         left r (now (state .exit)) (now (out .exit)) ≡ closes shape b (now (out .entry)) (startsWith shape b (viewsOf shape (now (message .entry))) draft)) ⌝ }
 {
     if !merge::merge(shape, state, message, reply, table, slots) {
-        return Answer::Refused(refusal::FULL);
+        return Answer::Refused(refusal::FULL, 0);
     }
     let view = places::get_view(state);
     changes::start_leading(shape, state, view, message, table, out)
@@ -57,16 +57,16 @@ pub fn on_verify_reply(
     ensures { λ r. ⌜ left r (now (state .exit)) (now (out .exit)) ≡ handled 19 onVerifyReply shape m (now (state .entry)) (now (message .entry)) (now (out .entry)) ⌝ }
 {
     let Message::VerifyReply(h) = m else {
-        return Answer::Refused(refusal::MALFORMED);
+        return Answer::Refused(refusal::MALFORMED, 0);
     };
     let from = h.from_group as u64;
     if places::reply_flag(shape, state, from) {
-        return Answer::Refused(refusal::NOTHING_TO_DO);
+        return Answer::Refused(refusal::NOTHING_TO_DO, 0);
     }
     let at = kinds::entries_at(shape.s, kind::VERIFY_REPLY);
     let number = octets::get32(message, at) as usize;
     if (shape.c as usize) < number {
-        return Answer::Refused(refusal::FULL);
+        return Answer::Refused(refusal::FULL, 0);
     }
     if places::held_replies(shape, state) + 1 < shape.s - 1 {
         views::keep_reply(shape, state, from, message, at + 4, number);

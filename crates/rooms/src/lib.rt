@@ -14,7 +14,7 @@ ghost use Rattle.rules.specs.Image.{stateOf, goodBytes};
 ghost use Rattle.places.specs.Layout.{lengthFor};
 ghost use Rattle.wire.specs.Statements.{Reads, Writes};
 ghost use Rattle.good.specs.Statements.{Judges};
-ghost use Rattle.admit.specs.Refusal.{refusalOf};
+ghost use Rattle.admit.specs.Refusal.{refusalOf, wrongAt};
 ghost use Rattle.rooms.specs.Statements.{Steps};
 
 // The longest message whose log the 512 slots serve, and the longest that the 2,400 serve: two slots for an entry, and a path's length.
@@ -151,6 +151,16 @@ pub fn write(n: u64, s: u64, m: Message, views: &[u8], entries: &[u8], out: &mut
 
 // ---- a step
 
+// Where a message is wrong: at 0 where it says that its kind is one that no site takes.
+fn wrong_at(m: Message, message: &[u8]) -> usize
+    ensures { λ r. ⌜ r ≡ wrongAt m (now (message .entry)) ⌝ }
+{
+    if kinds::to_outside(octets::look8(message, 0)) {
+        return 0;
+    }
+    wire::decode::offset_of(m)
+}
+
 // What a good state answers to a message that is read: the tests in the order of the table, and then the handler of the message's kind.
 fn answer(
     shape: Shape,
@@ -165,8 +175,11 @@ fn answer(
         × (number ≡ refusalOf shape (stateOf shape (now state)) (tagOf m) (wireIn (shape .s) (now message))) ⌝ }
     ensures { λ r. ⌜ Steps shape (now (state .entry)) (now (message .entry)) (now (out .entry)) r (now (state .exit)) (now (out .exit)) ⌝ }
 {
+    if number == refusal::MALFORMED {
+        return Answer::Refused(number, wrong_at(m, message));
+    }
     if number != 0 {
-        return Answer::Refused(number);
+        return Answer::Refused(number, 0);
     }
     dispatch::handle(shape, state, m, message, out, slots)
 }
@@ -177,7 +190,7 @@ fn step_few(shape: Shape, state: &mut [u8], message: &[u8], out: &mut [u8]) -> A
 {
     let mut slots = [0u16; 512];
     if !good::good(shape, state, &mut slots) {
-        return Answer::Refused(refusal::WRONG_STATE);
+        return Answer::Refused(refusal::WRONG_STATE, 0);
     }
     let m = wire::read(shape.n, shape.s, message, &mut slots);
     let number = admit::refusal(shape, state, m, message);
@@ -190,7 +203,7 @@ fn step_more(shape: Shape, state: &mut [u8], message: &[u8], out: &mut [u8]) -> 
 {
     let mut slots = [0u16; 2400];
     if !good::good(shape, state, &mut slots) {
-        return Answer::Refused(refusal::WRONG_STATE);
+        return Answer::Refused(refusal::WRONG_STATE, 0);
     }
     let m = wire::read(shape.n, shape.s, message, &mut slots);
     let number = admit::refusal(shape, state, m, message);
@@ -203,7 +216,7 @@ fn step_many(shape: Shape, state: &mut [u8], message: &[u8], out: &mut [u8]) -> 
 {
     let mut slots = [0u16; 33032];
     if !good::good(shape, state, &mut slots) {
-        return Answer::Refused(refusal::WRONG_STATE);
+        return Answer::Refused(refusal::WRONG_STATE, 0);
     }
     let m = wire::read(shape.n, shape.s, message, &mut slots);
     let number = admit::refusal(shape, state, m, message);
@@ -215,7 +228,7 @@ pub fn step(shape: Shape, state: &mut [u8], message: &[u8], out: &mut [u8]) -> A
     ensures { λ r. ⌜ Steps shape (now (state .entry)) (now (message .entry)) (now (out .entry)) r (now (state .exit)) (now (out .exit)) ⌝ }
 {
     if !has_length(shape, state) {
-        return Answer::Refused(refusal::WRONG_STATE);
+        return Answer::Refused(refusal::WRONG_STATE, 0);
     }
     if 256 < shape.c {
         return step_many(shape, state, message, out);

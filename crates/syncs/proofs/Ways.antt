@@ -58,7 +58,7 @@ module _ (sh : Shape) (st : State) (log : List Entry) (b out : List ℕ) where
   out-full h k = sym (rw (le-leb (length (lateBy st log)) (sh .c) h) (closes-tight sh b out (syncedBy st log) (slowReplies st log) k))
 
   pub all-done : (sent : ℕ) (b₁ out₁ : List ℕ) → length (lateBy st log) ≤ sh .c → length (flat wireBytes (slowReplies st log)) ≤ length out → sent ≡ length (flat wireBytes (slowReplies st log))
-      → b₁ ≡ image sh (syncedBy st log) → out₁ ≡ splice out 0 (flat wireBytes (slowReplies st log)) → record { refused = false; number = 0; sent = sent; state = b₁; out = out₁ } ≡ closes sh b out (takes sh st log)
+      → b₁ ≡ image sh (syncedBy st log) → out₁ ≡ splice out 0 (flat wireBytes (slowReplies st log)) → record { refused = false; number = 0; offset = 0; sent = sent; state = b₁; out = out₁ } ≡ closes sh b out (takes sh st log)
   unfolding takes pick
   all-done sent b₁ out₁ h k s x y = sym (rw (le-leb (length (lateBy st log)) (sh .c) h) (closes-sent sh b out (syncedBy st log) (slowReplies st log) k ∙ sym (rw (s, x, y))))
 
@@ -89,7 +89,7 @@ module _ {sh : Shape} {b msg : List ℕ} {log : Listed} (g : Coming sh b msg log
 
   pub taken : (out : List ℕ) (late n sent : ℕ) (b₁ out₁ : List ℕ) → late ≡ length (lateBy st entries) → late ≤ sh .c → n ≡ lengthFor (sh .s) 6 1 * (log .count - st .logged .sync) → n ≤ length out
       → (sent ≡ length (flat wireBytes (slowReplies st entries))) × (out₁ ≡ splice out 0 (flat wireBytes (slowReplies st entries))) → b₁ ≡ image sh (syncedBy st entries)
-      → record { refused = false; number = 0; sent = sent; state = b₁; out = out₁ } ≡ closes sh b out (takes sh st entries)
+      → record { refused = false; number = 0; offset = 0; sent = sent; state = b₁; out = out₁ } ≡ closes sh b out (takes sh st entries)
   taken out late n sent b₁ out₁ e h q k w x = all-done sh st entries b out sent b₁ out₁ (rw e at h) (rw (all-long g, ← q) k) (w .0) x (w .1)
 
   -- what its rows are put in by

@@ -146,10 +146,10 @@ fn sync_by(
     let last = octets::get64(message, log.at + 24 * (log.count - 1));
     let late = late_length(shape, state, message, log, slots, last);
     if shape.c < late as u64 {
-        return Answer::Refused(refusal::FULL);
+        return Answer::Refused(refusal::FULL, 0);
     }
     if out.len() < slow_length(shape, state, message, log) {
-        return Answer::Refused(refusal::NO_ROOM);
+        return Answer::Refused(refusal::NO_ROOM, 0);
     }
     let sent = tell_synced(shape, state, out, message, log);
     sync_state(shape, state, message, log, slots, last);
@@ -169,15 +169,15 @@ pub fn on_replica_sync(
     ensures { λ r. ⌜ left r (now (state .exit)) (now (out .exit)) ≡ handled 4 onReplicaSync shape m (now (state .entry)) (now (message .entry)) (now (out .entry)) ⌝ }
 {
     let Message::ReplicaSync(_) = m else {
-        return Answer::Refused(refusal::MALFORMED);
+        return Answer::Refused(refusal::MALFORMED, 0);
     };
     let place = kinds::entries_at(shape.s, kind::REPLICA_SYNC);
     let count = octets::get32(message, place) as usize;
     if count as u64 <= places::get_sync(state) {
-        return Answer::Refused(refusal::NOTHING_TO_DO);
+        return Answer::Refused(refusal::NOTHING_TO_DO, 0);
     }
     if shape.c < count as u64 {
-        return Answer::Refused(refusal::FULL);
+        return Answer::Refused(refusal::FULL, 0);
     }
     let log = Listed {
         at: place + 4,

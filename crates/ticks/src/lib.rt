@@ -177,7 +177,7 @@ fn leader_waits(
         return Answer::Done(0);
     }
     if out.len() < kinds::length_for(shape.s, kind::FAST_REPLY, 1) {
-        return Answer::Refused(refusal::NO_ROOM);
+        return Answer::Refused(refusal::NO_ROOM, 0);
     }
     let end = tell_unplaced(shape, state, out, time);
     settle(shape, state, time, n as u64);
@@ -205,13 +205,13 @@ fn leader_releases(
         return leader_waits(shape, state, out, time, n, due);
     }
     if shape.c as usize <= n {
-        return Answer::Refused(refusal::FULL);
+        return Answer::Refused(refusal::FULL, 0);
     }
     let k = fitting(shape.c as usize, n, run);
     if out.len()
         < replies_length(shape.s, k) + kinds::length_for(shape.s, kind::REPLICA_SYNC, n + k)
     {
-        return Answer::Refused(refusal::NO_ROOM);
+        return Answer::Refused(refusal::NO_ROOM, 0);
     }
     let at = release(shape, state, out, time, n, k, slots);
     let end = tell_log(shape, state, out, at);
@@ -235,11 +235,11 @@ fn follower_releases(
     let n = places::log_length(shape, state);
     let due = releases::due_count(shape, state, time);
     if (shape.c as usize <= n) & (due != 0) {
-        return Answer::Refused(refusal::FULL);
+        return Answer::Refused(refusal::FULL, 0);
     }
     let k = fitting(shape.c as usize, n, due);
     if out.len() < replies_length(shape.s, k) + kinds::length_for(shape.s, kind::SYNC_STATUS, 0) {
-        return Answer::Refused(refusal::NO_ROOM);
+        return Answer::Refused(refusal::NO_ROOM, 0);
     }
     let at = release(shape, state, out, time, n, k, slots);
     let end = tell_status(shape, state, out, at);
@@ -261,10 +261,10 @@ pub fn on_tick(
     ensures { λ r. ⌜ left r (now (state .exit)) (now (out .exit)) ≡ handled 23 onTick shape m (now (state .entry)) (now (message .entry)) (now (out .entry)) ⌝ }
 {
     let Message::Tick(_, time) = m else {
-        return Answer::Refused(refusal::MALFORMED);
+        return Answer::Refused(refusal::MALFORMED, 0);
     };
     if time < places::get_clock(state) {
-        return Answer::Refused(refusal::NOTHING_TO_DO);
+        return Answer::Refused(refusal::NOTHING_TO_DO, 0);
     }
     if handler::leads(shape, state) {
         return leader_releases(shape, state, out, time, slots);

@@ -1,4 +1,4 @@
 -- The laws of the verdict.
 mod Fresh
 mod Keys
-mod Entries
+pub mod Entries

@@ -80,7 +80,7 @@ fn stands_after(s: u64, group: u64, last: u64, e: Entry) -> bool
 }
 
 // The first wrong field of the entries that are looked at.
-fn entries_wrong(s: u64, h: Header, b: &[u8], look: Look, slots: &mut [u16]) -> Verdict
+pub fn entries_wrong(s: u64, h: Header, b: &[u8], look: Look, slots: &mut [u16]) -> Verdict
     requires { ⌜ Looked s look (length (now b)) ⌝ }
     ensures { λ r. ⌜ r ≡ reading.entriesWrong s (fieldsFrom (headed h) [] (rowIn (now (b .entry)) (look .at))) (look .whole) (look .seen) ⌝ }
 {

@@ -136,7 +136,7 @@ module _ (sh : Shape) (b msg out : List ℕ) (m : Message) (h : Header) (p : ℕ
 
     pub asked-told : (need end : ℕ) (out₁ out₂ : List ℕ) → need ≡ lengthFor (sh .s) 19 count → need ≤ length out → end ≡ 24 + 4 * sh .s → out₁ ≡ splice out 0 (messageBytes sh b (VerifyReply (headedIn b 19 asker (only from))) [])
         → out₂ ≡ splice out₁ (end - 4) (le 4 count ++ flat entryBytes (ordered (askedIn p asker t)))
-        → _≡_ {A = Left} (record { refused = false; number = 0; sent = end + 24 * count; state = b; out = out₂ }) (handled 18 onVerifyRequest sh m b msg out)
+        → _≡_ {A = Left} (record { refused = false; number = 0; offset = 0; sent = end + 24 * count; state = b; out = out₂ }) (handled 18 onVerifyRequest sh m b msg out)
     unfolding pick rowOf
     asked-told need end out₁ out₂ n l he w₁ w₂ =
         let F = front st 19 asker (only from) [] in

@@ -134,13 +134,13 @@ pub fn on_verify_request(
         ≡ handled 18 steps.onVerifyRequest shape m (now (state .entry)) (now (message .entry)) (now (out .entry)) ⌝ }
 {
     let Message::VerifyRequest(h, boundary) = m else {
-        return Answer::Refused(refusal::MALFORMED);
+        return Answer::Refused(refusal::MALFORMED, 0);
     };
     let asker = h.from_group as u64;
     let t = source_of(shape, state);
     let count = count_asked(t, boundary, asker);
     if out.len() < kinds::length_for(shape.s, kind::VERIFY_REPLY, count) {
-        return Answer::Refused(refusal::NO_ROOM);
+        return Answer::Refused(refusal::NO_ROOM, 0);
     }
     let end = tell_none(shape, state, out, h.from_group, h.from_replica as u64);
     put_asked(t, boundary, asker, count, out, end - 4);

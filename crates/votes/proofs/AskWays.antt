@@ -100,7 +100,7 @@ module _ (sh : Shape) (b msg : List ℕ) (view : ℕ) (k : Cast) (g : Brought sh
         let x : othersIn sh b₂ mask ≡ othersIn sh b mask = others-are next-laid next-sender mask ∙ others-here in
         rw (x, ← n, ← e) l
 
-    pub ask-sent : (sent : ℕ) (out′ : List ℕ) → sent ≡ length (flat (leaderBytes sh b₂ 18 boundary []) (othersIn sh b₂ mask)) → out′ ≡ splice out 0 (flat (leaderBytes sh b₂ 18 boundary []) (othersIn sh b₂ mask)) → _≡_ {A = Left} (record { refused = false; number = 0; sent = sent; state = b₂; out = out′ }) outcome
+    pub ask-sent : (sent : ℕ) (out′ : List ℕ) → sent ≡ length (flat (leaderBytes sh b₂ 18 boundary []) (othersIn sh b₂ mask)) → out′ ≡ splice out 0 (flat (leaderBytes sh b₂ 18 boundary []) (othersIn sh b₂ mask)) → _≡_ {A = Left} (record { refused = false; number = 0; offset = 0; sent = sent; state = b₂; out = out′ }) outcome
     ask-sent sent out′ q o =
         let y : flat (leaderBytes sh b₂ 18 boundary []) (othersIn sh b₂ mask) ≡ flat wireBytes sent-all = verifies-sent next-laid next-sender boundary mask ∙ ap (λ (js : List ℕ). flat wireBytes (sends asks js)) (sym groups-are) in
         sym (closes-sent sh b out next sent-all (rw (long need e) l) ∙ rw (q, o, y, next-laid .bytes))

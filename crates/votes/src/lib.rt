@@ -132,7 +132,7 @@ fn ask_all(
     let mask = all_groups(shape.s);
     let count = handler::count_others(shape, state, mask) as usize;
     if out.len() < kinds::length_for(shape.s, kind::VERIFY_REQUEST, 0) * count {
-        return Answer::Refused(refusal::NO_ROOM);
+        return Answer::Refused(refusal::NO_ROOM, 0);
     }
     keep_vote(shape, state, message, cast);
     take_draft(shape, state, table, boundary);
@@ -158,7 +158,7 @@ fn conclude(
 {
     let rebuilt = rebuild::rebuild(shape, state, message, cast, slots, table);
     let Rebuilt::Log(boundary) = rebuilt else {
-        return Answer::Refused(refusal::FULL);
+        return Answer::Refused(refusal::FULL, 0);
     };
     if shape.s == 1 {
         return changes::start_leading(shape, state, cast.view, message, table, out);
@@ -182,7 +182,7 @@ pub fn on_vote(
     ensures { λ r. ⌜ left r (now (state .exit)) (now (out .exit)) ≡ handled 8 onVote shape m (now (state .entry)) (now (message .entry)) (now (out .entry)) ⌝ }
 {
     let Message::Vote(h, normal, sync) = m else {
-        return Answer::Refused(refusal::MALFORMED);
+        return Answer::Refused(refusal::MALFORMED, 0);
     };
     let cast = Cast {
         view: h.view,
@@ -193,12 +193,12 @@ pub fn on_vote(
         entering: places::get_view(state) < h.view,
     };
     if is_second(shape, state, cast) {
-        return Answer::Refused(refusal::NOTHING_TO_DO);
+        return Answer::Refused(refusal::NOTHING_TO_DO, 0);
     }
     let at = cast.at;
     let number = octets::get32(message, at) as usize;
     if (shape.c as usize) < number {
-        return Answer::Refused(refusal::FULL);
+        return Answer::Refused(refusal::FULL, 0);
     }
     if count_with(shape, state, cast) < GroupSize(shape.n).majority() {
         keep_vote(shape, state, message, cast);

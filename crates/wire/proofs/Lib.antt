@@ -1,4 +1,5 @@
 -- The laws of the reader and of the writer.
 mod Reader
+mod Rest
 mod Formed
 pub mod Promises

@@ -14,9 +14,9 @@ use Rattle.wire.specs.Statements.{Reads, Writes}
 
 written-out : (x y : Answer) (o u : List ℕ) → written x o ≡ written y u → o ≡ u
 written-out (Done a) (Done b) o u e = ap (λ (w : Written). w .out) e
-written-out (Done a) (Refused b) o u e = ap (λ (w : Written). w .out) e
-written-out (Refused a) (Done b) o u e = ap (λ (w : Written). w .out) e
-written-out (Refused a) (Refused b) o u e = ap (λ (w : Written). w .out) e
+written-out (Done a) (Refused b d) o u e = ap (λ (w : Written). w .out) e
+written-out (Refused a c) (Done b) o u e = ap (λ (w : Written). w .out) e
+written-out (Refused a c) (Refused b d) o u e = ap (λ (w : Written). w .out) e
 
 module _ (n s : ℕ) where
   -- bytes are read in one way

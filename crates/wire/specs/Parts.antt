@@ -48,23 +48,3 @@ partsIn s b =
 unfoldable pub judgedAs : ℕ → ℕ → Message → Verdict → Message
 judgedAs len end m Fine = pick (eqb len end) m (Malformed (min len end))
 judgedAs len end m (Wrong a u) = Malformed (pick (leb u len) a len)
-
--- ---- as a case has them
-
-abbrev pub partsFrom : Message → List ℕ → List ℕ → Parts
-partsFrom m views entries =
-    record {
-      header = Wires.headerIn m;
-      zeros = 0;
-      views = length views / 4;
-      numbers = length (numbersOf m);
-      entries = length entries / 24;
-    }
-
--- all entries of a block are looked at
-abbrev pub wholeLook : List ℕ → Look
-wholeLook entries = record { at = 0; whole = length entries / 24; seen = length entries / 24 }
-
--- each number is one of 8 bytes, and no field of the message is wrong
-unfoldable pub allRight : ℕ → ℕ → Parts → List ℕ → List ℕ → Bool
-allRight n s p xs entries = every (λ x. ltb x (2 ^ 64)) xs && isFine (wrongIn n s p xs entries (wholeLook entries))

@@ -101,6 +101,27 @@ pub fn case_with(h: Header, numbers: &[u64]) -> Message
     }
 }
 
+// The reader's answer of a case.
+pub fn answer_of(m: Message) -> u8
+    ensures { λ r. ⌜ (r ≡ kinds.answerOf m) × (r < 256) ⌝ }
+{
+    match m {
+        Message::WrongSizes => 1,
+        Message::Malformed(_) => 2,
+        _ => 0,
+    }
+}
+
+// The offset that goes with it: 0 but for what is malformed.
+pub fn offset_of(m: Message) -> usize
+    ensures { λ r. ⌜ r ≡ kinds.offsetIn m ⌝ }
+{
+    match m {
+        Message::Malformed(at) => at,
+        _ => 0,
+    }
+}
+
 // The answer of a verdict, where m is the case of what stands in the bytes.
 pub fn judged(len: usize, end: usize, m: Message, v: Verdict) -> Message
     ensures { λ r. ⌜ r ≡ judgedAs len end m v ⌝ }

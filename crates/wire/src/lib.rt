@@ -2,14 +2,22 @@
 pub mod decode;
 
 ghost use mathlib.Core.Path.{_≡_};
-ghost use Prim.Native.Nat.{_+_, _*_, _/_, _^_, _≤_, _<_};
+ghost use mathlib.Core.Bool.{true};
+ghost use Prim.Native.Nat.{ℕ, _+_, _*_, _^_, _≤_, _<_};
 ghost use lib.ListN.{length};
+ghost use lib.Dec.{ltb};
+ghost use Rattle.rules.specs.Choice.{every};
 ghost use Rattle.rules.specs.Read as reading;
 ghost use Rattle.rules.specs.Wire as kinds;
 ghost use Rattle.rules.specs.Write as writing;
-ghost use Rattle.wire.specs.Parts.{allRight};
+ghost use Rattle.rules.specs.declared.Verdict.the-variants as Verdict;
+ghost use Rattle.fields.specs.Parts.{fieldsOf};
 ghost use Rattle.wire.specs.Statements.{Reads, Writes};
 use fields::Parts;
+use fields::and_then;
+use fields::body_wrong;
+use fields::field;
+use fields::head_wrong;
 use kinds::entries_at;
 use kinds::length_for;
 use kinds::numbers_at;
@@ -19,6 +27,7 @@ use rules::Message;
 use rules::Verdict;
 use rules::refusal;
 use verdicts::Look;
+use verdicts::entries_wrong;
 
 // How many entries from `from` on the bytes have room for.
 fn whole_in(len: usize, from: usize) -> usize
@@ -51,52 +60,33 @@ pub fn read(n: u64, s: u64, b: &[u8], slots: &mut [u16]) -> Message
     decode::judged(b.len(), end, decode::case_with(h, numbers), v)
 }
 
-// Whether no field of a message of these parts is wrong, all its entries looked at, and each of its numbers is one of 8 bytes.
-fn fields_right(
-    n: u64,
-    s: u64,
-    p: Parts,
-    numbers: &[u64],
-    entries: &[u8],
-    slots: &mut [u16],
-) -> bool
-    requires { ⌜ (s ≤ 8) × (length (now entries) / 24 ≤ 2 ^ 32) ⌝ }
-    ensures { λ r. ⌜ r ≡ allRight n s p (now (numbers .entry)) (now (entries .entry)) ⌝ }
+// The first wrong count or number; each number is one of 8 bytes.
+fn body_wide(s: u64, p: Parts, numbers: &[u64]) -> Verdict
+    requires { ⌜ s ≤ 8 ⌝ }
+    ensures { λ r. ⌜ (r ≡ reading.firstWrong (reading.bodyRows s (fieldsOf p (now (numbers .entry))))) × (every (λ x. ltb x (2 ^ 64)) (now (numbers .entry)) ≡ true) ⌝ }
 {
-    let count = entries.len() / 24;
-    let look = Look {
-        at: 0,
-        whole: count,
-        seen: count,
-    };
-    let v = verdicts::message_wrong(n, s, p, numbers, entries, look, slots);
-    match v {
-        Verdict::Fine => true,
-        Verdict::Wrong(_, _) => false,
-    }
+    body_wrong(s, p, numbers)
 }
 
-// Whether the case is that of its header, the blocks are whole, and the message is well formed.
-fn parts_formed(n: u64, s: u64, m: Message, views: &[u8], entries: &[u8], slots: &mut [u16]) -> bool
+// The first wrong field of the message that would be written; where none is, each number fits its bytes.
+fn parts_wrong(
+    n: u64,
+    s: u64,
+    m: Message,
+    views: &[u8],
+    entries: &[u8],
+    slots: &mut [u16],
+) -> Verdict
     requires { ⌜ s ≤ 8 ⌝ }
-    ensures { λ r. ⌜ r ≡ writing.partsFormed n s m (now (views .entry)) (now (entries .entry)) ⌝ }
+    ensures { λ r. ⌜ (r ≡ writing.partsWrong n s m (now (views .entry)) (now (entries .entry)))
+        × (r ≡ Verdict.Fine → reading.wide (writing.wireFrom m (now (views .entry)) (now (entries .entry))) ≡ true) ⌝ }
 {
-    let said = writer::said_of(m);
-    let header = said.header;
     let items = views.len() / 4;
     let count = entries.len() / 24;
-    if said.tag != header.kind {
-        return false;
-    }
-    if 4 * items != views.len() {
-        return false;
-    }
-    if 24 * count != entries.len() {
-        return false;
-    }
-    if 4294967296 <= count {
-        return false;
-    }
+    let whole = 4 * items == views.len();
+    let counted = (24 * count == entries.len()) & (count < 4294967296);
+    let said = writer::said_of(m);
+    let header = said.header;
     let p = Parts {
         header,
         zeros: 0,
@@ -106,7 +96,23 @@ fn parts_formed(n: u64, s: u64, m: Message, views: &[u8], entries: &[u8], slots:
     };
     let room = said.numbers;
     let most = said.count;
-    fields_right(n, s, p, &room[0..most], entries, slots)
+    let at = entries_at(s, header.kind);
+    let head = field(said.tag == header.kind, 0, 1, head_wrong(n, s, p));
+    let body = field(whole, 12, 16, body_wide(s, p, &room[0..most]));
+    let so_far = and_then(
+        head,
+        and_then(body, field(counted, at, at + 4, Verdict::Fine)),
+    );
+    match so_far {
+        Verdict::Fine => {}
+        Verdict::Wrong(a, u) => return Verdict::Wrong(a, u),
+    }
+    let look = Look {
+        at: 0,
+        whole: count,
+        seen: count,
+    };
+    entries_wrong(s, header, entries, look, slots)
 }
 
 // How long the message of these parts is.
@@ -131,13 +137,15 @@ pub fn write(
     ensures { λ r. ⌜ Writes n s m (now (views .entry)) (now (entries .entry)) (now (out .entry)) r (now (out .exit)) ⌝ }
 {
     if !group::sizes_fit(n, s) {
-        return Answer::Refused(refusal::WRONG_STATE);
+        return Answer::Refused(refusal::WRONG_STATE, 0);
     }
-    if !parts_formed(n, s, m, views, entries, slots) {
-        return Answer::Refused(refusal::MALFORMED);
+    let wrong = parts_wrong(n, s, m, views, entries, slots);
+    match wrong {
+        Verdict::Fine => {}
+        Verdict::Wrong(a, _) => return Answer::Refused(refusal::MALFORMED, a),
     }
     if out.len() < size_of(m, views.len(), entries.len()) {
-        return Answer::Refused(refusal::NO_ROOM);
+        return Answer::Refused(refusal::NO_ROOM, 0);
     }
     let end = writer::put_message(out, 0, m, views, entries);
     Answer::Done(end)

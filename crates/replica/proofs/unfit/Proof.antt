@@ -9,13 +9,19 @@ use Rattle.replica.proofs.unfit.Tie as tie
 sizes-fit-requires : tie.Need-sizes-fit-requires
 sizes-fit-requires c κs = search needs
 
+coded-requires : tie.Need-coded-requires
+coded-requires c κs = search needs
+
 returns : tie.Need-returns
 unfolding pick
-returns c = rw (sym (c .before .sizes-fit .ensures) ∙ c .if1 .taken)
+returns c = rw (sym (c .before .before .sizes-fit .ensures) ∙ c .before .if1 .taken) (c .coded .ensures)
+
+coded-requires-2 : tie.Need-coded-requires-2
+coded-requires-2 c κs = search needs
 
 returns-2 : tie.Need-returns-2
 unfolding pick
-returns-2 c = rw (sym (c .before .sizes-fit .ensures) ∙ c .if1 .left)
+returns-2 c = rw (sym (c .before .before .sizes-fit .ensures) ∙ c .before .if1 .left) (c .coded2 .ensures)
 
 pub unfit-spec : {M : Type 1} → statement M
-unfit-spec = tie.close (tie.spec sizes-fit-requires returns returns-2)
+unfit-spec = tie.close (tie.spec sizes-fit-requires coded-requires returns coded-requires-2 returns-2)
