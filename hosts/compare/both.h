@@ -297,7 +297,9 @@ static const char *misuse(int side, uint64_t answer, const uint8_t *state, size_
     if (memcmp(state_of[side] - GUARD_LENGTH, pattern, GUARD_LENGTH) != 0 ||
         memcmp(state_of[side] + length, pattern, GUARD_LENGTH) != 0)
         return "written outside of the state";
-    if (!answer_fits(answer, room, told.length))
+    /* The writer tells places of the message that its kind would have, which may be longer than what it was given. */
+    size_t opening = state == NULL ? length_of_kind(JALLUMERE_FAST_REPLY, GROUPS_MOST, 0) : 0;
+    if (!answer_fits(answer, room, told.length > opening ? told.length : opening))
         return "a length beyond the room, an offset beyond the message, or one of them beside another refusal";
     if (memcmp(out_of[side] - GUARD_LENGTH, pattern, GUARD_LENGTH) != 0 ||
         memcmp(out_of[side] + sent, pattern + GUARD_LENGTH + sent, room - sent + GUARD_LENGTH) != 0)
@@ -383,7 +385,9 @@ static uint64_t try_write(const message *made, size_t views_length, size_t entri
     uint64_t answer = compare_sides("write", answers, NULL, 0, room, given);
     counts[MESSAGES][is_kind(made->kind) ? made->kind : 0][columns[JALLUMERE_NUMBER(answer)]]++;
     count_offset(answer, 2, made->kind, SIZE_MAX, SIZE_MAX);
-    if (has_bytes(made, views_length, entries_length)) {
+    /* Numbers that are not as many as the kind has are told before what else is wrong, which a reader of bytes cannot. */
+    bool counted = is_kind(made->kind) && made->number_count == forms[made->kind].numbers;
+    if (counted && has_bytes(made, views_length, entries_length)) {
         uint64_t read = model_read(at.n, at.s, given.bytes, given.length), number = JALLUMERE_NUMBER(answer);
         if (read != (number == JALLUMERE_DONE || number == JALLUMERE_NO_ROOM ? JALLUMERE_DONE : answer))
             end_with_difference("write", "the reader says otherwise of these bytes", given.bytes, given.length);
