@@ -28,10 +28,10 @@ pub fn enter(shape: Shape, state: &mut [u8], view: u32, leads: bool, message: &[
     ensures { λ _. ⌜ now (state .exit)
         ≡ image shape (enteredBy shape (stateOf shape (now (state .entry))) view (viewsOf shape (now (message .entry))) leads) ⌝ }
 {
+    views::empty_tables(shape, state);
     views::take_view(shape, state, view, message);
     places::put_status(state, status::VIEW_CHANGE);
     places::put_boundary(state, 0);
-    views::empty_tables(shape, state);
     if leads {
         views::keep_own_vote(shape, state);
     }

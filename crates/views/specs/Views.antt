@@ -1,12 +1,13 @@
 -- What a new view leaves in a state, and in its bytes.
-use Prim.Native.Nat.{ℕ, _*_, min}
+use Prim.Native.Nat.{ℕ, _+_, _*_, _≤_, min}
+use mathlib.Core.Path.{_≡_}
 use mathlib.Core.Option.{none}
 use mathlib.Core.List.{List, []}
-use lib.ListN.{take, drop, replicate}
+use lib.ListN.{length, take, drop, replicate}
 use Rattle.octets.specs.Bytes.{le, num, part, splice, items}
 use Rattle.octets.specs.Sections.{total}
 use Rattle.rules.specs.State.{withWaiting, withChange, State}
-use Rattle.rules.specs.Image.{lengths, atGVec, atEarly}
+use Rattle.rules.specs.Image.{tableLength, zeroBytes, lengths, atGVec, atEarly}
 use Rattle.rules.specs.declared.Shape.{Shape}
 use Rattle.places.specs.Layout.{startOf}
 
@@ -23,6 +24,18 @@ emptied sh st =
 -- how many bytes early, late, notes, votes, draft and replies have
 abbrev pub tablesLength : Shape → ℕ
 tablesLength sh = total (take 6 (drop atEarly (lengths sh)))
+
+-- the bytes are a count, rows of k bytes, and zeros behind those counted up to room for c rows
+pub record Spare (k c : ℕ) (x : List ℕ) : Type 0 where
+  pub size : length x ≡ 4 + k * c
+  pub room : num x 0 4 ≤ c
+  pub free : (rest : ℕ) → k * num x 0 4 + rest ≡ k * c → part x (4 + k * num x 0 4) rest ≡ zeroBytes rest
+
+-- at a stand a flag, what else precedes a table, and a table of entries with room for c, all zeros where the flag is not set
+pub record Kept (head c : ℕ) (b : List ℕ) (a : ℕ) : Type 0 where
+  pub within : a + (head + tableLength c) ≤ length b
+  pub unset : num b a 1 ≡ 0 → part b a (head + tableLength c) ≡ zeroBytes (head + tableLength c)
+  pub table : Spare 24 c (part b (a + head) (tableLength c))
 
 -- the gView and the gVec of a message written
 abbrev pub takenIn : Shape → List ℕ → ℕ → List ℕ → List ℕ

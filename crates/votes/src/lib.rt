@@ -14,15 +14,16 @@ ghost use mathlib.Core.Path.{_≡_};
 ghost use mathlib.Core.List.{[]};
 ghost use Prim.Native.Nat.{_+_, _-_, _*_, _^_, _≤_, _<_};
 ghost use lib.ListN.{length};
-ghost use Rattle.octets.specs.Bytes.{splice, flat};
+ghost use Rattle.octets.specs.Bytes.{part, splice, flat};
 ghost use Rattle.rules.specs.Read.{lengthFor};
-ghost use Rattle.rules.specs.Image.{tableAt, image, stateOf};
+ghost use Rattle.rules.specs.Image.{tableLength, tableAt, image, stateOf, atDraft};
 ghost use Rattle.rules.specs.Step.{onVote};
 ghost use Rattle.rules.specs.Bytes.{left, closes};
 ghost use Rattle.entries.specs.Table.{Table};
-ghost use Rattle.places.specs.Layout.{Sized, Stands};
+ghost use Rattle.places.specs.Layout.{startOf, Sized, Stands};
 ghost use Rattle.handler.specs.Handler.{Ready, handled};
 ghost use Rattle.handler.specs.Sending.{othersIn, leaderBytes};
+ghost use Rattle.views.specs.Views.{Spare};
 ghost use Rattle.ballots.specs.Ballots.{votesIn, Sent};
 ghost use Rattle.votes.specs.Votes.{Brought, isSecond, countWith, cameTo, keptIn, draftedIn, asksAll, concludes};
 
@@ -79,12 +80,12 @@ fn keep_vote(shape: Shape, state: &mut [u8], message: &[u8], cast: Cast)
 
 // Takes over the rebuilt log as the draft, with its boundary: status 3.
 fn take_draft(shape: Shape, state: &mut [u8], table: &[u8], boundary: u64)
-    requires { ⌜ Sized shape (now state) × Table (shape .c) (now table) ⌝ }
+    requires { ⌜ Sized shape (now state) × Spare 24 (shape .c) (part (now state) (startOf shape atDraft) (tableLength (shape .c))) × Table (shape .c) (now table) ⌝ }
     ensures { λ _. ⌜ now (state .exit) ≡ draftedIn shape (now (state .entry)) (tableAt (shape .c) (now (table .entry)) 0) boundary ⌝ }
 {
     let draft = places::places_of(shape).draft;
     let number = entries::count(table);
-    places::put_table(shape, state, draft, table, 4, number);
+    views::renew_table(shape, state, draft, table, 4, number);
     places::put_boundary(state, boundary);
     places::put_status(state, status::CROSS_SHARD);
 }

@@ -5,6 +5,8 @@ use native.Mathlib.Omega.{arith}
 use Rattle.rules.specs.Step.{onVerifyReply}
 use Rattle.handler.proofs.Closes.{handled-other}
 use Rattle.handler.proofs.OtherKind.{not-tag}
+use Rattle.places.proofs.Sections.{stands-midway}
+use Rattle.views.proofs.Cleared.{replies-stand}
 use Rattle.replies.proofs.Kept.{counted-few}
 use Rattle.replies.proofs.Ways.{from-below, reply-views, replied, reply-counted, reply-stands, reply-past, reply-kept, reply-last}
 use borrow.Author.Needs.{needs}
@@ -57,7 +59,7 @@ add-keep-reply : tie.Need-add-keep-reply
 add-keep-reply c = search needs
 
 keep-reply-requires : tie.Need-keep-reply-requires
-keep-reply-requires c κs = (record { fits = c .before .before .before .before .before .before .before .before .before .before .before .before .before .before .before .before .before .before .before .before .pre .0 .stands .fits; size = c .before .before .before .before .before .before .before .before .before .before .before .before .before .before .before .before .before .before .before .before .pre .0 .stands .size }, from-below _ _ _ (c .before .before .before .before .before .before .before .before .before .before .before .before .before .before .before .before .before .before .before .before .args .out .now) _ _ (c .before .before .before .before .before .before .before .before .before .before .before .before .before .before .before .before .before .before .before .before .pre .0) (c .before .before .before .before .before .before .before .before .before .before .before .before .before .m .given .1), c .before .before .before .before .before .if2 .left, reply-stands _ _ _ (c .before .before .before .before .before .before .before .before .before .before .before .before .before .before .before .before .before .before .before .before .args .out .now) _ _ (c .before .before .before .before .before .before .before .before .before .before .before .before .before .before .before .before .before .before .before .before .pre .0) (c .before .before .before .before .before .before .before .before .before .before .before .before .before .m .given .1) _ (c .before .before .before .before .before .before .before .entries-at .ensures .0) _ (c .before .before .before .before .before .before .get32 .ensures))
+keep-reply-requires c κs = let l = from-below _ _ _ (c .before .before .before .before .before .before .before .before .before .before .before .before .before .before .before .before .before .before .before .before .args .out .now) _ _ (c .before .before .before .before .before .before .before .before .before .before .before .before .before .before .before .before .before .before .before .before .pre .0) (c .before .before .before .before .before .before .before .before .before .before .before .before .before .m .given .1) in (record { fits = c .before .before .before .before .before .before .before .before .before .before .before .before .before .before .before .before .before .before .before .before .pre .0 .stands .fits; size = c .before .before .before .before .before .before .before .before .before .before .before .before .before .before .before .before .before .before .before .before .pre .0 .stands .size }, l, replies-stand (stands-midway (c .before .before .before .before .before .before .before .before .before .before .before .before .before .before .before .before .before .before .before .before .pre .0 .stands)) _ l, c .before .before .before .before .before .if2 .left, reply-stands _ _ _ (c .before .before .before .before .before .before .before .before .before .before .before .before .before .before .before .before .before .before .before .before .args .out .now) _ _ (c .before .before .before .before .before .before .before .before .before .before .before .before .before .before .before .before .before .before .before .before .pre .0) (c .before .before .before .before .before .before .before .before .before .before .before .before .before .m .given .1) _ (c .before .before .before .before .before .before .before .entries-at .ensures .0) _ (c .before .before .before .before .before .before .get32 .ensures))
 
 same-length-3 : tie.Need-same-length-3
 same-length-3 c = search needs

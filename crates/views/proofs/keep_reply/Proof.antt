@@ -3,7 +3,8 @@
 use Prim.Native.Nat.{_+_, _≤_}
 use native.Mathlib.Omega.{arith}
 use lib.ListN.{length}
-use Rattle.views.proofs.Kept.{reply-kept}
+use Rattle.octets.proofs.Laws.{length-le}
+use Rattle.views.proofs.Kept.{table-behind, reply-kept}
 use borrow.Author.Needs.{needs}
 use Rattle.views.proofs.keep_reply.Statement.{statement}
 use Rattle.views.proofs.keep_reply.Tie as tie
@@ -14,17 +15,17 @@ reply-place-requires c κs = search needs
 put8-requires : tie.Need-put8-requires
 put8-requires c κs = search needs
 
-add-put-table : tie.Need-add-put-table
-add-put-table c = search needs
+add-renew-table : tie.Need-add-renew-table
+add-renew-table c = search needs
 
-put-table-requires : tie.Need-put-table-requires
-put-table-requires c κs = search needs
+renew-table-requires : tie.Need-renew-table-requires
+renew-table-requires c κs = let t = table-behind _ _ _ _ _ 1 _ (c .before .before .before .before .before .before .before .before .pre .2) (c .before .before .before .before .before .reply-place .ensures .at) (length-le 1 1) (c .before .before .before .put8 .ensures) in (t .0, t .1, c .before .before .before .before .before .before .before .before .pre .3, c .before .before .before .before .before .before .before .before .pre .4, c .before .before .before .before .before .before .before .before .pre .0 .fits .small)
 
 same-length : tie.Need-same-length
 same-length c = search needs
 
 returns : tie.Need-returns
-returns c = let h : (c .before .before .before .before .before .before .before .before .reply-place .result) + 1 ≤ length (c .before .before .before .before .before .before .before .before .before .before .before .args .state .now) = omega (arith, c .before .before .before .before .before .before .before .before .reply-place .ensures .within, c .before .before .before .before .before .before .before .before .before .before .before .pre .0 .size) in reply-kept _ _ _ _ _ _ _ h (c .before .before .before .before .before .before .before .before .reply-place .ensures .at) (c .before .before .before .before .before .before .put8 .ensures) (c .before .before .put-table .ensures)
+returns c = let h : (c .before .before .before .before .before .before .before .before .reply-place .result) + 1 ≤ length (c .before .before .before .before .before .before .before .before .before .before .before .args .state .now) = omega (arith, c .before .before .before .before .before .before .before .before .reply-place .ensures .within, c .before .before .before .before .before .before .before .before .before .before .before .pre .0 .size) in reply-kept _ _ _ _ _ _ _ h (c .before .before .before .before .before .before .before .before .reply-place .ensures .at) (c .before .before .before .before .before .before .put8 .ensures) (c .before .before .renew-table .ensures)
 
 pub keep-reply-spec : {M : Type 1} → statement M
 keep-reply-spec =
@@ -32,7 +33,7 @@ keep-reply-spec =
     (tie.spec
     reply-place-requires
     put8-requires
-    add-put-table
-    put-table-requires
+    add-renew-table
+    renew-table-requires
     same-length
     returns)

@@ -4,6 +4,7 @@ use Prim.Native.Nat.{_^_, _<_}
 use native.Mathlib.Omega.{arith}
 use native.Mathlib.Nat.{mul-le-mul}
 use Rattle.octets.proofs.Laws.{bytes-known}
+use Rattle.votes.proofs.Came.{draft-free}
 use Rattle.votes.proofs.AskWays.{ask-need, ask-short, ask-tells, ask-sent}
 use borrow.Author.Needs.{needs}
 use Rattle.votes.proofs.ask_all.Statement.{statement}
@@ -31,7 +32,7 @@ keep-vote-requires : tie.Need-keep-vote-requires
 keep-vote-requires c κs = search needs
 
 take-draft-requires : tie.Need-take-draft-requires
-take-draft-requires c κs = search needs
+take-draft-requires c κs = let v : (c .before .before .before .before .before .before .before .before .before .before .before .before .before .before .args .cast .view) < 256 ^ 4 = c .before .before .before .before .before .before .before .before .before .before .before .before .before .before .pre .0 .wide in (search needs, draft-free _ _ (c .before .before .before .before .before .before .before .before .before .before .before .before .before .before .args .message .now) (c .before .before .before .before .before .before .before .before .before .before .before .before .before .before .args .cast .view) (c .before .before .before .before .before .before .before .before .before .before .before .before .before .before .args .cast) (c .before .before .before .before .before .before .before .before .before .before .before .before .before .before .pre .0) (bytes-known (c .before .before .before .before .before .before .before .before .before .before .before .before .before .before .args .message .now) (λ i. (c .before .before .before .before .before .before .before .before .before .before .before .before .shared-slice-known .given) i .fits)) v _ (c .before .before .before .keep-vote .ensures), c .before .before .before .before .before .before .before .before .before .before .before .before .before .before .pre .1)
 
 tell-all-requires : tie.Need-tell-all-requires
 tell-all-requires c κs = let v : (c .before .before .before .before .before .before .before .before .before .before .before .before .before .before .before .before .before .before .before .args .cast .view) < 256 ^ 4 = c .before .before .before .before .before .before .before .before .before .before .before .before .before .before .before .before .before .before .before .pre .0 .wide in (search needs, ask-tells _ _ (c .before .before .before .before .before .before .before .before .before .before .before .before .before .before .before .before .before .before .before .args .message .now) (c .before .before .before .before .before .before .before .before .before .before .before .before .before .before .before .before .before .before .before .args .cast .view) (c .before .before .before .before .before .before .before .before .before .before .before .before .before .before .before .before .before .before .before .args .cast) (c .before .before .before .before .before .before .before .before .before .before .before .before .before .before .before .before .before .before .before .pre .0) (bytes-known (c .before .before .before .before .before .before .before .before .before .before .before .before .before .before .before .before .before .before .before .args .message .now) (λ i. (c .before .before .before .before .before .before .before .before .before .before .before .before .before .before .before .before .before .shared-slice-known .given) i .fits)) v (c .before .before .before .before .before .before .before .before .before .before .before .before .before .before .before .before .before .before .before .args .out .now) (c .before .before .before .before .before .before .before .before .before .before .before .before .before .before .before .before .before .before .before .args .table .now) (c .before .before .before .before .before .before .before .before .before .before .before .before .before .before .before .before .before .before .before .pre .1) _ _ _ (c .before .before .before .before .before .before .before .before .before .before .before .before .before .before .all-groups .ensures) (c .before .before .before .before .before .before .before .before .before .before .before .before .count-others .ensures .0) _ (c .before .before .before .before .before .before .before .before .before .before .before .length-for .ensures) (c .before .before .before .before .before .before .before .before .before .before .if1 .left) _ _ (c .before .before .before .before .before .before .before .before .keep-vote .ensures) (c .before .before .before .before .take-draft .ensures))

@@ -4,7 +4,7 @@ use Prim.Native.Nat.{_^_, _<_}
 use mathlib.Core.Path.{refl}
 use native.Mathlib.Omega.{arith}
 use Rattle.octets.proofs.Laws.{bytes-known}
-use Rattle.votes.proofs.Came.{kept}
+use Rattle.votes.proofs.Came.{vote-place, kept}
 use borrow.Author.Needs.{needs}
 use Rattle.votes.proofs.keep_vote.Statement.{statement}
 use Rattle.votes.proofs.keep_vote.Tie as tie
@@ -25,7 +25,7 @@ add-keep-vote : tie.Need-add-keep-vote
 add-keep-vote c = search needs
 
 keep-vote-requires : tie.Need-keep-vote-requires
-keep-vote-requires c κs = search needs
+keep-vote-requires c κs = let v : (c .before .before .before .before .before .before .before .before .before .args .cast .view) < 256 ^ 4 = c .before .before .before .before .before .before .before .before .before .pre .wide in let k = vote-place _ _ (c .before .before .before .before .before .before .before .before .before .args .message .now) (c .before .before .before .before .before .before .before .before .before .args .cast .view) (c .before .before .before .before .before .before .before .before .before .args .cast) (c .before .before .before .before .before .before .before .before .before .pre) (bytes-known (c .before .before .before .before .before .before .before .before .before .args .message .now) (λ i. (c .before .before .before .before .before .before .before .shared-slice-known .given) i .fits)) v _ (c .before .before .before .come-to .ensures) in (search needs, c .before .before .before .before .before .before .before .before .before .pre .given .sent .sender, k, search needs, search needs)
 
 same-length : tie.Need-same-length
 same-length c = search needs
