@@ -105,6 +105,12 @@ module _ (key : ℕ → ℕ) (m : ℕ) where
   stop-kept t u x l h zero p k = stop-none u x p 0 refl ∙ l ∙ sym (stop-none t x p 0 refl)
   stop-kept t u x l h (suc n) p k = kept-turn t u x p n (h p) (stop-kept t u x l h n (p + 1)) (ends key m t x p) refl k
 
+-- the path of x ends at slot q, which is free
+pub record Free (key : ℕ → ℕ) (m : ℕ) (t : List ℕ) (x q : ℕ) : Type 0 where
+  pub ends : q ≡ slotAt key m t x
+  pub inside : q < length t
+  pub free : m ≤ getD t q 0
+
 -- row i went in: no taken slot was changed, and the table has it for its key
 pub record Went (key : ℕ → ℕ) (m i : ℕ) (t u : List ℕ) : Type 0 where
   pub kept : (p : ℕ) → getD t p m < m → getD u p m ≡ getD t p m
@@ -132,6 +138,16 @@ module _ (key : ℕ → ℕ) (m : ℕ) where
         let p : ℕ = slotAt key m t (key i) in
         let v : getD u p m ≡ i = w p (rw e h) ∙ e in
         ap (λ (q : ℕ). getD u q m) (slot-kept (key i) (ends-row key m u (key i) p (ap key v))) ∙ v
+
+  -- ---- the free slot q at the end of a path: where it begins, or further on
+  pub free-first : (t : List ℕ) (x p e q : ℕ) → p ≡ slotOf (length t) x → p + 64 ≤ length t → e ≡ getD t p 0 → m ≤ e → q ≡ p → Free key m t x q
+  unfolding slotAt
+  free-first t x p e q ep l ee f eq =
+      let z : p ≡ slotAt key m t x = path-free key m t x p 64 63 e (omega arith) (omega arith) ee f ∙ ap (λ (r : ℕ). stop key m t x r 64) ep in
+      record { ends = eq ∙ z; inside = omega arith; free = rw eq (omega arith) }
+
+  pub free-further : (t : List ℕ) (x p e q : ℕ) → p ≡ slotAt key m t x → p < length t → e ≡ getD t p 0 → m ≤ e → q ≡ p → Free key m t x q
+  free-further t x p e q ep l ee f eq = record { ends = eq ∙ ep; inside = omega arith; free = rw eq (omega arith) }
 
   -- ---- a store into the free slot at the end of its path
   went : (t : List ℕ) (i x p : ℕ) → i < m → x ≡ key i → p ≡ slotAt key m t x → p < length t → m ≤ getD t p 0 → Went key m i t (set t p i)

@@ -1,6 +1,6 @@
 // Keys that stand in rows of a byte slice: the first that repeats an earlier one, and the row of a key. Slots that the caller lends spare both
 // the search over all rows, in one of two ways. A table of rows by key serves plain keys; its paths are 64 slots long, so that chosen keys
-// cannot make them longer. Where one is full the rows are put in the order of their keys, which no keys make dear.
+// cannot make them longer. Where one is full, or they are long on the whole, the rows are put in the order of their keys, which no keys make dear.
 mod order;
 
 ghost use mathlib.Core.Path.{_≡_};
@@ -32,12 +32,15 @@ const MOST: usize = 65535;
 // How many slots a path has.
 const PATH: usize = 64;
 
-// How many slots a path may pass before its end, on the average of all the rows that are put in. Plain keys pass half a slot, and random ones
-// no more, in a table of two slots for a row.
+// How many slots paths may pass before their ends, on the average of the rows that are in: plain keys pass half a slot, and random ones no more,
+// in a table of two slots for a row.
 const WAY: usize = 3;
 
+// And how many beside: so a few rows stay in their table whatever their paths are, since their order costs more.
+const SPARE: usize = 1024;
+
 // How many rows are searched at less cost than that of a table.
-const FEW: usize = 12;
+const FEW: usize = 8;
 
 // What slot 0 says where rows are found by a table, by their order, or by neither.
 const BY_TABLE: usize = 0;
@@ -199,22 +202,26 @@ fn lay(b: &[u8], sp: Spots, table: &mut [u16], from: usize) -> usize
     ensures { λ r. ⌜ Laid (keyOf (now (b .entry)) sp) (countOf sp) (now (table .entry)) (now (table .exit)) r ⌝ }
 {
     let m = count(sp);
-    let most = PATH + WAY * (m - from);
+    let given_up = m + 1;
     let mut passed = 0;
     let mut i = from;
     while i < m {
         let x = key(b, sp, i);
         let start = slot(x, table.len());
-        let p = path_end(b, sp, table, x, start);
-        if table.len() <= p {
-            return m + 1;
-        }
-        if row(table[p]) < m {
-            return i;
-        }
-        passed += p - start;
-        if most < passed {
-            return m + 1;
+        let mut p = start;
+        // most paths end where they begin
+        if row(table[start]) < m {
+            p = path_end(b, sp, table, x, start);
+            if table.len() <= p {
+                return given_up;
+            }
+            if row(table[p]) < m {
+                return i;
+            }
+            passed += p - start;
+            if SPARE + WAY * i < passed {
+                return given_up;
+            }
         }
         table[p] = i as u16;
         i += 1;
@@ -288,7 +295,7 @@ fn size_for(len: usize, m: usize, most: usize) -> usize
 }
 
 // Puts every row into a table of this size. Tells the place of the first row that repeats an earlier one, or that there is none; or one more
-// than there are rows, where a path is full.
+// than there are rows, where the table is given up.
 fn serve(b: &[u8], sp: Spots, slots: &mut [u16], size: usize) -> usize
     requires { ⌜ Inside (now b) sp × (64 ≤ size) × (size ≤ 65535) × (2 + size ≤ length (now slots)) × (countOf sp ≤ 65535) ⌝ }
     ensures { λ r. ⌜ (r ≤ countOf sp → r ≡ repeatPlace (keyOf (now (b .entry)) sp) (countOf sp))
