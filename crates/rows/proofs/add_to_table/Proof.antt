@@ -34,7 +34,7 @@ sub-lay-2 : tie.Need-sub-lay-2
 sub-lay-2 c = search needs
 
 lay-requires : tie.Need-lay-requires
-lay-requires c κs = let w = served-part (keyOf (c .before .before .before .before .before .before .args .b .now) (c .before .before .before .before .before .before .args .sp)) ((countOf (c .before .before .before .before .before .before .args .sp)) - 1) (c .before .row .result) (c .before .before .before .before .before .before .args .slots .now) (c .before .before .before .before .before .before .pre .4) (c .before .before .before .before .before .before .pre .3) (c .before .row .ensures .0) (c .before .row .ensures .1) in (c .before .before .before .before .before .before .pre .0, w .0, w .1, omega arith, omega arith, served-wider (keyOf (c .before .before .before .before .before .before .args .b .now) (c .before .before .before .before .before .before .args .sp)) ((countOf (c .before .before .before .before .before .before .args .sp)) - 1) (c .before .row .result) (c .before .before .before .before .before .before .args .slots .now) (c .before .before .before .before .before .before .pre .4) (c .before .before .before .before .before .before .pre .3) (c .before .row .ensures .0) (countOf (c .before .before .before .before .before .before .args .sp)) (c .before .before .before .count .result - 1) (omega arith) (omega arith))
+lay-requires c κs = let w = served-part (keyOf (c .before .before .before .before .before .before .args .b .now) (c .before .before .before .before .before .before .args .sp)) ((countOf (c .before .before .before .before .before .before .args .sp)) - 1) (c .before .row .result) (c .before .before .before .before .before .before .args .slots .now) (c .before .before .before .before .before .before .pre .4) (c .before .before .before .before .before .before .pre .3) (c .before .row .ensures .0) (c .before .row .ensures .1) in (c .before .before .before .before .before .before .pre .0, w .0, w .1, omega arith, omega arith, served-wider (keyOf (c .before .before .before .before .before .before .args .b .now) (c .before .before .before .before .before .before .args .sp)) ((countOf (c .before .before .before .before .before .before .args .sp)) - 1) (c .before .row .result) (c .before .before .before .before .before .before .args .slots .now) (c .before .before .before .before .before .before .pre .4) (c .before .before .before .before .before .before .pre .3) (c .before .row .ensures .0) (countOf (c .before .before .before .before .before .before .args .sp)) _ (omega arith) (omega arith))
 
 put-in-order-requires : tie.Need-put-in-order-requires
 put-in-order-requires c κs = search needs
