@@ -1,4 +1,4 @@
-/* Transactions that are chosen against a table of transactions by key: the core's, as crates/repeats/specs/Table.antt
+/* Transactions that are chosen against a table of transactions by key: the core's, as crates/hashed/specs/Table.antt
  * defines it, or the C model's. Whoever sends transactions can choose them so: both hashes are public. */
 #ifndef KEYS_H
 #define KEYS_H

@@ -12,10 +12,10 @@ use Rattle.rules.specs.Read.{entryAt}
 use Rattle.rules.specs.declared.Entry.{Entry}
 use Rattle.repeats.specs.Repeat.{rowOf}
 use Rattle.repeats.specs.Rows.{countOf, spotOf, keyOf, Inside}
-use Rattle.repeats.specs.Slots.{Indexed}
+use Rattle.rows.specs.Slots.{Indexed}
 use Rattle.repeats.specs.declared.Spots.{Spots}
 use Rattle.repeats.proofs.Places.{spot-first}
-use Rattle.repeats.proofs.Slots.{unserved, indexed-agree}
+use Rattle.rows.proofs.Slots.{unserved, indexed-agree}
 use Rattle.entries.specs.First.{findRow}
 use Rattle.entries.specs.Rows.{entrySpots, keyIn, FoundTo, Found}
 use Rattle.entries.proofs.Keys.{key-at, keyed-at, row-keyed}

@@ -4,7 +4,7 @@ use mathlib.Core.List.{List}
 use lib.ListN.{length}
 use Rattle.rules.specs.Entry.{entryOf}
 use Rattle.rules.specs.declared.Entry.{Entry}
-use Rattle.repeats.specs.Slots.{Indexed}
+use Rattle.rows.specs.Slots.{Indexed}
 use Rattle.repeats.specs.declared.Spots.{Spots}
 
 -- where the transactions of n entries from `at` on stand

@@ -98,7 +98,7 @@ pub fn good_place(b: &[u8], at: usize, count: usize, s: u64, k: u64, slots: &mut
     ensures { λ r. ⌜ r ≡ goodTo s k (rowAt (now (b .entry)) at) count ⌝ }
 {
     let fit = first_unfit(b, at, count, s, k, k);
-    repeats::index(b, run_of(at, fit), fit, slots)
+    rows::index(b, run_of(at, fit), fit, slots)
 }
 
 // Whether `count` entries from `at` on are a good log of group k whose every mask holds group j too.
@@ -117,7 +117,7 @@ pub fn good_for(
     if !rows_fit(b, at, count, s, k, j) {
         return false;
     }
-    repeats::index(b, run_of(at, count), count, slots) == count
+    rows::index(b, run_of(at, count), count, slots) == count
 }
 
 // Whether no transaction stands twice in three tables together, such as log, early and late buffer.
@@ -145,5 +145,5 @@ pub fn distinct3(
         stride: 24,
     };
     let all = l + m + n;
-    repeats::index(b, spots, all, slots) == all
+    rows::index(b, spots, all, slots) == all
 }

@@ -17,7 +17,7 @@ use Rattle.rules.proofs.Tests.{all-at}
 use Rattle.rules.proofs.Tables.{NoteFits}
 use Rattle.repeats.specs.Repeat.{rowOf}
 use Rattle.repeats.specs.Rows.{countOf, keyOf, spotOf, Inside}
-use Rattle.repeats.specs.Slots.{Indexed}
+use Rattle.rows.specs.Slots.{Indexed}
 use Rattle.repeats.specs.declared.Spots.{Spots}
 use Rattle.repeats.proofs.Laws.{First, first-is, first-agree}
 use Rattle.repeats.proofs.Places.{spot-first}

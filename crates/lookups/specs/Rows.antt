@@ -3,7 +3,7 @@ use Prim.Native.Nat.{ℕ, _+_, _*_}
 use mathlib.Core.List.{List}
 use lib.ListN.{length}
 use Rattle.repeats.specs.Rows.{countOf, keyOf}
-use Rattle.repeats.specs.Slots.{Indexed}
+use Rattle.rows.specs.Slots.{Indexed}
 use Rattle.repeats.specs.declared.Spots.{Spots}
 use Rattle.notes.specs.Notes.{notesAt}
 

@@ -28,7 +28,7 @@ pub fn index_notes(t: &[u8], c: usize, s: usize, slots: &mut [u16]) -> bool
     ensures { λ r. ⌜ (r ≡ notesDistinct (notesAt c s (now (t .entry)))) × NoteRows c s (now (t .entry)) (now (slots .exit)) ⌝ }
 {
     let n = notes::count(t);
-    repeats::index(t, note_spots(s, n), n, slots) == n
+    rows::index(t, note_spots(s, n), n, slots) == n
 }
 
 // The note of a transaction, or the number of notes.
@@ -44,5 +44,5 @@ pub fn note_row(
     ensures { λ r. ⌜ r ≡ row request coordinator (notesAt c s (now (t .entry))) ⌝ }
 {
     let key = request as u64 + coordinator as u64 * 4294967296;
-    repeats::find(t, note_spots(s, notes::count(t)), slots, key)
+    rows::find(t, note_spots(s, notes::count(t)), slots, key)
 }

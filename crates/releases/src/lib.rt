@@ -39,7 +39,7 @@ fn index_notes(notes: &[u8], c: usize, s: usize, due: usize, slots: &mut [u16])
     ensures { λ _. ⌜ NoteRows c s (now (notes .entry)) (now (slots .exit)) ⌝ }
 {
     if due <= 8 {
-        repeats::mark_none(slots);
+        rows::mark_none(slots);
         return;
     }
     lookups::index_notes(notes, c, s, slots);

@@ -1,6 +1,3 @@
--- The laws of keys in rows, of where they stand, of the table, of rows in order, and of the slots that are lent.
+-- The laws of keys in rows, and of where they stand.
 pub mod Laws
 pub mod Places
-pub mod Table
-pub mod Rising
-pub mod Slots

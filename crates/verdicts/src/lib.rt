@@ -41,7 +41,7 @@ fn repeat_of(b: &[u8], at: usize, count: usize, slots: &mut [u16]) -> usize
         third_count: 0,
         stride: 24,
     };
-    repeats::index(b, spots, count, slots)
+    rows::index(b, spots, count, slots)
 }
 
 // The smaller of two.

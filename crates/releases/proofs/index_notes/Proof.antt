@@ -1,7 +1,7 @@
 -- `releases::index_notes` meets its contract, by slots that serve or by none. Assumes nothing.
 -- Made by tools/answers from the file `answers` beside it: change that one.
 use native.Mathlib.Omega.{arith}
-use Rattle.repeats.proofs.Slots.{unserved}
+use Rattle.rows.proofs.Slots.{unserved}
 use borrow.Author.Needs.{needs}
 use Rattle.releases.proofs.index_notes.Statement.{statement}
 use Rattle.releases.proofs.index_notes.Tie as tie

@@ -1,0 +1,2 @@
+-- A table of rows by key.
+pub mod Table

@@ -1,0 +1,2 @@
+-- The laws of the slots that are lent.
+pub mod Slots

@@ -1,0 +1,2 @@
+-- The slots that are lent.
+pub mod Slots

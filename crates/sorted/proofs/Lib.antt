@@ -1,0 +1,2 @@
+-- The laws of rows in order.
+pub mod Order

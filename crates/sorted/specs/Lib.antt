@@ -1,0 +1,2 @@
+-- Rows in the order of their keys.
+pub mod Order
