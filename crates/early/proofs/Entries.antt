@@ -6,7 +6,7 @@ use mathlib.Core.List.{List}
 use lib.ListN.{length}
 use borrow.Author.Tests.{not-true, not-false}
 use Rattle.rules.specs.Choice.{any, keep}
-use Rattle.rules.specs.Entry.{noEntry, among, without}
+use Rattle.rules.specs.Entry.{noEntry, before, among, without}
 use Rattle.rules.specs.Image.{tableAt}
 use Rattle.rules.specs.declared.Entry.{Entry}
 use Rattle.entries.specs.First.{isOf}
@@ -14,9 +14,23 @@ use Rattle.entries.specs.Table.{Holds, Table}
 use Rattle.entries.proofs.Table.{decoded, is-table}
 use Rattle.early.specs.Listed.{placed, chosen}
 use Rattle.early.specs.declared.Which.{Which}
-use Rattle.early.specs.declared.Which.the-variants.{Any}
+use Rattle.early.specs.declared.Which.the-variants.{Any, After, NotAfter}
 use Rattle.early.specs.Moved.{moved, movedTo}
 use Rattle.early.proofs.Sifting.{keep-like, Sifted, sift-turn}
+
+module _ (which : Which) (e : Entry) where
+  pub placed-any : which ≡ Any → true ≡ placed which e
+  unfolding placed
+  placed-any h = sym (ap (λ (w : Which). placed w e) h)
+
+  module _ (last : Entry) (r : Bool) (q : r ≡ before last e) where
+    pub placed-after : which ≡ After last → r ≡ placed which e
+    unfolding placed
+    placed-after h = q ∙ sym (ap (λ (w : Which). placed w e) h)
+
+    pub placed-not-after : which ≡ NotAfter last → not r ≡ placed which e
+    unfolding placed
+    placed-not-after h = ap not q ∙ sym (ap (λ (w : Which). placed w e) h)
 
 module _ (gone : List Entry) (which : Which) (e : Entry) (p : Bool) (q : p ≡ placed which e) where
   pub not-placed : not p ≡ true → false ≡ chosen gone which e

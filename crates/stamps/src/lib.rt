@@ -30,7 +30,7 @@ pub fn stamped(stamp: u64, e: Entry) -> Entry
     }
 }
 
-// Whether e may follow the log's last.
+// Whether e lies after the log's last.
 pub fn may_follow(shape: Shape, state: &[u8], e: Entry) -> bool
     requires { ⌜ Sized shape (now state) ⌝ }
     ensures { λ r. ⌜ r ≡ log.followsLast (stateOf shape (now (state .entry)) .logged .log) e ⌝ }

@@ -18,7 +18,7 @@ before-requires : tie.Need-before-requires
 before-requires c κs = search needs
 
 returns : tie.Need-returns
-returns c = all-by _ _ _ _ _ _ _ _ _ (c .before .entry-fits .ensures) ? (c .before .before .before .holds .ensures) (c .before .before .holds2 .ensures)
+returns c = all-by _ _ _ _ _ _ _ _ _ (c .before .entry-fits .ensures) (c .before2 .ensures) (c .before .before .before .holds .ensures) (c .before .before .holds2 .ensures)
 
 pub fits-after-spec : {M : Type 1} → statement M
 fits-after-spec =
