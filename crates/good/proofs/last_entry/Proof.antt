@@ -1,43 +1,47 @@
--- `good::last_stamp` meets its contract. Assumes nothing.
+-- `good::last_entry` meets its contract. Assumes nothing.
 -- Made by tools/answers from the file `answers` beside it: change that one.
 use Rattle.good.proofs.Tables.{last-none, last-is}
 use borrow.Author.Needs.{needs}
-use Rattle.good.proofs.last_stamp.Statement.{statement}
-use Rattle.good.proofs.last_stamp.Tie as tie
+use Rattle.good.proofs.last_entry.Statement.{statement}
+use Rattle.good.proofs.last_entry.Tie as tie
 
 count-at-requires : tie.Need-count-at-requires
 count-at-requires c κs = search needs
 
+no-entry-requires : tie.Need-no-entry-requires
+no-entry-requires c κs = search needs
+
 returns : tie.Need-returns
-returns c = last-none _ _ _ _ (c .before .count-at .ensures) (c .if1 .taken)
+returns c = last-none _ _ _ _ (c .before .before .count-at .ensures) (c .before .if1 .taken) _ (c .no-entry .ensures)
 
-add-get64 : tie.Need-add-get64
-add-get64 c = search needs
+add-entry-at : tie.Need-add-entry-at
+add-entry-at c = search needs
 
-sub-get64 : tie.Need-sub-get64
-sub-get64 c = search needs
+sub-entry-at : tie.Need-sub-entry-at
+sub-entry-at c = search needs
 
-mul-get64 : tie.Need-mul-get64
-mul-get64 c = search needs
+mul-entry-at : tie.Need-mul-entry-at
+mul-entry-at c = search needs
 
-add-get64-2 : tie.Need-add-get64-2
-add-get64-2 c = search needs
+add-entry-at-2 : tie.Need-add-entry-at-2
+add-entry-at-2 c = search needs
 
-get64-requires : tie.Need-get64-requires
-get64-requires c κs = search needs
+entry-at-requires : tie.Need-entry-at-requires
+entry-at-requires c κs = search needs
 
 returns-2 : tie.Need-returns-2
-returns-2 c = last-is _ _ _ _ (c .before .before .count-at .ensures) (c .before .if1 .left) _ (c .get64 .ensures)
+returns-2 c = last-is _ _ _ _ (c .before .before .count-at .ensures) (c .before .if1 .left) _ (c .entry-at .ensures)
 
-pub last-stamp-spec : {M : Type 1} → statement M
-last-stamp-spec =
+pub last-entry-spec : {M : Type 1} → statement M
+last-entry-spec =
     tie.close
     (tie.spec
     count-at-requires
+    no-entry-requires
     returns
-    add-get64
-    sub-get64
-    mul-get64
-    add-get64-2
-    get64-requires
+    add-entry-at
+    sub-entry-at
+    mul-entry-at
+    add-entry-at-2
+    entry-at-requires
     returns-2)
