@@ -160,7 +160,7 @@ module _ (sh : Shape) (st : State) (last empty : Entry) (log early late apart : 
       let n : allHold k (st .waiting .late) ≡ true = each-back (λ (e : Entry). holds (e .mask) k) (st .waiting .early) (st .waiting .late) (u 2) in
       let f : Fit (sh .s) k last (st .waiting .early) = record { ranges = each-front (entryFits (sh .s)) (st .waiting .early) (st .waiting .late) r; after = follows-is ∙ u 1; masks = m } in
       let z : every (entryFits (sh .s)) (st .waiting .late) ≡ true = each-back (entryFits (sh .s)) (st .waiting .early) (st .waiting .late) r in
-      let g : Fit (sh .s) k empty (st .waiting .late) = record { ranges = z; after = rw n1 (from-empty (sh .s) k (st .waiting .late) z); masks = n } in
+      let g : Fit (sh .s) k empty (st .waiting .late) = record { ranges = z; after = rw n1 (from-none (sh .s) k (st .waiting .late) z); masks = n } in
       and-both _ _ (and-l log (distinct (st .logged .log)) (e0 ∙ and-l (goodLog (sh .s) k (st .logged .log)) (buffersGood st && fit-ones) h))
       (and-both _ _ (e2 ∙ fit-so (sh .s) k last (st .waiting .early) f) (and-both _ _ (e3 ∙ fit-so (sh .s) k empty (st .waiting .late) g) (e4 ∙ u 0)))
 
