@@ -171,14 +171,7 @@ fn chosen(b: &[u8], listed: Listed, slots: &[u16], which: Which, e: Entry) -> bo
 }
 
 // How many entries of a table are chosen.
-fn count_chosen(
-    t: &[u8],
-    c: usize,
-    b: &[u8],
-    listed: Listed,
-    slots: &[u16],
-    which: Which,
-) -> usize
+fn count_chosen(t: &[u8], c: usize, b: &[u8], listed: Listed, slots: &[u16], which: Which) -> usize
     requires { ⌜ Table c (now t) × Lookup (now b) listed (now slots) ⌝ }
     ensures { λ r. ⌜ r ≡ length (keep (listing.chosen (listedIn (now (b .entry)) listed) which) (tableAt c (now (t .entry)) 0)) ⌝ }
 {

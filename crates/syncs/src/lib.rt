@@ -53,7 +53,14 @@ fn late_length(
 }
 
 // Takes the log over: synced entries leave early, late and the notes, and the sync point becomes the log's length.
-fn sync_state(shape: Shape, state: &mut [u8], message: &[u8], log: Listed, slots: &[u16], last: Entry)
+fn sync_state(
+    shape: Shape,
+    state: &mut [u8],
+    message: &[u8],
+    log: Listed,
+    slots: &[u16],
+    last: Entry,
+)
     requires { ⌜ (let st = stateOf shape (now state) in
         Stands shape st (now state) × Lookup (now message) log (now slots) × (last ≡ lastOf (listedIn (now message) log)) × (log .count ≤ shape .c)
         × (length (lateBy st (listedIn (now message) log)) ≤ shape .c)) ⌝ }
