@@ -207,6 +207,9 @@ static inline bool state_leads(const layout *at, const uint8_t *state) {
 
 static inline uint64_t majority_of(uint64_t n) { return (n - 1) / 2 + 1; }
 
+/* Half of the faults, rounded up, and one. */
+static inline uint64_t recovery_of(uint64_t n) { return ((n - 1) / 2 + 1) / 2 + 1; }
+
 /* In words, for people: the section with the field, or with the entry, note, vote or reply that a state's byte
  * belongs to, and what that says. */
 enum { PLACE_ROOM = 160 };
