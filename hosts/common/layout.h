@@ -129,14 +129,11 @@ typedef struct {
 
 static inline uint64_t transaction_at(const uint8_t *bytes) { return load(bytes, 8) & TRANSACTION_BITS; }
 
-static inline key key_of(const uint8_t *entry) {
-    return (key){load(entry, 8), transaction_at(entry + AT_TRANSACTION)};
-}
+static inline key key_of(const uint8_t *entry) { return (key){load(entry, 8), transaction_at(entry + AT_TRANSACTION)}; }
 
 /* By timestamp, then coordinator, then request. */
 static inline bool later(key one, key other) {
-    return one.timestamp > other.timestamp ||
-           (one.timestamp == other.timestamp && one.transaction > other.transaction);
+    return one.timestamp > other.timestamp || (one.timestamp == other.timestamp && one.transaction > other.transaction);
 }
 
 /* Of so many entries that of the last; where there are none zeros, than which every entry is later. */

@@ -823,6 +823,10 @@ static void print_summary(void) {
     printf(
         "\nEvery promise held: %u checks of logs and commit points, %u states good, every message sent well formed.\n",
         checks_made, answers[JALLUMERE_DONE]);
+    if (merges_against != 0)
+        printf("%u view%s started after a verify reply that speaks against what was synced; of positions after such a\n"
+               "merge nothing is promised.\n",
+               merges_against, merges_against == 1 ? "" : "s");
 }
 
 /* ---- the beginning ----------------------------------------------------------------------------------- */
