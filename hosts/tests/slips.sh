@@ -57,7 +57,7 @@ by_simulate() {
 
 told() { # NAME BY WHETHER
     if [ "$3" -eq 0 ]; then found=$((found + 1)); else missed=$((missed + 1)); fi
-    printf '%-28s %-9s ' "$1" "$2"
+    printf '%-33s %-9s ' "$1" "$2"
     if [ "$3" -eq 0 ]; then grep -h -m 1 -e '^DIFFERENCE' -e PROMISE "$room/out" "$room/said"; else echo MISSED; fi
 }
 
@@ -93,6 +93,13 @@ slip lifted_needlessly model/model.c \
     'own->leads && !follows ? own->last.timestamp + 1' 'own->leads && due <= own->last.timestamp ? own->last.timestamp + 1' compare simulate
 slip lifted_past_the_greatest model/model.c \
     'stamp > GREATEST_TIMESTAMP' 'stamp > GREATEST_TIMESTAMP + 1' compare
+slip lifted_short_of_the_greatest model/model.c \
+    'stamp > GREATEST_TIMESTAMP' 'stamp >= GREATEST_TIMESTAMP' compare
+slip lifted_before_known model/model.c \
+    'if (index_find(&work.known, transaction) != NOWHERE)' \
+    'if (stamp > GREATEST_TIMESTAMP) return JALLUMERE_FULL; if (index_find(&work.known, transaction) != NOWHERE)' compare
+slip early_tie_is_good model/model.c \
+    '(row){.last = own->last,' '(row){.last = {own->last.timestamp, 0},' compare
 slip tie_kept_early model/model.c \
     'early = own->leads || follows' 'early = own->leads || due >= own->last.timestamp' compare simulate
 slip sync_leaves_tie_early model/model.c \
