@@ -310,13 +310,13 @@ static void check_placed(const site *own, const message *told) {
               last = last_key(before + at.log + 4, load(before + at.log, 4));
     const bool follows = later(asked, last);
     const uint8_t *table = own->state + (own->leads || follows ? at.early : at.late);
-    const uint8_t *found = find_entry(table + 4, load(table, 4), asked.transaction), *note = NULL;
+    const uint8_t *found = find_entry(table + 4, load(table, 4), asked.transaction), *notes = own->state + at.notes;
     PROMISE(found != NULL, own, "a transaction due at %ju, which is%s after its log's last, is not in %s",
             asked.timestamp, follows ? "" : " not", own->leads || follows ? "early" : "late");
-    for (uint64_t i = 0; own->leads && note == NULL; i++)
+    uint64_t given = own->leads ? 0 : load(found, 8);
+    for (uint64_t i = 0; own->leads && i < load(notes, 4); i++)
         if (transaction_at(own->state + note_place(&at, i)) == asked.transaction)
-            note = own->state + note_place(&at, i) + note_group(own->is.group) + 1;
-    uint64_t given = load(own->leads ? note : found, 8);
+            given = load(own->state + note_place(&at, i) + note_group(own->is.group) + 1, 8);
     PROMISE(given == (own->leads && !follows ? last.timestamp + 1 : asked.timestamp), own,
             "a transaction due at %ju got %ju behind an entry at %ju", asked.timestamp, given, last.timestamp);
 }
@@ -406,6 +406,8 @@ static bool told_against(const message *told, const uint8_t *synced, uint64_t co
 /* With more groups a view starts with what was synced, where no reply speaks against it. */
 static void check_merged(const site *own, const message *told) {
     const history *view = &histories[own->is.group][own->is.view];
+    PROMISE(view->rebuilt != NULL && told->kind == JALLUMERE_VERIFY_REPLY, own,
+            "it starts view %u without the other groups' replies", own->is.view);
     if (told_against(told, view->rebuilt + 4, view->prefix)) {
         merges_against++;
         return;
@@ -514,13 +516,19 @@ static void take_outgoing(const site *own, const message *taken, size_t length) 
     }
 }
 
+/* Whether its last step made a draft; it may have had one of an older view. */
+static bool has_rebuilt(const site *own) {
+    return own->is.status == JALLUMERE_STATUS_CROSS_SHARD &&
+           (own->was.status != JALLUMERE_STATUS_CROSS_SHARD || own->was.view != own->is.view);
+}
+
 /* What a reader of the timeline wants to know of a step that was done. */
 static void tell(const site *own, const message *told) {
     const standing *was = &own->was, *is = &own->is;
     bool started = is->last_normal != was->last_normal;
     if (is->view != was->view && !started)
         note(own, "enters view %u%s", is->view, own->leads ? " as its leader" : ", votes");
-    if (is->status == JALLUMERE_STATUS_CROSS_SHARD && was->status != JALLUMERE_STATUS_CROSS_SHARD)
+    if (has_rebuilt(own))
         note(own, "has %ju votes, drafts %ju entries, asks the other groups from %ju on", majority_of(at.n),
              load(own->state + at.draft, 4), load(own->state + AT_BOUNDARY, 8));
     if (started && own->leads)
@@ -572,7 +580,7 @@ static void check_done(site *own, const message *told) {
     check_points(own, told);
     if (told->kind == JALLUMERE_TRANSACTION)
         check_placed(own, told);
-    if (own->is.status == JALLUMERE_STATUS_CROSS_SHARD && own->was.status != JALLUMERE_STATUS_CROSS_SHARD)
+    if (has_rebuilt(own))
         keep_rebuilt(own, told, own->state + at.draft);
     tell(own, told);
 }
