@@ -312,6 +312,10 @@ test_message() {
     inspected "bytes behind" 1 "$wrong 32." 'WRONG at byte 32: .* 32 bytes follow, which begin with another message' "$sizes"
     cp log message
     inspected "a log that stops being good" 1 "$wrong 52." 'WRONG at byte 52: timestamp 8 falls below 9 of entry 1' "$sizes"
+    (head -c 52 log && printf '\11' && tail -c 23 log) >message
+    inspected "equal timestamps" 0 "$good" '^ *52  entry 2  *at 9, transaction 9.2, groups 0, ' "$sizes"
+    (head -c 52 log && printf '\11' && tail -c 23 log | head -c 19 && printf '\10' && tail -c 3 log) >message
+    inspected "equal timestamps against the order" 1 "$wrong 52." 'WRONG at byte 52: transaction 8.2 is not after 9.1 of entry 1, which has the same' "$sizes"
     (head -c 52 log && printf '\12' && tail -c 23 log) >message
     inspected "a good log" 0 "$good" '^ *52  entry 2  *at 10, transaction 9.2, groups 0, ' "$sizes"
     (head -c 52 log && printf '\12' && tail -c 23 log | head -c 15 && printf '\1' && tail -c 7 log) >message
@@ -330,10 +334,21 @@ test_message() {
     check "a core that says otherwise is told" printed '^DISAGREEMENT: this report finds nothing wrong.$'
 }
 
-# A tick as it is and one byte short, each with what is expected of the reader.
+# A tick as it is and one byte short, each with what is expected of the reader; and a tick that is cut, as a step of a site.
 test_traces() {
     fresh_tree
     make_tick
+    (printf '\1\3\1\20\0\0\1\2\0\0\0\0\37\0\0\0' && head -c 31 tick && printf '\2\37\0\0\0\0\0\0\0\45\43\42\204\344\234\362\313') >step
+    printf '\141\326\217\176\125\321\267\10' >>step # the digest of a fresh state
+    JALLUMERE_CORE=model jallumere compare --traces step
+    check "a recorded step is compared" printed '^1 starts, 1 recorded steps, 0 recorded messages, 0 differences$'
+    (head -c 48 step && printf '\36' && tail -c 23 step) >others
+    JALLUMERE_CORE=model jallumere compare --traces others
+    check "another offset of a step is told" printed 'expected answer 2, offset 30 and 0 bytes to send, given 2, 31 and 0, or other bytes$'
+    printf '\3' >others
+    JALLUMERE_CORE=model jallumere compare --traces others
+    check "a call that the core has not is refused" said 'has a call of recover, which this core does not know$'
+    check "a call that the core has not is bad usage" is_status 2
     (printf '\5\3\1\40\0\0\0' && cat tick && printf '\0\0\0\0\0\5\3\1\37\0\0\0' && head -c 31 tick && printf '\2\37\0\0\0') >messages
     JALLUMERE_CORE=model jallumere compare --traces messages
     check "recorded messages are compared" is_status 0
