@@ -334,6 +334,32 @@ test_message() {
     check "a core that says otherwise is told" printed '^DISAGREEMENT: this report finds nothing wrong.$'
 }
 
+# A follower's state with a log of two entries, requests REQUEST and REQUEST of coordinator 9, both at 9.
+make_state() { # REQUEST REQUEST
+    local request
+    printf '\0\1\1'
+    head -c 76 /dev/zero
+    printf '\2\0\0\0'
+    for request in "$@"; do
+        printf '\11\0\0\0\0\0\0\0\115\0\0\0\0\0\0\0'
+        printf '%b\0\0\0\11\0\1\0' "\\0$request"
+    done
+    head -c 3336 /dev/zero
+}
+
+test_state() {
+    fresh_tree
+    make_state 1 2 >state
+    JALLUMERE_CORE=model jallumere inspect state --sites 3 --groups 1 --capacity 16
+    check "a state whose log rises by request is good" is_status 0
+    check "a good state is told" printed '^The state is good.$'
+    make_state 2 1 >state
+    JALLUMERE_CORE=model jallumere inspect state --sites 3 --groups 1 --capacity 16
+    check "a state whose log has equal timestamps against the order is not good" is_status 1
+    check "and it is told why and where" printed '^  - a log rises strictly by timestamp, coordinator, request (byte 107, log entry 2: transaction 9.1 at 9, mask 0x1)$'
+    check "and nothing else is wrong with it" [ "$(grep -c '^  - ' "$room/out")" -eq 1 ]
+}
+
 # A tick as it is and one byte short, each with what is expected of the reader; and a tick that is cut, as a step of a site.
 test_traces() {
     fresh_tree
@@ -630,7 +656,7 @@ PATH=$room/native:$PATH
 make_rt
 make_tools
 make_bare_commands
-[ $# -gt 0 ] || set -- help bad_words first_command not_proved other_core message traces missing arm 'lock with' 'lock without' signals closed_pipe read_only bench \
+[ $# -gt 0 ] || set -- help bad_words first_command not_proved other_core state message traces missing arm 'lock with' 'lock without' signals closed_pipe read_only bench \
     replay_and_gate progress terminal
 for name in "$@"; do
     # shellcheck disable=SC2086
