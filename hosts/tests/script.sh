@@ -502,7 +502,8 @@ test_closed_pipe() {
     PATH=$room/bin:$PATH "$room/tree/jallumere" simulate --steps 30 2>&1 >/dev/null | head -n 2 >"$room/said"
     check "nobody reads: the provers end" within 5 no_prover_left
     fresh_tree
-    PATH=$room/bin:$PATH "$room/tree/jallumere" simulate --steps 2000 2>"$room/said" | head -n 1 >"$room/out"
+    # the run is shorter than a pipe holds, so the reader is gone before it begins
+    PATH=$room/bin:$PATH "$room/tree/jallumere" simulate --steps 2000 2>"$room/said" | true
     status=${PIPESTATUS[0]}
     check "nobody reads the model's run: ends by PIPE" is_status 141
     check "nobody reads the model's run: nothing is proved" not called rt
