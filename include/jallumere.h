@@ -62,7 +62,7 @@ enum jallumere_answer {
     JALLUMERE_WRONG_STATUS = 5,       /* the status does not take this kind */
     JALLUMERE_WRONG_ROLE = 6,         /* of the receiver or of the sender */
     JALLUMERE_NOTHING_TO_DO = 7,      /* known already, or not above what is held */
-    JALLUMERE_FULL = 8,               /* a table or the log would pass c */
+    JALLUMERE_FULL = 8,               /* a table or the log would pass c, or a leader's timestamp 2^63-1 */
     JALLUMERE_NO_ROOM = 9             /* `out` is too short */
 };
 
@@ -146,7 +146,8 @@ uint64_t jallumere_step(uint64_t n, uint64_t s, uint64_t c, uint8_t *state, size
 /*
  * Whether these bytes are a good state: JALLUMERE_DONE where they are, JALLUMERE_WRONG_STATE where not (or a
  * size or the length is wrong): exactly where a step would refuse with it. Writes nothing. A good state need not
- * be the one that was stored: keep a digest beside it.
+ * be the one that was stored: keep a digest beside it. Its logs rise strictly by timestamp, coordinator, request,
+ * and its early entries are later than the log's last.
  */
 uint64_t jallumere_good(uint64_t n, uint64_t s, uint64_t c, const uint8_t *state, size_t state_length);
 
@@ -179,8 +180,9 @@ uint64_t jallumere_entry(uint64_t n, uint64_t s, uint64_t c, uint64_t position, 
  * Whether these bytes are a well-formed message of any kind, 5 and 6 too: JALLUMERE_DONE well formed,
  * JALLUMERE_WRONG_STATE wrong n or s, else JALLUMERE_MALFORMED + 256 * the offset of the first wrong field in wire
  * order: of a message that is cut its length, of bytes after the end the offset of the first of them, of two fields
- * that disagree that of the later, of a log that is not good that of the first entry with which it stops being good.
- * There is no limit to a log's length here. Writes nothing.
+ * that disagree that of the later, of a log that is not good that of the first entry with which it stops being good,
+ * as one that is not later than the entry before it, by timestamp, coordinator, request. There is no limit to a log's
+ * length here. Writes nothing.
  */
 uint64_t jallumere_read(uint64_t n, uint64_t s, const uint8_t *message, size_t message_length);
 

@@ -156,7 +156,7 @@ static size_t letter_length;
 
 enum { OWN = -1 }; /* entries as this site has them, not another */
 
-/* Timestamps rise by tens; two of eight entries share one and stand there against the order. */
+/* Timestamps rise by tens; two of eight entries share one, where the coordinator rises. */
 static uint64_t time_of(uint64_t position) { return 10 * (position + (position % 8 == 7 ? 0 : 1)); }
 
 /* A count and so many entries from a position on; they are the same in every log here, in every group. As another site
@@ -175,12 +175,21 @@ static void put_entries(const cell *now, uint8_t *table, uint64_t first, uint64_
     store(table, kept, 4);
 }
 
-/* Early entries, at a leader with their notes of the first so many groups. */
+/* Early entries, at a leader with their notes of the first so many groups. Those that share a time stand against the
+ * order: a buffer has that of arrival. */
 static void put_early(const cell *now, uint64_t count, uint64_t held) {
     const row *of = now->of;
     bool follow = of->kind == JALLUMERE_REPLICA_SYNC || of->kind == JALLUMERE_TICK;
-    uint8_t *early = state + now->at.early;
+    uint8_t *early = state + now->at.early, kept[ENTRY_LENGTH];
     put_entries(now, early, follow ? now->logged : now->at.c, count, OWN);
+    for (uint64_t i = 1; i < count; i++) {
+        uint8_t *one = early + entry_place(i - 1), *other = early + entry_place(i);
+        if (load(one, 8) == load(other, 8)) {
+            memcpy(kept, one, ENTRY_LENGTH);
+            memcpy(one, other, ENTRY_LENGTH);
+            memcpy(other, kept, ENTRY_LENGTH);
+        }
+    }
     store(state + now->at.notes, of->leads ? count : 0, 4);
     for (uint64_t i = 0; of->leads && i < count; i++) {
         uint8_t *note = state + note_place(&now->at, i);

@@ -46,9 +46,9 @@ static uint32_t hash_of(unsigned number, uint64_t request, uint64_t coordinator)
     return (first & 0xffff) * by[number - 1][2] + (first >> 16) * by[number - 1][3];
 }
 
-/* Entry i has coordinator 3 − i mod 4, and 4 more where its transaction is chosen: so none is chosen that another has,
- * and the order of the entries stays. */
-static uint64_t coordinator_of(uint64_t i, bool chosen) { return (chosen ? 7 : 3) - i % 4; }
+/* Entry i has coordinator i mod 4, and 4 more where its transaction is chosen: so none is chosen that another has, and
+ * the order of the entries stays. */
+static uint64_t coordinator_of(uint64_t i, bool chosen) { return (chosen ? 4 : 0) + i % 4; }
 
 /* So many requests, each the next whose hash is wanted. */
 static void choose_requests(uint32_t *requests, const attack *against, uint64_t count) {

@@ -119,6 +119,28 @@ static inline size_t entry_place(uint64_t position) { return 4 + ENTRY_LENGTH * 
 
 static inline size_t note_group(uint64_t group) { return TRANSACTION_LENGTH + MARKED_LENGTH * (size_t)group; }
 
+/* ---- the order ---------------------------------------------------------------------------------------- */
+
+/* What an entry is ordered by. The transaction has the coordinator above the request, so that transactions are ordered
+ * as numbers. */
+typedef struct {
+    uint64_t timestamp, transaction;
+} key;
+
+static inline uint64_t transaction_at(const uint8_t *bytes) { return load(bytes, 8) & TRANSACTION_BITS; }
+
+static inline key key_of(const uint8_t *entry) { return (key){load(entry, 8), transaction_at(entry + AT_TRANSACTION)}; }
+
+/* By timestamp, then coordinator, then request. */
+static inline bool later(key one, key other) {
+    return one.timestamp > other.timestamp || (one.timestamp == other.timestamp && one.transaction > other.transaction);
+}
+
+/* Of so many entries that of the last; where there are none zeros, than which every entry is later. */
+static inline key last_key(const uint8_t *entries, uint64_t count) {
+    return count == 0 ? (key){0, 0} : key_of(entries + ENTRY_LENGTH * (count - 1));
+}
+
 /* ---- readers and writers ------------------------------------------------------------------------------ */
 
 typedef struct {
@@ -181,6 +203,9 @@ static inline bool state_leads(const layout *at, const uint8_t *state) {
 }
 
 static inline uint64_t majority_of(uint64_t n) { return (n - 1) / 2 + 1; }
+
+/* Half of the faults, rounded up, and one. */
+static inline uint64_t recovery_of(uint64_t n) { return ((n - 1) / 2 + 1) / 2 + 1; }
 
 /* In words, for people: the section with the field, or with the entry, note, vote or reply that a state's byte
  * belongs to, and what that says. */

@@ -326,10 +326,12 @@ static void run_some(void) {
 /* ---- recorded steps ---------------------------------------------------------------------------------- */
 
 /* A trace is a row of records. 01, n (1), S (1), C (2), group (1), replica (1) starts afresh. 02, outgoing room (4),
- * message length (4), the message, and what is expected: refusal (1), outgoing length (4), FNV-1a of the outgoing
- * bytes (8), FNV-1a of the state (8). 05, n (1), S (1), message length (4), the message is one for the reader, of which
- * the refusal (1) and the offset (4) are expected. */
+ * message length (4), the message, and what is expected: refusal (1), offset (4), outgoing length (4), FNV-1a of the
+ * outgoing bytes (8), FNV-1a of the state (8). 05, n (1), S (1), message length (4), the message is one for the reader,
+ * of which the refusal (1) and the offset (4) are expected. */
 static letter records;
+
+enum { OF_START = 1, OF_STEP = 2, OF_RECOVER = 3, OF_CUT = 4, OF_READ = 5 };
 
 static const uint8_t *take(size_t length) {
     if (records.length < length)
@@ -341,22 +343,24 @@ static const uint8_t *take(size_t length) {
 
 /* Gives whether core and model agree and the record says otherwise; the first such step is shown. */
 static bool replay_step(uint8_t *state, bool shown) {
+    const layout largest = lay_out(REPLICAS_MOST, GROUPS_MOST, CAPACITY_MOST);
     size_t room = load(take(4), 4), length = load(take(4), 4);
-    if (room > ample_room(&at))
+    if (room > ample_room(&largest))
         stop("a record asks for more room than any step needs");
     letter told = {(uint8_t *)take(length), length};
-    const uint8_t *expected = take(1 + 4 + 8 + 8);
+    const uint8_t *expected = take(1 + 4 + 4 + 8 + 8);
     uint64_t answer = try_step(state, told, room, RECORDED);
     memcpy(state, state_of[1], at.length);
     bool same =
-        JALLUMERE_NUMBER(answer) == expected[0] && JALLUMERE_LENGTH(answer) == load(expected + 1, 4) &&
-        jallumere_digest(JALLUMERE_DIGEST_START, out_of[1], JALLUMERE_LENGTH(answer)) == load(expected + 5, 8) &&
-        jallumere_digest(JALLUMERE_DIGEST_START, state, at.length) == load(expected + 13, 8);
+        JALLUMERE_NUMBER(answer) == expected[0] && JALLUMERE_OFFSET(answer) == load(expected + 1, 4) &&
+        JALLUMERE_LENGTH(answer) == load(expected + 5, 4) &&
+        jallumere_digest(JALLUMERE_DIGEST_START, out_of[1], JALLUMERE_LENGTH(answer)) == load(expected + 9, 8) &&
+        jallumere_digest(JALLUMERE_DIGEST_START, state, at.length) == load(expected + 17, 8);
     if (!same && !shown)
-        printf("the record says otherwise at step %" PRIu64 ", of kind %u: expected answer %u and %" PRIu64
-               " bytes to send, given %u and %zu, or other bytes\n",
-               steps_done, length == 0 ? 0 : told.bytes[0], expected[0], load(expected + 1, 4),
-               JALLUMERE_NUMBER(answer), JALLUMERE_LENGTH(answer));
+        printf("the record says otherwise at step %" PRIu64 ", of kind %u: expected answer %u, offset %" PRIu64
+               " and %" PRIu64 " bytes to send, given %u, %zu and %zu, or other bytes\n",
+               steps_done, length == 0 ? 0 : told.bytes[0], expected[0], load(expected + 1, 4), load(expected + 5, 4),
+               JALLUMERE_NUMBER(answer), JALLUMERE_OFFSET(answer), JALLUMERE_LENGTH(answer));
     return !same;
 }
 
@@ -382,19 +386,22 @@ static uint64_t replay(const char *path) {
     records.bytes = read_file(path, &records.length);
     while (records.length != 0) {
         uint8_t record = *take(1);
-        if (record == 1) {
+        if (record == OF_START) {
             const uint8_t *told = take(6);
             at = lay_out(told[0], told[1], load(told + 2, 2));
             try_start(told[4], told[5]);
             memcpy(spare_state, state_of[1], at.length);
             begun++;
-        } else if (record == 2 && at.length != 0)
+        } else if (record == OF_STEP && at.length != 0)
             differences += replay_step(spare_state, differences != 0);
-        else if (record == 5) {
+        else if (record == OF_READ) {
             differences += replay_read(differences != 0);
             read++;
-        } else
-            stop("the file of traces has a record of no known sort");
+        } else if (record == OF_RECOVER || record == OF_CUT)
+            stop("the file of traces has a call of %s, which this core does not know",
+                 record == OF_CUT ? "cut" : "recover");
+        else
+            stop("the file of traces has a record of no known sort, or its steps are recorded without offsets");
     }
     show_tables();
     printf("%" PRIu64 " starts, %" PRIu64 " recorded steps, %" PRIu64 " recorded messages, %" PRIu64 " differences\n",

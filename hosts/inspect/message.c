@@ -233,16 +233,19 @@ static void check_mask(uint64_t mask) {
 /* A whole entry of a log, in one line: whether the log is still good with it. */
 static void check_in_log(uint64_t i) {
     char room[WORDS_ROOM];
-    const entry read = read_entry(bytes + at);
-    const uint64_t before = i == 0 ? 0 : load(bytes + at - ENTRY_LENGTH, 8);
+    const entry read = read_entry(bytes + at), before = i == 0 ? (entry){0} : read_entry(bytes + at - ENTRY_LENGTH);
     take(0, "entry %ju", i + 1);
     print_line("at %ju, transaction %ju.%ju, groups %s, command %#018jx", read.timestamp, read.coordinator,
                read.request, list(read.mask, room), read.command);
     check_timestamp(read.timestamp);
-    require(read.timestamp >= before, "timestamp %ju falls below %ju of entry %ju", read.timestamp, before, i);
+    require(read.timestamp >= before.timestamp, "timestamp %ju falls below %ju of entry %ju", read.timestamp,
+            before.timestamp, i);
     check_mask(read.mask);
     require(firsts[i] == i, "transaction %ju.%ju stands in entry %zu already", read.coordinator, read.request,
             firsts[i] + 1);
+    require(i == 0 || later(key_of(entries + ENTRY_LENGTH * i), last_key(entries, i)),
+            "transaction %ju.%ju is not after %ju.%ju of entry %ju, which has the same timestamp", read.coordinator,
+            read.request, before.coordinator, before.request, i);
 }
 
 /* An entry field by field, which may be cut. */

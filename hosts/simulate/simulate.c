@@ -263,20 +263,159 @@ static letter *write_letter(const message *made, uint64_t group, uint64_t mask, 
 /* ---- what is promised -------------------------------------------------------------------------------- */
 
 /* What is known of a view in a group: its leader's log, as far as it has come; the log that it was rebuilt with, a
- * draft or with one group what it starts with; the view that a draft's votes were of; the greatest commit point held.
- */
+ * draft or with one group what it starts with; the view that its votes were of, and how much of it one of them had
+ * synced; the greatest commit point held. */
 typedef struct {
     uint8_t *log, *rebuilt; /* tables; NULL before there is one */
-    unsigned base, committed;
+    unsigned base, prefix, committed;
 } history;
 
 static history histories[GROUPS_MOST][VIEWS_MOST];
-static unsigned checks_made, committed_most[GROUPS_MOST];
+static unsigned checks_made, merges_against, committed_most[GROUPS_MOST];
 
 /* Whether two tables have so many entries and begin with the same. */
 static bool begin_alike(const uint8_t *table, const uint8_t *other, uint64_t count) {
     return count == 0 || (table != NULL && load(table, 4) >= count && load(other, 4) >= count &&
                           memcmp(table + 4, other + 4, ENTRY_LENGTH * count) == 0);
+}
+
+/* The entry of a transaction, or NULL. */
+static const uint8_t *find_entry(const uint8_t *entries, uint64_t count, uint64_t transaction) {
+    for (const uint8_t *one = entries; one < entries + ENTRY_LENGTH * count; one += ENTRY_LENGTH)
+        if (key_of(one).transaction == transaction)
+            return one;
+    return NULL;
+}
+
+static bool has_key(const uint8_t *entries, uint64_t count, key wanted) {
+    const uint8_t *found = find_entry(entries, count, wanted.transaction);
+    return found != NULL && load(found, 8) == wanted.timestamp;
+}
+
+/* Logs rise strictly by timestamp, coordinator, request, and early entries lie after the last. */
+static void check_order(const site *own) {
+    const uint8_t *log = own->state + at.log + 4, *early = own->state + at.early;
+    for (uint64_t i = 1; i <= own->is.logged; i++)
+        PROMISE(later(last_key(log, i), last_key(log, i - 1)), own,
+                "its entry %ju is not after the one before it, by timestamp, coordinator, request", i);
+    for (uint64_t i = 0; i < load(early, 4); i++)
+        PROMISE(later(key_of(early + entry_place(i)), last_key(log, own->is.logged)), own,
+                "its early entry %ju does not lie after its log's last", i + 1);
+}
+
+/* A transaction that is due after the log's last is early at its time. What is not is late at a follower, and a leader
+ * gives it the time after the last one's. The leader's note is looked at, for agreement may lift its entry at once. */
+static void check_placed(const site *own, const message *told) {
+    const key asked = {told->numbers[0] + told->numbers[1], key_of(told->entries).transaction},
+              last = last_key(before + at.log + 4, load(before + at.log, 4));
+    const bool follows = later(asked, last);
+    const uint8_t *table = own->state + (own->leads || follows ? at.early : at.late);
+    const uint8_t *found = find_entry(table + 4, load(table, 4), asked.transaction), *notes = own->state + at.notes;
+    PROMISE(found != NULL, own, "a transaction due at %ju, which is%s after its log's last, is not in %s",
+            asked.timestamp, follows ? "" : " not", own->leads || follows ? "early" : "late");
+    uint64_t given = own->leads ? 0 : load(found, 8);
+    for (uint64_t i = 0; own->leads && i < load(notes, 4); i++)
+        if (transaction_at(own->state + note_place(&at, i)) == asked.transaction)
+            given = load(own->state + note_place(&at, i) + note_group(own->is.group) + 1, 8);
+    PROMISE(given == (own->leads && !follows ? last.timestamp + 1 : asked.timestamp), own,
+            "a transaction due at %ju got %ju behind an entry at %ju", asked.timestamp, given, last.timestamp);
+}
+
+/* A verify reply tells all that touches the asker at its boundary or past it. */
+static void check_told(const site *own, const message *request, const message *reply) {
+    const uint8_t *from = own->state + (own->is.status == JALLUMERE_STATUS_CROSS_SHARD ? at.draft : at.log);
+    uint64_t wanted = 0;
+    for (uint64_t i = 0; i < load(from, 4); i++) {
+        const uint8_t *bytes = from + entry_place(i);
+        if (load(bytes, 8) < request->numbers[0] || !holds(read_entry(bytes).mask, request->from_group))
+            continue;
+        wanted++;
+        PROMISE(has_key(reply->entries, reply->count, key_of(bytes)), own,
+                "its verify reply lacks its entry %ju, at %ju, and was asked from %ju on", i + 1, load(bytes, 8),
+                request->numbers[0]);
+    }
+    PROMISE(reply->count == wanted, own, "its verify reply has %ju entries in place of %ju", reply->count, wanted);
+}
+
+/* The votes that a step with the last of them rebuilt from, as messages; where there is none it has no kind. */
+static void gather_votes(const site *own, const message *told, message votes[REPLICAS_MOST]) {
+    const bool same = own->was.view == own->is.view;
+    for (uint64_t i = 0; i < at.n; i++) {
+        const uint8_t *kept = before + vote_place(&at, i), *table = before + (same ? vote_table(&at, i) : at.log);
+        bool there = same ? kept[0] == 1 : i == own->is.replica;
+        votes[i] = (message){.kind = there ? JALLUMERE_VOTE : 0, .entries = table + 4, .count = load(table, 4)};
+        votes[i].numbers[0] = same ? load(kept + AT_VOTE_LAST_NORMAL, 4) : own->was.last_normal;
+        votes[i].numbers[1] = same ? load(kept + AT_VOTE_SYNC, 8) : own->was.sync;
+        if (i == told->from_replica)
+            votes[i] = *told;
+    }
+}
+
+static unsigned holders_of(const message *votes, const message *best, key wanted) {
+    unsigned holders = 0;
+    for (uint64_t i = 0; i < at.n; i++)
+        holders += votes[i].kind != 0 && votes[i].numbers[0] == best->numbers[0] &&
+                   has_key(votes[i].entries, votes[i].count, wanted);
+    return holders;
+}
+
+/* Of the votes that count, those of the greatest last normal view, one gives what is synced; what enough of them hold
+ * that is later than its last entry is not lost. */
+static void check_recovered(const site *own, const message *told, const uint8_t *rebuilt, history *view) {
+    message votes[REPLICAS_MOST];
+    const message *best = NULL;
+    gather_votes(own, told, votes);
+    for (const message *one = votes; one < votes + at.n; one++)
+        if (one->kind != 0 && (best == NULL || one->numbers[0] > best->numbers[0] ||
+                               (one->numbers[0] == best->numbers[0] && one->numbers[1] > best->numbers[1])))
+            best = one;
+    view->base = (unsigned)best->numbers[0];
+    view->prefix = (unsigned)best->numbers[1];
+    PROMISE(load(rebuilt, 4) >= view->prefix && memcmp(rebuilt + 4, best->entries, ENTRY_LENGTH * view->prefix) == 0,
+            own, "its rebuilt log does not begin with the %u entries that a vote had synced", view->prefix);
+    for (uint64_t i = 0; i < at.n * at.c; i++) {
+        const message *one = &votes[i / at.c];
+        if (one->kind == 0 || i % at.c >= one->count || one->numbers[0] != best->numbers[0])
+            continue;
+        key held = key_of(one->entries + ENTRY_LENGTH * (i % at.c));
+        bool wanted = later(held, last_key(best->entries, view->prefix)) &&
+                      find_entry(best->entries, view->prefix, held.transaction) == NULL &&
+                      holders_of(votes, best, held) >= recovery_of(at.n);
+        PROMISE(!wanted || has_key(rebuilt + 4, load(rebuilt, 4), held), own,
+                "its rebuilt log has lost transaction %ju.%ju at %ju, which %u votes hold", held.transaction >> 32,
+                held.transaction & UINT32_MAX, held.timestamp, holders_of(votes, best, held));
+    }
+}
+
+/* Of the replies that a step with the last of them merged: whether one speaks against what was synced, by a greater
+ * timestamp for a transaction there or by another entry that is not later than its last. */
+static bool told_against(const message *told, const uint8_t *synced, uint64_t count) {
+    for (uint64_t i = 0; i < at.s * at.c; i++) {
+        const uint8_t *kept = before + reply_place(&at, i / at.c), *table = before + reply_table(&at, i / at.c);
+        bool last = i / at.c == told->from_group;
+        const uint8_t *one = (last ? told->entries : table + 4) + ENTRY_LENGTH * (i % at.c);
+        if ((!last && kept[0] == 0) || i % at.c >= (last ? told->count : load(table, 4)))
+            continue;
+        const uint8_t *own = find_entry(synced, count, key_of(one).transaction);
+        if (own != NULL ? load(one, 8) > load(own, 8) : !later(key_of(one), last_key(synced, count)))
+            return true;
+    }
+    return false;
+}
+
+/* With more groups a view starts with what was synced, where no reply speaks against it. */
+static void check_merged(const site *own, const message *told) {
+    const history *view = &histories[own->is.group][own->is.view];
+    PROMISE(view->rebuilt != NULL && told->kind == JALLUMERE_VERIFY_REPLY, own,
+            "it starts view %u without the other groups' replies", own->is.view);
+    if (told_against(told, view->rebuilt + 4, view->prefix)) {
+        merges_against++;
+        return;
+    }
+    checks_made++;
+    PROMISE(begin_alike(view->rebuilt, own->state + at.log, view->prefix), own,
+            "view %u does not start with the %u entries that were synced, and no reply speaks against them",
+            own->is.view, view->prefix);
 }
 
 /* Logs that were rebuilt from a view begin with what was committed in it; with one group, in every view before. */
@@ -292,14 +431,12 @@ static void check_rebuilts(const site *own, unsigned base) {
     }
 }
 
-/* The votes that count are those whose last normal view is the greatest. */
-static void keep_rebuilt(const site *own, const uint8_t *table) {
+/* The first view's log is rebuilt from nothing. */
+static void keep_rebuilt(const site *own, const message *told, const uint8_t *table) {
     history *view = &histories[own->is.group][own->is.view];
     view->rebuilt = memcpy(memory(at.table), table, at.table);
-    for (uint64_t replica = 0; replica < at.n; replica++) {
-        unsigned last_normal = (unsigned)load(own->state + vote_place(&at, replica) + AT_VOTE_LAST_NORMAL, 4);
-        view->base = last_normal > view->base ? last_normal : view->base;
-    }
+    if (told->kind == JALLUMERE_VOTE)
+        check_recovered(own, told, table, view);
     for (unsigned base = 0; base < own->is.view; base++)
         check_rebuilts(own, base);
 }
@@ -312,7 +449,7 @@ static unsigned reached_by(unsigned group, unsigned point) {
 }
 
 /* A site's log, sync point and commit point against what is known of the view that it was normal in last. */
-static void check_points(const site *own) {
+static void check_points(const site *own, const message *told) {
     const standing *is = &own->is;
     const uint8_t *log = own->state + at.log;
     PROMISE(site_of(is->group, is->replica) == own && is->view <= planned_view && is->last_normal <= is->view, own,
@@ -327,7 +464,9 @@ static void check_points(const site *own) {
                 is->last_normal);
         write_table(view->log, log + 4, is->logged);
         if (starts && groups == 1)
-            keep_rebuilt(own, log);
+            keep_rebuilt(own, told, log);
+        else if (starts && is->view != 0)
+            check_merged(own, told);
     }
     PROMISE(begin_alike(view->log, log, is->sync), own,
             "its log up to the sync point %u is not the leader's of view %u", is->sync, is->last_normal);
@@ -358,7 +497,7 @@ static void check_reply(const site *own, const message *reply) {
             own, "a fast reply's digest is not that of its log up to position %ju", position);
 }
 
-static void take_outgoing(const site *own, size_t length) {
+static void take_outgoing(const site *own, const message *taken, size_t length) {
     for (size_t reach = 0, first; reach < length; reach += first) {
         first = (size_t)jallumere_message_length(at.n, at.s, outgoing + reach, length - reach);
         PROMISE(first != 0, own, "the outgoing bytes are no row of messages from byte %zu on", reach);
@@ -371,8 +510,16 @@ static void take_outgoing(const site *own, size_t length) {
                 "it sent a message in another's name");
         if (told->kind == JALLUMERE_FAST_REPLY || told->kind == JALLUMERE_SLOW_REPLY)
             check_reply(own, told);
+        if (told->kind == JALLUMERE_VERIFY_REPLY)
+            check_told(own, taken, told);
         send_first(sent);
     }
+}
+
+/* Whether its last step made a draft; it may have had one of an older view. */
+static bool has_rebuilt(const site *own) {
+    return own->is.status == JALLUMERE_STATUS_CROSS_SHARD &&
+           (own->was.status != JALLUMERE_STATUS_CROSS_SHARD || own->was.view != own->is.view);
 }
 
 /* What a reader of the timeline wants to know of a step that was done. */
@@ -381,8 +528,8 @@ static void tell(const site *own, const message *told) {
     bool started = is->last_normal != was->last_normal;
     if (is->view != was->view && !started)
         note(own, "enters view %u%s", is->view, own->leads ? " as its leader" : ", votes");
-    if (is->status == JALLUMERE_STATUS_CROSS_SHARD && was->status != JALLUMERE_STATUS_CROSS_SHARD)
-        note(own, "has %ju votes, drafts %ju entries, asks the other groups past %ju", majority_of(at.n),
+    if (has_rebuilt(own))
+        note(own, "has %ju votes, drafts %ju entries, asks the other groups from %ju on", majority_of(at.n),
              load(own->state + at.draft, 4), load(own->state + AT_BOUNDARY, 8));
     if (started && own->leads)
         note(own, "STARTS view %u with %u entries, %u of them committed", is->view, is->logged, is->commit);
@@ -429,9 +576,12 @@ static void check_done(site *own, const message *told) {
             own->is.fields[field - 1] = (unsigned)says;
     }
     own->leads = own->is.leader == own->is.replica;
-    check_points(own);
-    if (own->is.status == JALLUMERE_STATUS_CROSS_SHARD && own->was.status != JALLUMERE_STATUS_CROSS_SHARD)
-        keep_rebuilt(own, own->state + at.draft);
+    check_order(own);
+    check_points(own, told);
+    if (told->kind == JALLUMERE_TRANSACTION)
+        check_placed(own, told);
+    if (has_rebuilt(own))
+        keep_rebuilt(own, told, own->state + at.draft);
     tell(own, told);
 }
 
@@ -456,7 +606,7 @@ static unsigned take_step(site *own, const letter *taken) {
     PUT("[\"p\",%u,%d,%zu,%u,%u,%u,%u,%u,%u,%ju,%ju,%d,%zu],\n", now, place_of(own), taken->number, refusal, is->status,
         is->view, is->logged, is->sync, is->commit, load(own->state + at.early, 4), load(own->state + at.late, 4),
         own->leads, length);
-    take_outgoing(own, length);
+    take_outgoing(own, &taken->told, length);
     return refusal;
 }
 
@@ -473,6 +623,7 @@ static uint64_t open_groups(void) {
     return open;
 }
 
+/* Now and then two are sent in one millisecond, and are due at the same time. */
 static void submit(const event *of) {
     static unsigned last[COORDINATORS];
     uint8_t written[ENTRY_LENGTH];
@@ -483,8 +634,8 @@ static void submit(const event *of) {
     if (groups > 2 && below(3) != 0) /* mostly in one group or two */
         mask = bit(below(at.s)) | bit(below(at.s));
     sent.mask = mask & open_groups();
-    plan((event){.at = now + (unsigned)(scene == FILLING ? 1 + below(16 / at.s) : 25 + below(40)),
-                 .happen = of->happen});
+    const uint64_t pause = below(3) == 0 ? 0 : scene == FILLING ? 1 + below(16 / at.s) : 30 + below(60);
+    plan((event){.at = now + (unsigned)pause, .happen = of->happen});
     if (sent.mask == 0)
         return;
     transaction_count++;
@@ -680,6 +831,10 @@ static void print_summary(void) {
     printf(
         "\nEvery promise held: %u checks of logs and commit points, %u states good, every message sent well formed.\n",
         checks_made, answers[JALLUMERE_DONE]);
+    if (merges_against != 0)
+        printf("%u view%s started after a verify reply that speaks against what was synced; of positions after such a\n"
+               "merge nothing is promised.\n",
+               merges_against, merges_against == 1 ? "" : "s");
 }
 
 /* ---- the beginning ----------------------------------------------------------------------------------- */

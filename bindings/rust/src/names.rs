@@ -53,7 +53,7 @@ numbered! {
         SyncStatus = 10,
         /// 11, from the leader to a follower: commit point.
         Commit = 11,
-        /// 18, from leader to leader of another group: boundary.
+        /// 18, from leader to leader of another group: boundary, the timestamp from which on it asks.
         VerifyRequest = 18,
         /// 19, the answer to a verify request: entries.
         VerifyReply = 19,
@@ -83,7 +83,7 @@ pub enum Refusal {
     WrongRole,
     /// 7: there is nothing to do now.
     NothingToDo,
-    /// 8: a table or the log would pass the capacity.
+    /// 8: a table or the log would pass the capacity, or a leader's timestamp 2^63 − 1.
     Full,
     /// 9: the outgoing buffer is too short.
     NoRoom,
@@ -132,7 +132,7 @@ impl fmt::Display for Refusal {
             Refusal::WrongStatus => "wrong status",
             Refusal::WrongRole => "wrong role",
             Refusal::NothingToDo => "nothing to do now",
-            Refusal::Full => "a table or log would pass its capacity",
+            Refusal::Full => "a table or log would pass its capacity, or a timestamp the greatest",
             Refusal::NoRoom => "outgoing buffer too short",
         })
     }

@@ -31,8 +31,12 @@ fn kinds(sent: &[u8]) -> Vec<u8> {
 }
 
 fn transaction(request: u64, to_mask: u64) -> Vec<u8> {
-    let entry = Entry { timestamp: 0, command: 77, request, coordinator: 0, mask: 1 }.bytes().unwrap();
-    bytes_of(&Message { numbers: &[10, 20], entries: &entry, ..Message::from_outside(Kind::Transaction, 0, to_mask) })
+    transaction_at(30, 0, request, to_mask)
+}
+
+fn transaction_at(due: u64, coordinator: u64, request: u64, to_mask: u64) -> Vec<u8> {
+    let entry = Entry { timestamp: 0, command: 77, request, coordinator, mask: 1 }.bytes().unwrap();
+    bytes_of(&Message { numbers: &[due - 20, 20], entries: &entry, ..Message::from_outside(Kind::Transaction, 0, to_mask) })
 }
 
 #[test]
@@ -114,6 +118,9 @@ fn a_log_is_wrong_where_it_stops_being_good() {
     };
     let entry = |timestamp, request| Entry { timestamp, command: 77, request, coordinator: 9, mask: 1 };
     assert_eq!(log(&[entry(5, 1), entry(5, 2)]), Ok(76));
+    assert_eq!(log(&[entry(5, 2), entry(5, 1)]), malformed(52));
+    assert_eq!(log(&[entry(5, 2), Entry { coordinator: 10, ..entry(5, 1) }]), Ok(76));
+    assert_eq!(log(&[entry(5, 1), Entry { coordinator: 8, ..entry(5, 2) }]), malformed(52));
     assert_eq!(log(&[entry(5, 1), entry(4, 2)]), malformed(52));
     assert_eq!(log(&[entry(5, 1), entry(6, 1)]), malformed(52));
     assert_eq!(log(&[entry(5, 1), entry(6, 0)]), malformed(68));
@@ -177,6 +184,28 @@ fn a_leader_releases_and_syncs() {
     let reply = step(SIZES, &mut follower, &cut[1], &mut out).unwrap();
     assert_eq!(kinds(&out[..reply]), [6]);
     assert_eq!(field(SIZES, Field::SyncPoint, &follower), Some(1));
+}
+
+/// The timestamps that a leader gives to transactions of coordinators 5, 4 and 6, of which the first is logged when the
+/// others come, all due at one time.
+fn given(due: u64) -> Result<Vec<u64>, Refusal> {
+    let mut leader = fresh(0);
+    let mut out = [0; 512];
+    step(SIZES, &mut leader, &transaction_at(due, 5, 7, 1), &mut out)?;
+    step(SIZES, &mut leader, &tick(1, due), &mut out)?;
+    for coordinator in [6, 4] {
+        step(SIZES, &mut leader, &transaction_at(due, coordinator, 7, 1), &mut out)?;
+    }
+    step(SIZES, &mut leader, &tick(1, due + 1), &mut out)?;
+    let logged = field(SIZES, Field::LogLength, &leader).unwrap();
+    Ok((1..=logged).map(|position| entry(SIZES, position, &leader).unwrap().timestamp).collect())
+}
+
+#[test]
+fn equal_timestamps_are_ordered_by_coordinator() {
+    assert_eq!(given(30), Ok(vec![30, 30, 31]));
+    assert_eq!(given((1 << 63) - 2), Ok(vec![(1 << 63) - 2, (1 << 63) - 2, (1 << 63) - 1]));
+    assert_eq!(given((1 << 63) - 1), Err(Refusal::Full));
 }
 
 #[test]

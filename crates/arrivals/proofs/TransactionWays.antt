@@ -1,12 +1,12 @@
 -- The ways through the handler of kind 1. Assumes nothing.
-use Prim.Native.Nat.{ℕ, _+_, _≤_}
+use Prim.Native.Nat.{ℕ, _+_, _≤_, _<_}
 use mathlib.Core.Path.{_≡_, refl, sym, ap, ap₂, _∙_}
 use mathlib.Core.Bool.{Bool, true, false}
 use mathlib.Core.List.{List}
 use native.Mathlib.Omega.{arith}
 use lib.ListN.{getD}
 use lib.Dec.{leb}
-use borrow.Author.Tests.{leb-true}
+use borrow.Author.Tests.{leb-true, le-leb, lt-leb}
 use Rattle.rules.specs.Choice.{pick, any}
 use Rattle.rules.specs.Entry.{latest, stamped, among}
 use Rattle.rules.specs.Log.{raised}
@@ -36,9 +36,17 @@ module _ (sh : Shape) (st : State) (w : Wire) (x : Entry) (q : x ≡ firstEntry 
   unfolding onTransaction pick
   again h = rw (sym q, h)
 
-  at-leader : knownTo st x ≡ false → leads sh st ≡ true → onTransaction sh st w ≡ leaderTakes sh st (raised (st .logged .log) (stamped (due w) x))
-  unfolding onTransaction pick
-  at-leader h l = rw (sym q, h, l)
+  module _ (h : knownTo st x ≡ false) (l : leads sh st ≡ true) where
+    abbrev lifted : Entry
+    lifted = raised (st .logged .log) (stamped (due w) x)
+
+    at-leader : lifted .stamp ≤ latest → onTransaction sh st w ≡ leaderTakes sh st lifted
+    unfolding onTransaction pick
+    at-leader u = rw (sym q, h, l, le-leb (lifted .stamp) latest u)
+
+    too-late : latest < lifted .stamp → onTransaction sh st w ≡ refused 8
+    unfolding onTransaction pick
+    too-late u = rw (sym q, h, l, lt-leb (lifted .stamp) latest u)
 
   at-follower : knownTo st x ≡ false → leads sh st ≡ false → onTransaction sh st w ≡ followerTakes sh st (stamped (due w) x)
   unfolding onTransaction pick
@@ -83,8 +91,15 @@ module _ (sh : Shape) (b msg out : List ℕ) (m : Message) (h : Header) (time bo
         pub not-early : (z′ : Entry) → z′ ≡ raised (st .logged .log) y → among (st .waiting .early) z′ ≡ false
         not-early z′ v′ = ap (λ (d : Entry). among (st .waiting .early) d) (v′ ∙ ap (raised (st .logged .log)) u) ∙ or-left (among (st .waiting .early) x) (among (st .waiting .late) x) (or-right (among (st .logged .log) x) _ (sym a ∙ z))
 
-        pub leader-way : l ≡ true → (z′ : Entry) → z′ ≡ raised (st .logged .log) y → closes sh b out (leaderTakes sh st z′) ≡ handled 1 onTransaction sh m b msg out
-        leader-way k z′ g = rw (g, u, ← due-is) (by-rule 1 onTransaction sh b msg out m own _ (at-leader sh st w x q (sym a ∙ z) (sym v ∙ k)))
+        module _ (k : l ≡ true) (z′ : Entry) (g : z′ ≡ raised (st .logged .log) y) where
+          lifted-is : z′ ≡ raised (st .logged .log) (stamped (due w) x)
+          lifted-is = g ∙ ap (raised (st .logged .log)) (u ∙ ap (λ (t : ℕ). stamped t x) (sym due-is))
+
+          pub leader-way : z′ .stamp ≤ latest → closes sh b out (leaderTakes sh st z′) ≡ handled 1 onTransaction sh m b msg out
+          leader-way f = by-rule 1 onTransaction sh b msg out m own _ (at-leader sh st w x q (sym a ∙ z) (sym v ∙ k) (rw lifted-is at f) ∙ ap (leaderTakes sh st) (sym lifted-is))
+
+          pub late-way : latest < z′ .stamp → leaves 8 b out ≡ handled 1 onTransaction sh m b msg out
+          late-way f = refuses 1 onTransaction sh b msg out m own 8 (too-late sh st w x q (sym a ∙ z) (sym v ∙ k) (rw lifted-is at f))
 
         pub follower-way : l ≡ false → closes sh b out (followerTakes sh st y) ≡ handled 1 onTransaction sh m b msg out
         follower-way k = rw (u, ← due-is) (by-rule 1 onTransaction sh b msg out m own _ (at-follower sh st w x q (sym a ∙ z) (sym v ∙ k)))

@@ -119,7 +119,7 @@ fn add_late(shape: Shape, state: &mut [u8], e: Entry)
     entries::append(&mut state[start..end], shape.c as usize, e);
 }
 
-// A follower puts e in early if it may follow the log's last, else in late.
+// A follower puts e in early if it lies after the log's last, else in late.
 fn follower_takes(shape: Shape, state: &mut [u8], e: Entry, out: &mut [u8]) -> Answer
     requires { ⌜ Stands shape (stateOf shape (now state)) (now state) ⌝ }
     ensures { λ r. ⌜ left r (now (state .exit)) (now (out .exit))
@@ -243,7 +243,11 @@ pub fn on_transaction(
     }
     let e = stamps::stamped(send_time + bound, entry);
     if handler::leads(shape, state) {
-        return leader_takes(shape, state, stamps::raised(shape, state, e), out);
+        let raised = stamps::raised(shape, state, e);
+        if rules::LATEST < raised.stamp {
+            return Answer::Refused(refusal::FULL, 0);
+        }
+        return leader_takes(shape, state, raised, out);
     }
     follower_takes(shape, state, e, out)
 }

@@ -18,7 +18,8 @@ ghost use Rattle.notes.specs.Notes.{notesAt, noNote, noteIn, NotesHold, Notes};
 ghost use Rattle.early.specs.Due.{isNext, Reached, DueAt};
 ghost use Rattle.early.specs.Due as search;
 ghost use Rattle.early.specs.Listed as listing;
-ghost use Rattle.early.specs.Listed.{listedIn, Lookup, stays};
+ghost use Rattle.early.specs.Listed.{listedIn, Lookup, placed, stays};
+ghost use Rattle.early.specs.declared.Which.the-variants.{Any, After, NotAfter};
 ghost use Rattle.early.specs.Moved.{moved, movedTo};
 ghost use Rattle.early.specs.Buffers.{BothHold, earlyIn, lateIn, Both};
 
@@ -33,6 +34,13 @@ struct Next {
 struct Turn {
     next: usize,
     kept: usize,
+}
+
+// Which entries are meant where those of listed transactions leave: any other; others that lie after an entry; others that do not.
+pub enum Which {
+    Any,
+    After(Entry),
+    NotAfter(Entry),
 }
 
 // Entries that stand in bytes and list transactions: where, and how many there are.
@@ -140,37 +148,39 @@ fn is_listed(b: &[u8], listed: Listed, slots: &[u16], request: u32, coordinator:
     row < listed.count
 }
 
-// Whether the transaction of an entry is not listed and its timestamp is below a bound, or, where `below` is false, from it on. The bound is tested first: it costs less.
-fn chosen(b: &[u8], listed: Listed, slots: &[u16], below: bool, bound: u64, e: Entry) -> bool
-    requires { ⌜ Lookup (now b) listed (now slots) ⌝ }
-    ensures { λ r. ⌜ r ≡ listing.chosen (listedIn (now (b .entry)) listed) below bound e ⌝ }
+// Whether an entry lies where those that are meant do.
+fn is_placed(which: Which, e: Entry) -> bool
+    ensures { λ r. ⌜ r ≡ placed which e ⌝ }
 {
-    let placed = (below & (e.stamp < bound)) | (!below & (bound <= e.stamp));
-    if !placed {
+    match which {
+        Which::Any => true,
+        Which::After(last) => entries::before(last, e),
+        Which::NotAfter(last) => !entries::before(last, e),
+    }
+}
+
+// Whether an entry is meant and its transaction is not listed. Its place is tested first: it costs less.
+fn chosen(b: &[u8], listed: Listed, slots: &[u16], which: Which, e: Entry) -> bool
+    requires { ⌜ Lookup (now b) listed (now slots) ⌝ }
+    ensures { λ r. ⌜ r ≡ listing.chosen (listedIn (now (b .entry)) listed) which e ⌝ }
+{
+    if !is_placed(which, e) {
         return false;
     }
     !is_listed(b, listed, slots, e.request, e.coordinator)
 }
 
 // How many entries of a table are chosen.
-fn count_chosen(
-    t: &[u8],
-    c: usize,
-    b: &[u8],
-    listed: Listed,
-    slots: &[u16],
-    below: bool,
-    bound: u64,
-) -> usize
+fn count_chosen(t: &[u8], c: usize, b: &[u8], listed: Listed, slots: &[u16], which: Which) -> usize
     requires { ⌜ Table c (now t) × Lookup (now b) listed (now slots) ⌝ }
-    ensures { λ r. ⌜ r ≡ length (keep (listing.chosen (listedIn (now (b .entry)) listed) below bound) (tableAt c (now (t .entry)) 0)) ⌝ }
+    ensures { λ r. ⌜ r ≡ length (keep (listing.chosen (listedIn (now (b .entry)) listed) which) (tableAt c (now (t .entry)) 0)) ⌝ }
 {
     let n = entries::count(t);
     let mut found = 0;
     let mut i = 0;
     while i < n {
         let e = entries::entry_of(t, c, i);
-        if chosen(b, listed, slots, below, bound, e) {
+        if chosen(b, listed, slots, which, e) {
             found += 1;
         }
         i += 1;
@@ -178,7 +188,7 @@ fn count_chosen(
     found
 }
 
-// Moves the entry whose turn it is to the front unless its transaction is listed or it is below the bound, and tells how many are kept then.
+// Moves the entry whose turn it is to the front if it is chosen, and tells how many are kept then.
 fn sift(
     t: &mut [u8],
     c: usize,
@@ -186,32 +196,32 @@ fn sift(
     b: &[u8],
     listed: Listed,
     slots: &[u16],
-    bound: u64,
+    which: Which,
 ) -> usize
     requires { ⌜ Table c (now t) × (turn .next < length (tableAt c (now t) 0)) × (turn .kept ≤ turn .next) × Lookup (now b) listed (now slots) ⌝ }
-    ensures { λ r. ⌜ (let stays = listing.chosen (listedIn (now (b .entry)) listed) false bound in
+    ensures { λ r. ⌜ (let stays = listing.chosen (listedIn (now (b .entry)) listed) which in
         Holds c (moved stays noEntry (tableAt c (now (t .entry)) 0) (turn .next) (turn .kept)) (now (t .exit))
         × (r ≡ movedTo stays noEntry (tableAt c (now (t .entry)) 0) (turn .next) (turn .kept))) ⌝ }
 {
     let e = entries::entry_of(t, c, turn.next);
-    if !chosen(b, listed, slots, false, bound, e) {
+    if !chosen(b, listed, slots, which, e) {
         return turn.kept;
     }
     entries::replace_at(t, c, turn.kept, e);
     turn.kept + 1
 }
 
-// Takes out of a table the entries whose transactions are listed, and those below the bound, in one pass.
-pub fn leave(t: &mut [u8], c: usize, b: &[u8], listed: Listed, slots: &[u16], bound: u64)
+// Takes out of a table all entries but those that are meant and whose transactions are not listed, in one pass.
+pub fn leave(t: &mut [u8], c: usize, b: &[u8], listed: Listed, slots: &[u16], which: Which)
     requires { ⌜ Table c (now t) × Lookup (now b) listed (now slots) ⌝ }
-    ensures { λ _. ⌜ Holds c (keep (listing.chosen (listedIn (now (b .entry)) listed) false bound) (tableAt c (now (t .entry)) 0)) (now (t .exit)) ⌝ }
+    ensures { λ _. ⌜ Holds c (keep (listing.chosen (listedIn (now (b .entry)) listed) which) (tableAt c (now (t .entry)) 0)) (now (t .exit)) ⌝ }
 {
     let n = entries::count(t);
     let mut kept = 0;
     let mut i = 0;
     while i < n {
         let turn = Turn { next: i, kept };
-        kept = sift(t, c, turn, b, listed, slots, bound);
+        kept = sift(t, c, turn, b, listed, slots, which);
         i += 1;
     }
     entries::truncate(t, c, kept);
@@ -311,40 +321,40 @@ pub fn leave_notes(t: &mut [u8], c: usize, s: usize, b: &[u8], listed: Listed, s
 
 // ---- early and late, one after the other in a slice, beside a log that is taken over
 
-// How long late becomes: what is not listed of late, and of early what is below the new log's last.
-pub fn late_after(t: &[u8], c: usize, b: &[u8], log: Listed, slots: &[u16], last: u64) -> usize
+// How long late becomes: what is not listed of late, and of early what does not lie after the new log's last.
+pub fn late_after(t: &[u8], c: usize, b: &[u8], log: Listed, slots: &[u16], last: Entry) -> usize
     requires { ⌜ Both c (now t) × Lookup (now b) log (now slots) ⌝ }
     ensures { λ r. ⌜ (let gone = listedIn (now (b .entry)) log in
-        r ≡ length (keep (listing.chosen gone false 0) (lateIn c (now (t .entry)))) + length (keep (listing.chosen gone true last) (earlyIn c (now (t .entry))))) ⌝ }
+        r ≡ length (keep (listing.chosen gone Any) (lateIn c (now (t .entry)))) + length (keep (listing.chosen gone (NotAfter last)) (earlyIn c (now (t .entry))))) ⌝ }
 {
     let half = 4 + 24 * c;
     let end = half + half;
-    let stay = count_chosen(&t[half..end], c, b, log, slots, false, 0);
-    stay + count_chosen(&t[0..half], c, b, log, slots, true, last)
+    let stay = count_chosen(&t[half..end], c, b, log, slots, Which::Any);
+    stay + count_chosen(&t[0..half], c, b, log, slots, Which::NotAfter(last))
 }
 
-// Puts early entry i after the last of late where it is not listed and below the new log's last.
-fn fall(t: &mut [u8], c: usize, i: usize, b: &[u8], log: Listed, slots: &[u16], last: u64)
-    requires { ⌜ (let falls = listing.chosen (listedIn (now b) log) true last in
+// Puts early entry i after the last of late where it is not listed and does not lie after the new log's last.
+fn fall(t: &mut [u8], c: usize, i: usize, b: &[u8], log: Listed, slots: &[u16], last: Entry)
+    requires { ⌜ (let falls = listing.chosen (listedIn (now b) log) (NotAfter last) in
         Both c (now t) × (i < length (earlyIn c (now t))) × (falls (entryOf (earlyIn c (now t)) i) ≡ true → length (lateIn c (now t)) < c) × Lookup (now b) log (now slots)) ⌝ }
-    ensures { λ _. ⌜ (let falls = listing.chosen (listedIn (now (b .entry)) log) true last in
+    ensures { λ _. ⌜ (let falls = listing.chosen (listedIn (now (b .entry)) log) (NotAfter last) in
         let e = entryOf (earlyIn c (now (t .entry))) i in
         BothHold c (earlyIn c (now (t .entry))) (lateIn c (now (t .entry)) ++ pick (falls e) (e ∷ []) []) (now (t .exit))) ⌝ }
 {
     let half = 4 + 24 * c;
     let e = entries::entry_of(&t[0..half], c, i);
-    if !chosen(b, log, slots, true, last, e) {
+    if !chosen(b, log, slots, Which::NotAfter(last), e) {
         return;
     }
     let end = half + half;
     entries::append(&mut t[half..end], c, e);
 }
 
-// Puts the early entries that are not listed and below the new log's last after the last of late, in their order.
-fn fall_late(t: &mut [u8], c: usize, b: &[u8], log: Listed, slots: &[u16], last: u64)
-    requires { ⌜ (let falls = listing.chosen (listedIn (now b) log) true last in
+// Puts the early entries that are not listed and do not lie after the new log's last after the last of late, in their order.
+fn fall_late(t: &mut [u8], c: usize, b: &[u8], log: Listed, slots: &[u16], last: Entry)
+    requires { ⌜ (let falls = listing.chosen (listedIn (now b) log) (NotAfter last) in
         Both c (now t) × (length (lateIn c (now t)) + length (keep falls (earlyIn c (now t))) ≤ c) × Lookup (now b) log (now slots)) ⌝ }
-    ensures { λ _. ⌜ (let falls = listing.chosen (listedIn (now (b .entry)) log) true last in
+    ensures { λ _. ⌜ (let falls = listing.chosen (listedIn (now (b .entry)) log) (NotAfter last) in
         BothHold c (earlyIn c (now (t .entry))) (lateIn c (now (t .entry)) ++ keep falls (earlyIn c (now (t .entry)))) (now (t .exit))) ⌝ }
 {
     let n = entries::count(t);
@@ -355,17 +365,17 @@ fn fall_late(t: &mut [u8], c: usize, b: &[u8], log: Listed, slots: &[u16], last:
     }
 }
 
-// Listed entries leave early and late, and what is left of early below the new log's last goes to late.
-pub fn settle(t: &mut [u8], c: usize, b: &[u8], log: Listed, slots: &[u16], last: u64)
+// Listed entries leave early and late, and what is left of early and does not lie after the new log's last goes to late.
+pub fn settle(t: &mut [u8], c: usize, b: &[u8], log: Listed, slots: &[u16], last: Entry)
     requires { ⌜ (let chosen = listing.chosen (listedIn (now b) log) in
-        Both c (now t) × (length (keep (chosen false 0) (lateIn c (now t))) + length (keep (chosen true last) (earlyIn c (now t))) ≤ c) × Lookup (now b) log (now slots)) ⌝ }
+        Both c (now t) × (length (keep (chosen Any) (lateIn c (now t))) + length (keep (chosen (NotAfter last)) (earlyIn c (now t))) ≤ c) × Lookup (now b) log (now slots)) ⌝ }
     ensures { λ _. ⌜ (let chosen = listing.chosen (listedIn (now (b .entry)) log) in
         let early = earlyIn c (now (t .entry)) in
-        BothHold c (keep (chosen false last) early) (keep (chosen false 0) (lateIn c (now (t .entry))) ++ keep (chosen true last) early) (now (t .exit))) ⌝ }
+        BothHold c (keep (chosen (After last)) early) (keep (chosen Any) (lateIn c (now (t .entry))) ++ keep (chosen (NotAfter last)) early) (now (t .exit))) ⌝ }
 {
     let half = 4 + 24 * c;
     let end = half + half;
-    leave(&mut t[half..end], c, b, log, slots, 0);
+    leave(&mut t[half..end], c, b, log, slots, Which::Any);
     fall_late(t, c, b, log, slots, last);
-    leave(&mut t[0..half], c, b, log, slots, last);
+    leave(&mut t[0..half], c, b, log, slots, Which::After(last));
 }

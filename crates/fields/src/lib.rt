@@ -36,9 +36,6 @@ const VERIFY_REPLY: u8 = 19;
 
 const TICK: u8 = 23;
 
-// The greatest timestamp.
-const LATEST: u64 = 9223372036854775807;
-
 // What a message says beside its numbers and its entries: the header, the three zeros, and the three counts.
 pub struct Parts {
     pub header: Header,
@@ -107,17 +104,17 @@ pub fn head_wrong(n: u64, s: u64, p: Parts) -> Verdict
 fn stamp_fits(t: u64) -> bool
     ensures { λ r. ⌜ r ≡ entry.stampFits t ⌝ }
 {
-    (1 <= t) & (t <= LATEST)
+    (1 <= t) & (t <= rules::LATEST)
 }
 
 // Whether a send time and a bound make a timestamp. Their sum is not taken where it would be too great.
 fn sum_fits(t: u64, bound: u64) -> bool
     ensures { λ r. ⌜ r ≡ entry.stampFits (t + bound) ⌝ }
 {
-    if LATEST < t {
+    if rules::LATEST < t {
         return false;
     }
-    if LATEST - t < bound {
+    if rules::LATEST - t < bound {
         return false;
     }
     stamp_fits(t + bound)
@@ -146,7 +143,7 @@ fn number_fits(p: Parts, numbers: &[u64], j: usize) -> bool
     let paired = either(first == 0, second == 0, 1 <= second);
     let position = !((k == FAST_REPLY) & (j == 1)) | paired;
     let normal = !((k == VOTE) & (j == 0)) | (first < h.view as u64);
-    let time = !((k == TICK) & (j == 0)) | (first <= LATEST);
+    let time = !((k == TICK) & (j == 0)) | (first <= rules::LATEST);
     due & (placed & (position & (normal & time)))
 }
 

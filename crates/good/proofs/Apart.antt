@@ -6,22 +6,22 @@ use mathlib.Core.Option.{Option, none, some}
 use mathlib.Core.List.{List, [], _∷_, _++_}
 use native.Mathlib.Omega.{arith}
 use lib.ListN.{length, getD}
-use lib.Dec.{eqb, leb}
-use borrow.Author.Tests.{eq-eqb, ne-eqb, le-leb, not-true, not-false}
+use lib.Dec.{eqb}
+use borrow.Author.Tests.{eq-eqb, ne-eqb, not-true, not-false}
 use Rattle.octets.specs.Bytes.{num, part}
 use Rattle.octets.proofs.Logic.{and-cross}
 use Rattle.rules.specs.Choice.{pick, every}
 use Rattle.rules.specs.Group.{holds}
-use Rattle.rules.specs.Entry.{sameTxn, among, entryFits, mayFollow}
-use Rattle.rules.specs.Log.{followsLast, lastStamp}
-use Rattle.rules.specs.Log.{goodLog, allHold, distinct}
+use Rattle.rules.specs.Entry.{noEntry, sameTxn, among, entryFits, before}
+use Rattle.rules.specs.Log.{followsLast, lastOf, goodLog, allHold, distinct}
 use Rattle.rules.specs.State.{Note, State, leads, noted, notedTo, greatestTo, buffersGood, earlyGood, notesDistinct}
 use Rattle.rules.specs.State as rule
 use Rattle.rules.specs.Image.{noteLength, stateLength, tableAt, stateOf, atEarly, atLate, atLog, atNotes}
 use Rattle.rules.specs.declared.Entry.{Entry}
 use Rattle.rules.specs.declared.Shape.{Shape}
-use Rattle.rules.proofs.Choice.{or-left, any-append}
-use Rattle.rules.proofs.Tests.{and-l, and-r, and-both, split, join, _also_, each-front, each-back, each-append}
+use Rattle.rules.proofs.Choice.{or-left, any-append, all-map}
+use Rattle.rules.proofs.Logs.{after-nothing}
+use Rattle.rules.proofs.Tests.{and-l, and-r, and-both, split, join, _also_, each, each-of, each-front, each-back, each-append}
 use Rattle.logs.specs.Place.{fits, Within}
 use Rattle.notes.specs.Notes.{noteIn, notesAt, row, said, sized, Notes}
 use Rattle.notes.specs.declared.Point.{Point}
@@ -90,25 +90,25 @@ module _ (s k : ℕ) where
   every-and p q [] = refl
   every-and p q (x ∷ xs) = ap (λ (t : Bool). (p x && q x) && t) (every-and p q xs) ∙ and-cross (p x) (q x) (every p xs) (every q xs)
 
-  -- entries that fit: in range, not below a timestamp, their masks with k
-  record Fit (last : ℕ) (xs : List Entry) : Type 0 where
+  -- entries that fit: in range, after an entry, their masks with k
+  record Fit (last : Entry) (xs : List Entry) : Type 0 where
     ranges : every (entryFits s) xs ≡ true
-    after : every (λ (e : Entry). leb last (e .stamp)) xs ≡ true
+    after : every (before last) xs ≡ true
     masks : allHold k xs ≡ true
 
-  fits-all : (last : ℕ) (xs : List Entry) → every (fits s k k last) xs ≡ (every (entryFits s) xs && (every (λ e. leb last (e .stamp)) xs && (allHold k xs && allHold k xs)))
+  fits-all : (last : Entry) (xs : List Entry) → every (fits s k k last) xs ≡ (every (entryFits s) xs && (every (before last) xs && (allHold k xs && allHold k xs)))
   unfolding fits
   fits-all last xs =
-      every-and (entryFits s) (λ e. leb last (e .stamp) && (holds (e .mask) k && holds (e .mask) k)) xs
+      every-and (entryFits s) (λ e. before last e && (holds (e .mask) k && holds (e .mask) k)) xs
       ∙ ap (λ (t : Bool). every (entryFits s) xs && t)
-      (every-and (λ e. leb last (e .stamp)) (λ e. holds (e .mask) k && holds (e .mask) k) xs
-      ∙ ap (λ (t : Bool). every (λ e. leb last (e .stamp)) xs && t) (every-and (λ e. holds (e .mask) k) (λ e. holds (e .mask) k) xs))
+      (every-and (before last) (λ e. holds (e .mask) k && holds (e .mask) k) xs
+      ∙ ap (λ (t : Bool). every (before last) xs && t) (every-and (λ e. holds (e .mask) k) (λ e. holds (e .mask) k) xs))
 
-  module _ (last : ℕ) (xs : List Entry) where
+  module _ (last : Entry) (xs : List Entry) where
     fit : every (fits s k k last) xs ≡ true → Fit last xs
     fit h =
         let a : Bool = every (entryFits s) xs in
-        let b : Bool = every (λ (e : Entry). leb last (e .stamp)) xs in
+        let b : Bool = every (before last) xs in
         let m : Bool = allHold k xs in
         let q : (a && (b && (m && m))) ≡ true = sym (fits-all last xs) ∙ h in
         let r : (b && (m && m)) ≡ true = and-r a (b && (m && m)) q in
@@ -117,10 +117,8 @@ module _ (s k : ℕ) where
     fit-so : Fit last xs → every (fits s k k last) xs ≡ true
     fit-so w = fits-all last xs ∙ and-both _ _ (w .ranges) (and-both _ _ (w .after) (and-both _ _ (w .masks) (w .masks)))
 
-  from-zero : (xs : List Entry) → every (λ e. leb 0 (e .stamp)) xs ≡ true
-  unfolding every
-  from-zero [] = refl
-  from-zero (x ∷ xs) = rw (le-leb 0 (x .stamp) (omega arith)) (from-zero xs)
+  from-none : (xs : List Entry) → every (entryFits s) xs ≡ true → every (before noEntry) xs ≡ true
+  from-none xs h = each-of (before noEntry) xs (all-map (after-nothing s) xs (each (entryFits s) xs h))
 
 -- a list's front has no transaction twice where the list has none
 distinct-front : (xs ys : List Entry) → distinct (xs ++ ys) ≡ true → distinct xs ≡ true
@@ -132,11 +130,10 @@ distinct-front (x ∷ xs) ys h =
     and-both _ _ (ap not m) (distinct-front xs ys (and-r (not (among (xs ++ ys) x)) (distinct (xs ++ ys)) h))
 
 -- log and buffers: one pass over each and a test for repeats say what the rules ask
-module _ (sh : Shape) (st : State) (last : ℕ) (log early late apart : Bool) (e0 : (log && distinct (st .logged .log)) ≡ goodLog (sh .s) (st .site .group) (st .logged .log)) (e1 : last ≡ lastStamp (st .logged .log))
-    (e2 : early ≡ every (fits (sh .s) (st .site .group) (st .site .group) last) (st .waiting .early)) (e3 : late ≡ every (fits (sh .s) (st .site .group) (st .site .group) 0) (st .waiting .late)) (e4 : apart ≡ distinct (st .logged .log ++ (st .waiting .early ++ st .waiting .late))) where
-  follows-is : every (λ e. leb last (e .stamp)) (st .waiting .early) ≡ every (followsLast (st .logged .log)) (st .waiting .early)
-  unfolding mayFollow
-  follows-is = ap (λ (x : ℕ). every (λ (e : Entry). leb x (e .stamp)) (st .waiting .early)) e1
+module _ (sh : Shape) (st : State) (last empty : Entry) (log early late apart : Bool) (e0 : (log && distinct (st .logged .log)) ≡ goodLog (sh .s) (st .site .group) (st .logged .log)) (e1 : last ≡ lastOf (st .logged .log)) (n1 : empty ≡ noEntry)
+    (e2 : early ≡ every (fits (sh .s) (st .site .group) (st .site .group) last) (st .waiting .early)) (e3 : late ≡ every (fits (sh .s) (st .site .group) (st .site .group) empty) (st .waiting .late)) (e4 : apart ≡ distinct (st .logged .log ++ (st .waiting .early ++ st .waiting .late))) where
+  follows-is : every (before last) (st .waiting .early) ≡ every (followsLast (st .logged .log)) (st .waiting .early)
+  follows-is = ap (λ (x : Entry). every (before x) (st .waiting .early)) e1
 
   to-entries : (log && (early && (late && apart))) ≡ true → entriesGood sh st ≡ true
   unfolding entriesGood buffersGood
@@ -146,7 +143,7 @@ module _ (sh : Shape) (st : State) (last : ℕ) (log early late apart : Bool) (e
       let h2 : (late && apart) ≡ true = and-r early (late && apart) h1 in
       let d : distinct (st .logged .log ++ (st .waiting .early ++ st .waiting .late)) ≡ true = sym e4 ∙ and-r late apart h2 in
       let f : Fit (sh .s) k last (st .waiting .early) = fit (sh .s) k last (st .waiting .early) (sym e2 ∙ and-l early (late && apart) h1) in
-      let g : Fit (sh .s) k 0 (st .waiting .late) = fit (sh .s) k 0 (st .waiting .late) (sym e3 ∙ and-l late apart h2) in
+      let g : Fit (sh .s) k empty (st .waiting .late) = fit (sh .s) k empty (st .waiting .late) (sym e3 ∙ and-l late apart h2) in
       and-both _ _ (sym e0 ∙ and-both _ _ (and-l log (early && (late && apart)) h) (distinct-front (st .logged .log) (st .waiting .early ++ st .waiting .late) d))
       (and-both _ _ (join _ (d also sym follows-is ∙ f .after also each-append (λ (e : Entry). holds (e .mask) k) (st .waiting .early) (st .waiting .late) (f .masks) (g .masks) also tt))
       (each-append (entryFits (sh .s)) (st .waiting .early) (st .waiting .late) (f .ranges) (g .ranges)))
@@ -162,25 +159,26 @@ module _ (sh : Shape) (st : State) (last : ℕ) (log early late apart : Bool) (e
       let m : allHold k (st .waiting .early) ≡ true = each-front (λ (e : Entry). holds (e .mask) k) (st .waiting .early) (st .waiting .late) (u 2) in
       let n : allHold k (st .waiting .late) ≡ true = each-back (λ (e : Entry). holds (e .mask) k) (st .waiting .early) (st .waiting .late) (u 2) in
       let f : Fit (sh .s) k last (st .waiting .early) = record { ranges = each-front (entryFits (sh .s)) (st .waiting .early) (st .waiting .late) r; after = follows-is ∙ u 1; masks = m } in
-      let g : Fit (sh .s) k 0 (st .waiting .late) = record { ranges = each-back (entryFits (sh .s)) (st .waiting .early) (st .waiting .late) r; after = from-zero (sh .s) k (st .waiting .late); masks = n } in
+      let z : every (entryFits (sh .s)) (st .waiting .late) ≡ true = each-back (entryFits (sh .s)) (st .waiting .early) (st .waiting .late) r in
+      let g : Fit (sh .s) k empty (st .waiting .late) = record { ranges = z; after = rw n1 (from-none (sh .s) k (st .waiting .late) z); masks = n } in
       and-both _ _ (and-l log (distinct (st .logged .log)) (e0 ∙ and-l (goodLog (sh .s) k (st .logged .log)) (buffersGood st && fit-ones) h))
-      (and-both _ _ (e2 ∙ fit-so (sh .s) k last (st .waiting .early) f) (and-both _ _ (e3 ∙ fit-so (sh .s) k 0 (st .waiting .late) g) (e4 ∙ u 0)))
+      (and-both _ _ (e2 ∙ fit-so (sh .s) k last (st .waiting .early) f) (and-both _ _ (e3 ∙ fit-so (sh .s) k empty (st .waiting .late) g) (e4 ∙ u 0)))
 
   entries-test : (log && (early && (late && apart))) ≡ entriesGood sh st
   entries-test = truth _ _ to-entries from-entries
 
 module _ (sh : Shape) (b : List ℕ) (z : length b ≡ stateLength sh) where
-  pub entries-are : (l3 l4 l5 group last : ℕ) (log early late apart : Bool) → l3 ≡ startOf sh atLog → l4 ≡ startOf sh atEarly → l5 ≡ startOf sh atLate → group ≡ num b 0 1 → last ≡ lastStamp (tableAt (sh .c) b l3)
-      → (log && distinct (tableAt (sh .c) b l3)) ≡ goodLog (sh .s) group (tableAt (sh .c) b l3) → early ≡ every (fits (sh .s) group group last) (tableAt (sh .c) b l4) → late ≡ every (fits (sh .s) group group 0) (tableAt (sh .c) b l5)
+  pub entries-are : (l3 l4 l5 group : ℕ) (last empty : Entry) (log early late apart : Bool) → l3 ≡ startOf sh atLog → l4 ≡ startOf sh atEarly → l5 ≡ startOf sh atLate → group ≡ num b 0 1 → last ≡ lastOf (tableAt (sh .c) b l3) → empty ≡ noEntry
+      → (log && distinct (tableAt (sh .c) b l3)) ≡ goodLog (sh .s) group (tableAt (sh .c) b l3) → early ≡ every (fits (sh .s) group group last) (tableAt (sh .c) b l4) → late ≡ every (fits (sh .s) group group empty) (tableAt (sh .c) b l5)
       → apart ≡ distinct (tableAt (sh .c) b l3 ++ (tableAt (sh .c) b l4 ++ tableAt (sh .c) b l5)) → (log && (early && (late && apart))) ≡ entriesGood sh (stateOf sh b)
-  entries-are l3 l4 l5 group last log early late apart p3 p4 p5 g e1 a1 a2 a3 a4 =
+  entries-are l3 l4 l5 group last empty log early late apart p3 p4 p5 g e1 n1 a1 a2 a3 a4 =
       let f = fields sh b z in
       let st = stateOf sh b in
       let t3 : tableAt (sh .c) b l3 ≡ st .logged .log = ap (tableAt (sh .c) b) p3 ∙ sym (f .log) in
       let t4 : tableAt (sh .c) b l4 ≡ st .waiting .early = ap (tableAt (sh .c) b) p4 ∙ sym (f .early) in
       let t5 : tableAt (sh .c) b l5 ≡ st .waiting .late = ap (tableAt (sh .c) b) p5 ∙ sym (f .late) in
       let k : group ≡ st .site .group = g ∙ sym (f .group) in
-      entries-test sh st last log early late apart (rw (t3, k) at a1) (rw t3 at e1) (rw (t4, k) at a2) (rw (t5, k) at a3) (rw (t3, t4, t5) at a4)
+      entries-test sh st last empty log early late apart (rw (t3, k) at a1) (rw t3 at e1) n1 (rw (t4, k) at a2) (rw (t5, k) at a3) (rw (t3, t4, t5) at a4)
 
   module _ (t : List ℕ) (u : t ≡ part b (startOf sh atNotes) (4 + noteLength (sh .s) * sh .c)) where
     pub notes-are : notesAt (sh .c) (sh .s) t ≡ stateOf sh b .waiting .notes

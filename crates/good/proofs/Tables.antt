@@ -11,7 +11,7 @@ use Rattle.octets.specs.Bytes.{num, items}
 use Rattle.octets.proofs.Codecs.{length-items, getD-items}
 use Rattle.rules.specs.Choice.{every, below}
 use Rattle.rules.specs.Entry.{noEntry, entryOf, lastBefore}
-use Rattle.rules.specs.Log.{lastStamp}
+use Rattle.rules.specs.Log.{lastOf}
 use Rattle.rules.specs.Log.{goodTo, goodLog, distinct}
 use Rattle.rules.specs.Read.{entryAt}
 use Rattle.rules.specs.Image.{tableAt}
@@ -81,17 +81,17 @@ module _ (c : ℕ) (b : List ℕ) (at n : ℕ) (q : n ≡ min (num b at 4) c) wh
   pub each-is : (p : Entry → Bool) (r : Bool) → r ≡ every p (items (entryAt b) 24 (at + 4) n) → r ≡ every p (tableAt c b at)
   each-is p r e = e ∙ ap (every p) table-is
 
-  pub last-none : n ≡ 0 → 0 ≡ lastStamp (tableAt c b at)
+  pub last-none : n ≡ 0 → (r : Entry) → r ≡ noEntry → r ≡ lastOf (tableAt c b at)
   unfolding lastBefore
-  last-none z =
+  last-none z r p =
       let e : 0 ≡ length (tableAt c b at) = sym z ∙ count-is in
-      ap (λ (x : ℕ). lastBefore (entryOf (tableAt c b at)) x .stamp) e
+      p ∙ ap (lastBefore (entryOf (tableAt c b at))) e
 
-  pub last-is : (n ≡ 0 → ⊥) → (r : ℕ) → r ≡ num b (at + 4 + 24 * (n - 1)) 8 → r ≡ lastStamp (tableAt c b at)
-  unfolding lastBefore entryAt
+  pub last-is : (n ≡ 0 → ⊥) → (r : Entry) → r ≡ entryAt b (at + 4 + 24 * (n - 1)) → r ≡ lastOf (tableAt c b at)
+  unfolding lastBefore
   last-is z r p =
       let e : suc (n - 1) ≡ length (tableAt c b at) = (let s : suc (n - 1) ≡ n = omega arith in s ∙ count-is) in
       p
-      ∙ sym (ap (λ (x : Entry). x .stamp) (getD-items (entryAt b) 24 (at + 4) n (n - 1) noEntry (omega arith)))
-      ∙ ap (λ (xs : List Entry). entryOf xs (n - 1) .stamp) table-is
-      ∙ ap (λ (x : ℕ). lastBefore (entryOf (tableAt c b at)) x .stamp) e
+      ∙ sym (getD-items (entryAt b) 24 (at + 4) n (n - 1) noEntry (omega arith))
+      ∙ ap (λ (xs : List Entry). entryOf xs (n - 1)) table-is
+      ∙ ap (lastBefore (entryOf (tableAt c b at))) e

@@ -10,7 +10,7 @@ ghost use lib.Dec.{eqb, leb};
 ghost use lib.ListN.{length};
 ghost use Rattle.octets.specs.Bytes.{num, items, flat, part};
 ghost use Rattle.rules.specs.Choice.{pick, every, passes, below, same};
-ghost use Rattle.rules.specs.Log.{lastStamp};
+ghost use Rattle.rules.specs.Log.{lastOf};
 ghost use Rattle.rules.specs.Log.{goodLog, distinct};
 ghost use Rattle.rules.specs.State.{viewGood, heardGood, voteGood, replyGood, keptGood, noteFits};
 ghost use Rattle.rules.specs.State as rule;
@@ -56,7 +56,7 @@ fn rows_fit(b: &[u8], at: usize, c: usize, s: u64, k: u64) -> bool
 }
 
 // Whether each entry of the table at `at` fits after timestamp `last` at a replica of group k.
-fn all_fit(b: &[u8], at: usize, c: usize, last: u64, s: u64, k: u64) -> bool
+fn all_fit(b: &[u8], at: usize, c: usize, last: Entry, s: u64, k: u64) -> bool
     requires { ⌜ at + tableLength c ≤ length (now b) ⌝ }
     ensures { λ r. ⌜ r ≡ every (fits s k k last) (tableAt c (now (b .entry)) at) ⌝ }
 {
@@ -64,16 +64,16 @@ fn all_fit(b: &[u8], at: usize, c: usize, last: u64, s: u64, k: u64) -> bool
     logs::all_fit(b, at + 4, n, last, s, k)
 }
 
-// The last timestamp of the table at `at`, 0 where it has no entry.
-fn last_stamp(b: &[u8], at: usize, c: usize) -> u64
+// The last entry of the table at `at`, no entry where it has none.
+fn last_entry(b: &[u8], at: usize, c: usize) -> Entry
     requires { ⌜ at + tableLength c ≤ length (now b) ⌝ }
-    ensures { λ r. ⌜ r ≡ lastStamp (tableAt c (now (b .entry)) at) ⌝ }
+    ensures { λ r. ⌜ r ≡ lastOf (tableAt c (now (b .entry)) at) ⌝ }
 {
     let n = count_at(b, at, c);
     if n == 0 {
-        return 0;
+        return entries::no_entry();
     }
-    octets::get64(b, at + 4 + 24 * (n - 1))
+    entries::entry_at(b, at + 4 + 24 * (n - 1))
 }
 
 // ---- the head
@@ -88,7 +88,7 @@ fn head_fits(shape: Shape, state: &[u8]) -> bool
     let status = places::get_status(state);
     let clock = places::get_clock(state);
     let boundary = places::get_boundary(state);
-    let times = (clock <= 9223372036854775807) & (boundary <= 9223372036854775807);
+    let times = (clock <= rules::LATEST) & (boundary <= rules::LATEST);
     (group < shape.s)
         & ((replica < shape.n)
             & ((status::NORMAL <= status) & ((status <= status::CROSS_SHARD) & times)))
@@ -261,10 +261,10 @@ fn entries_good(shape: Shape, state: &[u8], slots: &mut [u16]) -> bool
     let layout = places::places_of(shape);
     let c = shape.c as usize;
     let group = places::get_group(state);
-    let last = last_stamp(state, layout.log, c);
+    let last = last_entry(state, layout.log, c);
     let log = rows_fit(state, layout.log, c, shape.s, group);
     let early = all_fit(state, layout.early, c, last, shape.s, group);
-    let late = all_fit(state, layout.late, c, 0, shape.s, group);
+    let late = all_fit(state, layout.late, c, entries::no_entry(), shape.s, group);
     let apart = logs::distinct3(state, layout.log, layout.early, layout.late, c, slots);
     log & (early & (late & apart))
 }

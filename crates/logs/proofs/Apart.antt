@@ -7,14 +7,14 @@ use native.Mathlib.Decide.{decLt}
 use native.Mathlib.Omega.{arith}
 use lib.ListN.{length, getD, length-append, List·getD-append}
 use lib.Seq.{getD-append-add}
-use lib.Dec.{eqb, leb}
+use lib.Dec.{eqb}
 use borrow.Author.Tests.{eq-eqb, ne-eqb, eqb-true, eqb-false, not-true, not-false}
 use Rattle.octets.specs.Bytes.{num, items}
 use Rattle.octets.proofs.Laws.{bytes-known}
 use Rattle.octets.proofs.Codecs.{length-items, getD-items}
 use Rattle.octets.proofs.Logic.{and-turn}
 use Rattle.rules.specs.Group.{holds}
-use Rattle.rules.specs.Entry.{noEntry, entryOf, sameTxn, among, entryFits, lastBefore}
+use Rattle.rules.specs.Entry.{noEntry, entryOf, sameTxn, among, entryFits, before, lastBefore}
 use Rattle.rules.specs.Log.{seenBefore, goodLog, allHold, distinct}
 use Rattle.rules.specs.Read.{entryAt}
 use Rattle.rules.specs.Image.{tableAt}
@@ -128,7 +128,7 @@ module _ (b : List ℕ) (at n : ℕ) (known : (i : ℕ) → getD b i 0 < 256) (h
     with-masks j =
         let f : ℕ → Entry = rowAt b at in
         let lacks : ℕ → Bool = λ i. not (holds (f i .mask) j) in
-        ap (λ (x : ℕ). eqb x n) (first-agree (unfitAt s k j f) (λ i. unfitAt s k k f i || lacks i) n (λ i l. or-lacks (entryFits s (f i)) (leb (lastBefore f i .stamp) (f i .stamp)) (holds (f i .mask) k) (holds (f i .mask) j)))
+        ap (λ (x : ℕ). eqb x n) (first-agree (unfitAt s k j f) (λ i. unfitAt s k k f i || lacks i) n (λ i l. or-lacks (entryFits s (f i)) (before (lastBefore f i) (f i)) (holds (f i .mask) k) (holds (f i .mask) j)))
         ∙ first-or (unfitAt s k k f) lacks n
         ∙ ap (λ (t : Bool). fitting k && t) (every-first (λ (e : Entry). holds (e .mask) j) (entryAt b) 24 at n (firstTo lacks n) refl)
 

@@ -6,16 +6,16 @@ use mathlib.Core.List.{List, [], _∷_}
 use native.Mathlib.Decide.{decLt}
 use native.Mathlib.Omega.{arith}
 use lib.ListN.{length, getD}
-use lib.Dec.{ltb, leb}
+use lib.Dec.{ltb}
 use Rattle.octets.specs.Bytes.{num}
 use Rattle.octets.proofs.Laws.{bytes-known}
 use Rattle.rules.specs.Choice.{allOf}
 use Rattle.rules.specs.Group.{holds, someOf}
-use Rattle.rules.specs.Entry.{entryFits, stampFits, requestFits, coordinatorFits, lastBefore, mayFollow}
+use Rattle.rules.specs.Entry.{noEntry, entryFits, stampFits, requestFits, coordinatorFits, before, lastBefore}
 use Rattle.rules.specs.Log.{seenBefore, stands, goodTo}
 use Rattle.rules.specs.declared.Entry.{Entry}
 use Rattle.rules.proofs.Tests.{split, and-r}
-use Rattle.rules.proofs.Verdicts.{stamp-ext, seen-ext}
+use Rattle.rules.proofs.Verdicts.{last-ext, seen-ext}
 use Rattle.repeats.specs.Repeat.{firstTo, repeatPlace}
 use Rattle.repeats.specs.Rows.{countOf, keyOf, spotOf, Inside}
 use Rattle.repeats.specs.declared.Spots.{Spots}
@@ -32,20 +32,20 @@ unfolding entryFits allOf
 fits-by s e v q =
     ap (λ (x : Bool). stampFits (e .stamp) && (requestFits (e .request) && (coordinatorFits (e .coordinator) && x))) (q ∙ sym (and-true (someOf (e .mask) s)))
 
-pub all-by : (s k j last : ℕ) (e : Entry) (u v w : Bool) → u ≡ entryFits s e → v ≡ holds (e .mask) k → w ≡ holds (e .mask) j → (u && (leb last (e .stamp) && (v && w))) ≡ fits s k j last e
+pub all-by : (s k j : ℕ) (last e : Entry) (u t v w : Bool) → u ≡ entryFits s e → t ≡ before last e → v ≡ holds (e .mask) k → w ≡ holds (e .mask) j → (u && (t && (v && w))) ≡ fits s k j last e
 unfolding fits
-all-by s k j last e u v w p q r = rw (p, q, r)
+all-by s k j last e u t v w p o q r = rw (p, o, q, r)
 
 -- ---- a turn of the pass over the entries
 
 module _ (s k j : ℕ) (f : ℕ → Entry) where
-  -- what was found of the entry read after the last timestamp, said of entry i
-  pub unfit-row : (i last : ℕ) (e : Entry) (r t : Bool) → e ≡ f i → last ≡ lastBefore f i .stamp → r ≡ fits s k j last e → not r ≡ t → unfitAt s k j f i ≡ t
+  -- what was found of the entry read after the last, said of entry i
+  pub unfit-row : (i : ℕ) (last e : Entry) (r t : Bool) → e ≡ f i → last ≡ lastBefore f i → r ≡ fits s k j last e → not r ≡ t → unfitAt s k j f i ≡ t
   unfit-row i last e r t q l u v = cc
 
-pub stamp-start : (f : ℕ → Entry) → 0 ≡ lastBefore f 0 .stamp
+pub last-start : (f : ℕ → Entry) (e : Entry) → e ≡ noEntry → e ≡ lastBefore f 0
 unfolding lastBefore
-stamp-start f = refl
+last-start f e h = h
 
 -- ---- a good log, entry by entry
 
@@ -78,8 +78,8 @@ module _ (s k : ℕ) where
   wrong-by true true false true l h = rw (h refl)
 
   pub wrong-is : (f : ℕ → Entry) (i : ℕ) → wrongAt f i ≡ (unfitAt s k k f i || seenBefore f (f i) i)
-  unfolding stands mayFollow fits
-  wrong-is f i = wrong-by (entryFits s (f i)) (leb (lastBefore f i .stamp) (f i .stamp)) (seenBefore f (f i) i) (holds (f i .mask) k) (ltb (f i .mask) (2 ^ s)) (mask-in (f i))
+  unfolding stands fits
+  wrong-is f i = wrong-by (entryFits s (f i)) (before (lastBefore f i) (f i)) (seenBefore f (f i) i) (holds (f i .mask) k) (ltb (f i .mask) (2 ^ s)) (mask-in (f i))
 
   -- it asks for the first n entries alone
   pub good-like : (f g : ℕ → Entry) (n : ℕ) → ((i : ℕ) → i < n → f i ≡ g i) → goodTo s k f n ≡ goodTo s k g n
@@ -88,7 +88,7 @@ module _ (s k : ℕ) where
       like : (i : ℕ) → i < n → wrongAt f i ≡ wrongAt g i
       like i l =
           let e : f i ≡ g i = h i l in
-          let p : lastBefore f i .stamp ≡ lastBefore g i .stamp = stamp-ext f g i (λ j m. h j (omega arith)) in
+          let p : lastBefore f i ≡ lastBefore g i = last-ext f g i (λ j m. h j (omega arith)) in
           let q : seenBefore f (g i) i ≡ seenBefore g (g i) i = seen-ext f g (g i) i (λ j m. h j (omega arith)) in
           let r : unfitAt s k k f i ≡ unfitAt s k k g i = cc in
           let v : seenBefore f (f i) i ≡ seenBefore g (g i) i = cc in

@@ -2,11 +2,10 @@
 use Prim.Native.Nat.{ℕ, _+_, _*_, _≤_}
 use mathlib.Core.Bool.{Bool, _&&_, not}
 use mathlib.Core.List.{List}
-use lib.Dec.{leb}
 use lib.ListN.{length}
 use Rattle.octets.specs.Bytes.{num}
 use Rattle.rules.specs.Group.{holds}
-use Rattle.rules.specs.Entry.{entryFits, lastBefore}
+use Rattle.rules.specs.Entry.{entryFits, before, lastBefore}
 use Rattle.rules.specs.Read.{entryAt}
 use Rattle.rules.specs.declared.Entry.{Entry}
 
@@ -14,13 +13,13 @@ use Rattle.rules.specs.declared.Entry.{Entry}
 abbrev pub rowAt : List ℕ → ℕ → ℕ → Entry
 rowAt b at i = entryAt b (at + 24 * i)
 
--- after timestamp `last`, in a log of group k: the entry is in range and not below `last`, and its mask holds k, and j too
-unfoldable pub fits : ℕ → ℕ → ℕ → ℕ → Entry → Bool
-fits s k j last e = entryFits s e && (leb last (e .stamp) && (holds (e .mask) k && holds (e .mask) j))
+-- after the entry `last`, in a log of group k: the entry is in range and lies after `last`, and its mask holds k, and j too
+unfoldable pub fits : ℕ → ℕ → ℕ → Entry → Entry → Bool
+fits s k j last e = entryFits s e && (before last e && (holds (e .mask) k && holds (e .mask) j))
 
 -- entry i of entries in a row does not fit after the one before it
 abbrev pub unfitAt : ℕ → ℕ → ℕ → (ℕ → Entry) → ℕ → Bool
-unfitAt s k j f i = not (fits s k j (lastBefore f i .stamp) (f i))
+unfitAt s k j f i = not (fits s k j (lastBefore f i) (f i))
 
 -- a table with room for c entries lies inside b at `at`, and has no more of them
 pub record Within (c : ℕ) (b : List ℕ) (at : ℕ) : Type 0 where

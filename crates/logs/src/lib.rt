@@ -21,16 +21,16 @@ ghost use Rattle.logs.specs.Place.{rowAt, fits, unfitAt, Within};
 pub fn entry_fits(e: Entry, s: u64) -> bool
     ensures { λ r. ⌜ r ≡ entryFits s e ⌝ }
 {
-    let stamp = (1 <= e.stamp) & (e.stamp <= 9223372036854775807);
+    let stamp = (1 <= e.stamp) & (e.stamp <= rules::LATEST);
     stamp & ((1 <= e.request) & ((e.coordinator <= 65534) & group::some_of(e.mask, s)))
 }
 
-// Whether an entry can come after timestamp `last` in a log of group k, its transaction aside, and its mask holds group j too.
-fn fits_after(e: Entry, last: u64, s: u64, k: u64, j: u64) -> bool
+// Whether an entry can come after the entry `last` in a log of group k, its transaction aside, and its mask holds group j too.
+fn fits_after(e: Entry, last: Entry, s: u64, k: u64, j: u64) -> bool
     ensures { λ r. ⌜ r ≡ fits s k j last e ⌝ }
 {
     let masked = group::holds(e.mask, k) & group::holds(e.mask, j);
-    entry_fits(e, s) & ((last <= e.stamp) & masked)
+    entry_fits(e, s) & (entries::before(last, e) & masked)
 }
 
 // The first of `count` entries from `at` on that does not fit after the one before it, or `count`. Whether its transaction repeats an
@@ -39,14 +39,14 @@ fn first_unfit(b: &[u8], at: usize, count: usize, s: u64, k: u64, j: u64) -> usi
     requires { ⌜ at + 24 * count ≤ length (now b) ⌝ }
     ensures { λ r. ⌜ r ≡ firstTo (unfitAt s k j (rowAt (now (b .entry)) at)) count ⌝ }
 {
-    let mut last: u64 = 0;
+    let mut last = entries::no_entry();
     let mut i = 0;
     while i < count {
         let e = entries::entry_at(b, at + 24 * i);
         if !fits_after(e, last, s, k, j) {
             return i;
         }
-        last = e.stamp;
+        last = e;
         i += 1;
     }
     count
@@ -60,8 +60,8 @@ pub fn rows_fit(b: &[u8], at: usize, count: usize, s: u64, k: u64, j: u64) -> bo
     first_unfit(b, at, count, s, k, j) == count
 }
 
-// Whether each of `count` entries from `at` on fits after timestamp `last`.
-pub fn all_fit(b: &[u8], at: usize, count: usize, last: u64, s: u64, k: u64) -> bool
+// Whether each of `count` entries from `at` on fits after the entry `last`.
+pub fn all_fit(b: &[u8], at: usize, count: usize, last: Entry, s: u64, k: u64) -> bool
     requires { ⌜ at + 24 * count ≤ length (now b) ⌝ }
     ensures { λ r. ⌜ r ≡ every (fits s k k last) (items (entryAt (now (b .entry))) 24 at count) ⌝ }
 {

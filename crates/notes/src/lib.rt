@@ -266,7 +266,7 @@ fn point_good(t: &[u8], at: usize) -> bool
     if flag == 0 {
         return stamp == 0;
     }
-    (flag == 1) & ((1 <= stamp) & (stamp <= 9223372036854775807))
+    (flag == 1) & ((1 <= stamp) & (stamp <= rules::LATEST))
 }
 
 // Whether the note at `at` has its form and is in range.

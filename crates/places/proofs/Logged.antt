@@ -7,7 +7,7 @@ use lib.ListN.{length}
 use Rattle.octets.specs.Bytes.{num}
 use Rattle.octets.proofs.Codecs.{length-items, getD-items}
 use Rattle.rules.specs.Entry.{noEntry, entryOf, lastBefore}
-use Rattle.rules.specs.Log.{lastStamp}
+use Rattle.rules.specs.Log.{lastOf}
 use Rattle.rules.specs.Read.{entryAt}
 use Rattle.rules.specs.Image.{stateLength, tableAt, stateOf, atLog}
 use Rattle.rules.specs.declared.Entry.{Entry}
@@ -52,14 +52,14 @@ module _ (sh : Shape) (b : List ℕ) (z : Sized sh b) where
 
   -- ---- the last
   module _ (n : ℕ) (q : n ≡ length log) where
-    pub last-none : n ≡ 0 → 0 ≡ lastStamp log
+    pub last-none : n ≡ 0 → (e : Entry) → e ≡ noEntry → e ≡ lastOf log
     unfolding lastBefore
-    last-none e =
+    last-none z e p =
         let h : 0 ≡ length log = omega arith in
-        ap (λ (x : ℕ). lastBefore (entryOf log) x .stamp) h
+        p ∙ ap (lastBefore (entryOf log)) h
 
-    pub last-is : (n ≡ 0 → ⊥) → (e : Entry) → e ≡ entryOf log (n - 1) → e .stamp ≡ lastStamp log
+    pub last-is : (n ≡ 0 → ⊥) → (e : Entry) → e ≡ entryOf log (n - 1) → e ≡ lastOf log
     unfolding lastBefore
     last-is f e p =
         let h : suc (n - 1) ≡ length log = omega arith in
-        ap (λ (x : Entry). x .stamp) p ∙ ap (λ (x : ℕ). lastBefore (entryOf log) x .stamp) h
+        p ∙ ap (lastBefore (entryOf log)) h

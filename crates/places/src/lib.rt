@@ -10,7 +10,7 @@ ghost use lib.ListN.{length};
 ghost use Rattle.octets.specs.Bytes.{le, num, part, splice, items};
 ghost use Rattle.rules.specs.Choice.{count, isSome};
 ghost use Rattle.rules.specs.Entry.{entryOf};
-ghost use Rattle.rules.specs.Log.{lastStamp};
+ghost use Rattle.rules.specs.Log.{lastOf};
 ghost use Rattle.rules.specs.Read.{entryAt};
 ghost use Rattle.rules.specs.Image.{stateLength, tableLength, voteLength, replyLength, pointBytes, tableBytes, pointAt, tableAt, voteAt, replyAt, stateOf};
 ghost use Rattle.rules.specs.Image.{atGVec, atHeard, atLog, atReplies, atVotes};
@@ -369,16 +369,16 @@ pub fn log_entry(shape: Shape, state: &[u8], i: usize) -> Entry
     entries::entry_at(state, log_place(shape, i))
 }
 
-// The timestamp of the log's last entry, 0 where it is empty.
-pub fn last_stamp(shape: Shape, state: &[u8]) -> u64
+// The log's last entry, no entry where it is empty.
+pub fn last_entry(shape: Shape, state: &[u8]) -> Entry
     requires { ⌜ Sized shape (now state) ⌝ }
-    ensures { λ r. ⌜ r ≡ lastStamp (stateOf shape (now (state .entry)) .logged .log) ⌝ }
+    ensures { λ r. ⌜ r ≡ lastOf (stateOf shape (now (state .entry)) .logged .log) ⌝ }
 {
     let n = log_length(shape, state);
     if n == 0 {
-        return 0;
+        return entries::no_entry();
     }
-    log_entry(shape, state, n - 1).stamp
+    log_entry(shape, state, n - 1)
 }
 
 // ---- gVec

@@ -16,6 +16,7 @@ use Rattle.rules.specs.Image.{tableAt}
 use Rattle.rules.specs.State.{Vote}
 use Rattle.rules.specs.declared.Entry.{Entry}
 use Rattle.rules.proofs.Choice.{pick-true, pick-false, keep-append}
+use Rattle.rules.proofs.Order.{Sorted, placed-append, placed-sorted}
 use Rattle.entries.specs.Table.{Holds, Table}
 use Rattle.entries.proofs.Table.{decoded}
 use Rattle.entries.proofs.Sorting.{length-placed}
@@ -23,10 +24,9 @@ use Rattle.entries.proofs.Sifting.{keep-last}
 use Rattle.ballots.specs.Ballots.{voteOf, countsAt}
 use Rattle.rebuild.specs.Rebuild.{isNew, newFrom, Adds}
 
-pub placed-append : (ds xs ys : List Entry) → placeAll ds (xs ++ ys) ≡ placeAll (placeAll ds xs) ys
-unfolding placeAll
-placed-append ds [] ys = refl
-placed-append ds (x ∷ xs) ys = placed-append (place x ds) xs ys
+-- the table is sorted where what it held was
+pub sorted-on : (c : ℕ) (ds xs : List Entry) (t : List ℕ) → Sorted ds → Holds c (placeAll ds xs) t → Sorted (tableAt c t 0)
+sorted-on c ds xs t s h = rw (decoded c (placeAll ds xs) t h) (placed-sorted ds xs s)
 
 -- ---- one entry
 

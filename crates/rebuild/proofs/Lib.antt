@@ -4,5 +4,4 @@ pub mod Tables
 pub mod Begun
 pub mod New
 pub mod Added
-pub mod Climbing
 pub mod Whole

@@ -13,11 +13,11 @@ use borrow.Author.Tests.{le-ltb, lt-ltb, ltb-true, le-leb, lt-leb, eq-eqb, eqb-t
 use Rattle.octets.specs.Bytes.{num}
 use Rattle.rules.specs.Choice.{any}
 use Rattle.rules.specs.Group.{recovery}
-use Rattle.rules.specs.Entry.{sameTxn, among, laterThan}
+use Rattle.rules.specs.Entry.{sameTxn, among, before}
 use Rattle.rules.specs.Read.{entryAt}
 use Rattle.rules.specs.State.{Vote}
-use Rattle.rules.specs.Log.{lastOf}
-use Rattle.rules.specs.Rebuild.{withNormal, best, prefix, boundaryIn, holders, isAdded}
+use Rattle.rules.specs.Log.{followsLast}
+use Rattle.rules.specs.Rebuild.{withNormal, best, prefix, holders, isAdded}
 use Rattle.rules.specs.declared.Entry.{Entry}
 use Rattle.rules.specs.declared.Shape.{Shape}
 use Rattle.rules.proofs.Choice.{and-left}
@@ -96,15 +96,13 @@ module _ (n : ℕ) (vs : List (Option Vote)) (b : Basis) (k : Based n vs b) (r :
   first-fails : (x y z : Bool) → x ≡ false → false ≡ ((x && y) && z)
   first-fails x y z h = rw h
 
-  pub new-late : e .stamp ≤ b .boundary → false ≡ isNew n (b .count .top) vs r e
-  unfolding isNew laterThan
-  new-late h = first-fails (laterThan (lastOf (prefix ws)) e) _ _ (rw (← k .boundary) (le-ltb (b .boundary) (e .stamp) h))
+  -- what was found of the entry after the last, said of the prefix
+  follows-by : (t : Bool) → t ≡ before (b .last) e → followsLast (prefix ws) e ≡ t
+  follows-by t q = sym (q ∙ ap (λ (x : Entry). before x e) (k .last))
 
-  -- what is to be added is later than the boundary
-  pub new-later : (t : Bool) → t ≡ isNew n (b .count .top) vs r e → not t ≡ false → b .boundary < e .stamp
-  unfolding isNew laterThan
-  new-later t q h =
-      rw (k .boundary) (ltb-true (boundaryIn ws) (e .stamp) (and-left (ltb (boundaryIn ws) (e .stamp)) _ (and-left (isAdded n ws e) _ (sym q ∙ not-false t h))))
+  pub new-late : (t : Bool) → t ≡ before (b .last) e → not t ≡ true → false ≡ isNew n (b .count .top) vs r e
+  unfolding isNew
+  new-late t q h = first-fails (followsLast (prefix ws) e) _ _ (follows-by t q ∙ not-true t h)
 
   last-fails : (x z : Bool) → z ≡ false → false ≡ (x && z)
   last-fails true z h = sym h
@@ -131,15 +129,15 @@ module _ (n : ℕ) (vs : List (Option Vote)) (b : Basis) (k : Based n vs b) (r :
 
     pub new-few : all < rec → false ≡ isNew n (b .count .top) vs r e
     unfolding isNew
-    new-few h = copies-fail (laterThan (lastOf (prefix ws)) e) (not (among (prefix ws) e)) (leb (recovery n) (holders ws e)) _ (lt-leb (recovery n) (holders ws e) (omega (arith, all-holders)))
+    new-few h = copies-fail (followsLast (prefix ws) e) (not (among (prefix ws) e)) (leb (recovery n) (holders ws e)) _ (lt-leb (recovery n) (holders ws e) (omega (arith, all-holders)))
 
     all-hold : (x m c v : Bool) → x ≡ true → c ≡ true → v ≡ true → m ≡ ((x && (m && c)) && v)
     all-hold x true c v f g i = rw (f, g, i)
     all-hold x false c v f g i = rw f
 
-    pub new-held : (p : Bool) → b .boundary < e .stamp → rec ≤ all → p ≡ among (prefix ws) e → not p ≡ isNew n (b .count .top) vs r e
-    unfolding isNew laterThan
-    new-held p h i f =
-        rw f
-        (all-hold (laterThan (lastOf (prefix ws)) e) (not (among (prefix ws) e)) (leb (recovery n) (holders ws e)) (eqb (holders (lower (b .count .top) vs r) e) 0)
-        (rw (← k .boundary) (lt-ltb (b .boundary) (e .stamp) h)) (le-leb (recovery n) (holders ws e) (omega (arith, all-holders))) (eq-eqb (holders (lower (b .count .top) vs r) e) 0 (none-lower t q z)))
+    pub new-held : (p f : Bool) → f ≡ before (b .last) e → not f ≡ false → rec ≤ all → p ≡ among (prefix ws) e → not p ≡ isNew n (b .count .top) vs r e
+    unfolding isNew
+    new-held p a f h i o =
+        rw o
+        (all-hold (followsLast (prefix ws) e) (not (among (prefix ws) e)) (leb (recovery n) (holders ws e)) (eqb (holders (lower (b .count .top) vs r) e) 0)
+        (follows-by a f ∙ not-false a h) (le-leb (recovery n) (holders ws e) (omega (arith, all-holders))) (eq-eqb (holders (lower (b .count .top) vs r) e) 0 (none-lower t q z)))

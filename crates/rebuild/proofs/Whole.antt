@@ -8,28 +8,27 @@ use native.Mathlib.Omega.{arith}
 use lib.ListN.{length, getD, take, drop, length-append, take-append-drop}
 use lib.Seq.{length-take-le, getD-take}
 use lib.Dec.{eqb}
-use borrow.Author.Tests.{ltb-true, not-true, not-false}
+use borrow.Author.Tests.{not-true, not-false}
 use Rattle.octets.specs.Bytes.{items}
 use Rattle.octets.proofs.Codecs.{All}
 use Rattle.rules.specs.Choice.{pick, keep}
-use Rattle.rules.specs.Entry.{noEntry, entryOf, before, place, placeAll, ordered, laterThan, lastBefore}
-use Rattle.rules.specs.Log.{lastOf, lastStamp}
-use Rattle.rules.specs.Log.{goodLog}
+use Rattle.rules.specs.Entry.{noEntry, entryOf, placeAll, ordered, lastBefore}
+use Rattle.rules.specs.Log.{lastOf, followsLast, goodLog}
 use Rattle.rules.specs.Read.{entryAt}
 use Rattle.rules.specs.State.{Vote}
 use Rattle.rules.specs.Image.{tableBytes, tableAt}
 use Rattle.rules.specs.Rebuild.{topFrom, withNormal, best, prefix, boundaryIn, holders, isAdded, copies, added, rebuilt, boundaryOf}
 use Rattle.rules.specs.declared.Entry.{Entry}
 use Rattle.rules.specs.declared.Shape.{Shape}
-use Rattle.rules.proofs.Choice.{pick-true, pick-false, and-left, all-map, kept-passes, keep-append}
-use Rattle.rules.proofs.Order.{ordered-length}
-use Rattle.rules.proofs.Logs.{good-parts, last-greatest}
+use Rattle.rules.proofs.Choice.{Pairs, pick-true, pick-false, and-left, all-map, pairs-map, kept-passes, keep-append}
+use Rattle.rules.proofs.Order.{Sorted, before-asym, placed-behind, placed-append, ordered-length}
+use Rattle.rules.proofs.Logs.{Rising, good-parts, after-last}
 use Rattle.rules.proofs.Rebuilt.{counting-rising, prefix-good}
 use Rattle.entries.specs.Table.{Holds}
 use Rattle.entries.proofs.Table.{decoded, empty}
 use Rattle.entries.proofs.Sorting.{length-placed}
 use Rattle.ballots.specs.Ballots.{votesIn, voteOf, countsAt, Given, Lists, BestTo}
-use Rattle.rebuild.specs.Rebuild.{Based, Climbs, lower, isNew, newFrom, Adds, Gives}
+use Rattle.rebuild.specs.Rebuild.{Based, lower, isNew, newFrom, Adds, Gives}
 use Rattle.ballots.specs.declared.Best.{Best}
 use Rattle.rebuild.specs.declared.Basis.{Basis}
 use Rattle.rebuild.specs.declared.Count.{Count}
@@ -39,8 +38,7 @@ use Rattle.ballots.proofs.Counting.{lower-next, lower-all}
 use Rattle.ballots.proofs.Sound.{vote-synced}
 use Rattle.rebuild.proofs.Holders.{listed-take}
 use Rattle.rebuild.proofs.New.{prefix-by, none-past, none-taken}
-use Rattle.rebuild.proofs.Added.{placed-append}
-use Rattle.rebuild.proofs.Climbing.{before-not, low-climbs}
+use Rattle.rebuild.proofs.Added.{sorted-on}
 
 -- ---- what it starts from
 
@@ -63,25 +61,25 @@ module _ (n : ℕ) (vs : List (Option Vote)) (a : Count) (b : Best) (l : length 
   pub takes-some : (c : ℕ) (log u : List ℕ) → Lists c (voteOf (getD vs (b .replica) none) .log) log → b .sync ≤ length (voteOf (getD vs (b .replica) none) .log) → Holds c (items (entryAt log) 24 4 (b .sync)) u → Holds c (prefix (withNormal top vs)) u
   takes-some c log u f w h = subst (λ (x : List Entry). Holds c x u) (listed-take c _ log f (b .sync) w ∙ sym prefix-of) h
 
-  pub based-none : n ≤ b .replica → Based n vs (record { count = a; replica = b .replica; length = 0; boundary = 0 })
+  pub based-none : (x : Entry) → x ≡ noEntry → n ≤ b .replica → Based n vs (record { count = a; replica = b .replica; length = 0; last = x })
   unfolding voteOf lastBefore
-  based-none h =
+  based-none x q h =
       record {
         top = t;
         best = is-best;
         length = ap (λ (x : Option Vote). voteOf x .sync) (sym (none-past vs n (b .replica) l h));
         within = k .within;
         held = k .held;
-        boundary = ap lastStamp (sym (prefix-empty h));
+        last = q ∙ ap lastOf (sym (prefix-empty h));
       }
 
-  last-of : (es : List Entry) (m : ℕ) → m ≤ length es → 0 < m → entryOf es (m - 1) .stamp ≡ lastStamp (take m es)
+  last-of : (es : List Entry) (m : ℕ) → m ≤ length es → 0 < m → entryOf es (m - 1) ≡ lastOf (take m es)
   unfolding lastBefore
   last-of es m h p =
       let e : length (take m es) ≡ suc (m - 1) = length-take-le m es h ∙ omega arith in
-      sym (ap (λ (i : ℕ). lastBefore (entryOf (take m es)) i .stamp) e ∙ ap (λ (x : Entry). x .stamp) (getD-take m es (m - 1) noEntry (omega arith)))
+      sym (ap (lastBefore (entryOf (take m es))) e ∙ getD-take m es (m - 1) noEntry (omega arith))
 
-  pub based-some : (x : Entry) (m : ℕ) → b .replica < n → m ≡ b .sync → b .sync ≤ length (voteOf (getD vs (b .replica) none) .log) → x ≡ entryOf (voteOf (getD vs (b .replica) none) .log) (m - 1) → Based n vs (record { count = a; replica = b .replica; length = m; boundary = x .stamp })
+  pub based-some : (x : Entry) (m : ℕ) → b .replica < n → m ≡ b .sync → b .sync ≤ length (voteOf (getD vs (b .replica) none) .log) → x ≡ entryOf (voteOf (getD vs (b .replica) none) .log) (m - 1) → Based n vs (record { count = a; replica = b .replica; length = m; last = x })
   based-some x m h e w q =
       let es = voteOf (getD vs (b .replica) none) .log in
       record {
@@ -90,7 +88,7 @@ module _ (n : ℕ) (vs : List (Option Vote)) (a : Count) (b : Best) (l : length 
         length = e ∙ k .sync;
         within = k .within;
         held = k .held;
-        boundary = ap (λ (y : Entry). y .stamp) q ∙ last-of es m (omega arith) (omega (arith, k .some h)) ∙ ap lastStamp (ap (λ (i : ℕ). take i es) e ∙ sym prefix-of);
+        last = q ∙ last-of es m (omega arith) (omega (arith, k .some h)) ∙ ap lastOf (ap (λ (i : ℕ). take i es) e ∙ sym prefix-of);
       }
 
 -- the prefix of a vote that is there
@@ -155,20 +153,6 @@ module _ (n top : ℕ) (vs : List (Option Vote)) where
       ap (λ (l : List Vote). keep (isAdded n ws) (copies [] l)) e ∙ ap (keep (isAdded n ws)) (copies-append [] (lower top vs r) _) ∙ keep-append (isAdded n ws) (copies [] (lower top vs r)) _ in
       omega (arith, ap length f, length-append (addedBelow r) (keep (isAdded n ws) (copies (lower top vs r) (withNormal top (drop r vs)))))
 
--- ---- behind the prefix
-
-place-behind : (e : Entry) (ps ds : List Entry) → All (λ d. d .stamp < e .stamp) ps → place e (ps ++ ds) ≡ ps ++ place e ds
-unfolding place
-place-behind e [] ds a = refl
-place-behind e (d ∷ ps) ds a = pick-false (before e d) _ _ (before-not e d (a .0)) ∙ ap (λ (l : List Entry). d ∷ l) (place-behind e ps ds (a .1))
-
-placed-behind : (m : ℕ) (ps ds xs : List Entry) → All (λ d. d .stamp ≤ m) ps → All (λ e. m < e .stamp) xs → placeAll (ps ++ ds) xs ≡ ps ++ placeAll ds xs
-unfolding placeAll
-placed-behind m ps ds [] a b = refl
-placed-behind m ps ds (x ∷ xs) a b =
-    ap (λ (l : List Entry). placeAll l xs) (place-behind x ps ds (all-map (λ d h. let f = b .0 in omega arith) ps a))
-    ∙ placed-behind m ps (place x ds) xs a (b .1)
-
 -- ---- the whole
 
 pub whole-start : (c n top : ℕ) (vs : List (Option Vote)) (ps : List Entry) (t : List ℕ) → Holds c ps t → Holds c (placeAll ps (addedBelow n top vs 0)) t
@@ -186,24 +170,23 @@ module _ (s g c n : ℕ) (vs : List (Option Vote)) (b : Basis) (l : length vs �
   unfolding rebuilt added
   rebuilt-is = ap (λ (t : ℕ). prefix (withNormal t vs) ++ added n (withNormal t vs)) (sym (k .top))
 
-  -- its timestamps are not later than the boundary
-  front-low : All (λ d. d .stamp ≤ lastStamp front) front
-  front-low = last-greatest front (good-parts s g front (prefix-good s g (withNormal (b .count .top) vs) good) .rises)
+  front-rises : Pairs Rising front
+  front-rises = good-parts s g front (prefix-good s g (withNormal (b .count .top) vs) good) .rises
 
-  pub front-climbs : Climbs (b .boundary) front
-  front-climbs = rw (k .boundary) (low-climbs (lastStamp front) front front-low)
+  -- with what is put in order into it, it is sorted
+  pub front-sorted : (xs : List Entry) (t : List ℕ) → Holds c (placeAll front xs) t → Sorted (tableAt c t 0)
+  front-sorted xs t h = sorted-on c front xs t (pairs-map before-asym front front-rises) h
 
   all-behind : placeAll front all ≡ front ++ ordered all
-  unfolding laterThan
   all-behind =
-      let d = all-map (λ e h. ltb-true (lastStamp front) (e .stamp) (and-left (laterThan (lastOf front) e) _ h)) all (kept-passes (isAdded n (withNormal (b .count .top) vs)) (copies [] (withNormal (b .count .top) vs))) in
-      ap (λ (x : List Entry). placeAll x all) (sym (append-nil front)) ∙ placed-behind (lastStamp front) front [] all front-low d
+      let d = all-map (λ e h. after-last front front-rises e (and-left (followsLast front e) _ h)) all (kept-passes (isAdded n (withNormal (b .count .top) vs)) (copies [] (withNormal (b .count .top) vs))) in
+      ap (λ (x : List Entry). placeAll x all) (sym (append-nil front)) ∙ placed-behind front [] all d
 
-  pub whole-end : (r : ℕ) (t : List ℕ) → n ≤ r → Holds c (placeAll front (addedBelow n (b .count .top) vs r)) t → Gives c n vs t (Log (b .boundary))
+  pub whole-end : (r : ℕ) (t : List ℕ) → n ≤ r → Holds c (placeAll front (addedBelow n (b .count .top) vs r)) t → Gives c n vs t (Log (b .last .stamp))
   unfolding Gives boundaryOf
   whole-end r t h f =
       let e : addedBelow n (b .count .top) vs r ≡ all = ap (λ (x : List Vote). keep (isAdded n (withNormal (b .count .top) vs)) (copies [] x)) (lower-all (b .count .top) vs r (omega arith)) in
-      (subst (λ (x : List Entry). Holds c x t) (ap (placeAll front) e ∙ all-behind ∙ sym rebuilt-is) f, k .boundary ∙ ap (λ (m : ℕ). boundaryIn (withNormal m vs)) (k .top))
+      (subst (λ (x : List Entry). Holds c x t) (ap (placeAll front) e ∙ all-behind ∙ sym rebuilt-is) f, ap (λ (x : Entry). x .stamp) (k .last) ∙ ap (λ (m : ℕ). boundaryIn (withNormal m vs)) (k .top))
 
   module _ (r : ℕ) (t u : List ℕ) (h : r < n) (f : Holds c (placeAll front (addedBelow n (b .count .top) vs r)) t) (ok : Bool) (a : Adds c (tableAt c t 0) (newFrom n (b .count .top) vs r) u ok) where
     pub whole-turn : not ok ≡ false → Holds c (placeAll front (addedBelow n (b .count .top) vs (r + 1))) u

@@ -7,11 +7,11 @@ use mathlib.Core.List.{List, []}
 use lib.ListN.{length, take, getD}
 use lib.Dec.{eqb}
 use Rattle.rules.specs.Choice.{pick, any, keep, isSome}
-use Rattle.rules.specs.Entry.{sameKey, before, placeAll}
+use Rattle.rules.specs.Entry.{sameKey, placeAll}
+use Rattle.rules.specs.Log.{lastOf}
 use Rattle.rules.specs.State.{Vote}
-use Rattle.rules.specs.Rebuild.{topFrom, withNormal, best, boundaryIn, holders, isAdded, rebuilt, boundaryOf}
+use Rattle.rules.specs.Rebuild.{topFrom, withNormal, best, prefix, holders, isAdded, rebuilt, boundaryOf}
 use Rattle.rules.specs.declared.Entry.{Entry}
-use Rattle.rules.proofs.Choice.{Pairs}
 use Rattle.entries.specs.Table.{Holds}
 use Rattle.rules.specs.declared.Shape.{Shape}
 use Rattle.ballots.specs.Ballots.{votesIn, voteOf, countsAt}
@@ -27,7 +27,7 @@ pub record Based (n : ℕ) (vs : List (Option Vote)) (b : Basis) : Type 0 where
   pub length : b .length ≡ voteOf (getD vs (b .replica) none) .sync
   pub within : b .replica ≤ n
   pub held : b .replica < n → isSome (getD vs (b .replica) none) ≡ true
-  pub boundary : b .boundary ≡ boundaryIn (withNormal (b .count .top) vs)
+  pub last : b .last ≡ lastOf (prefix (withNormal (b .count .top) vs))
 
 -- and so are the votes that are given and their slots
 pub record Starts (sh : Shape) (b msg : List ℕ) (k : Basis) (slots : List ℕ) : Type 0 where
@@ -49,10 +49,6 @@ isNew n top vs r e = isAdded n (withNormal top vs) e && eqb (holders (lower top 
 -- what the vote of replica r adds, where it counts
 unfoldable pub newFrom : ℕ → ℕ → List (Option Vote) → ℕ → List Entry
 newFrom n top vs r = pick (countsAt top (getD vs r none)) (keep (isNew n top vs r) (voteOf (getD vs r none) .log)) []
-
--- an entry later than the boundary that comes before one of these comes before all after it
-unfoldable pub Climbs : ℕ → List Entry → Type 0
-Climbs boundary es = Pairs (λ d x. (e : Entry) → boundary < e .stamp → before e d ≡ true → before e x ≡ true) es
 
 -- all entries are put in order into the table, or there are too many for it
 unfoldable pub Adds : ℕ → List Entry → List Entry → List ℕ → Bool → Type 0

@@ -11,15 +11,16 @@ ghost use Prim.Native.Nat.{_+_, _*_, _≤_, _<_};
 ghost use lib.Dec.{eqb};
 ghost use lib.ListN.{length, getD};
 ghost use Rattle.rules.specs.Choice.{pick, any, isSome};
-ghost use Rattle.rules.specs.Entry.{sameKey, among, entryOf};
+ghost use Rattle.rules.specs.Entry.{sameKey, among};
 ghost use Rattle.rules.specs.Read.{entryAt};
 ghost use Rattle.rules.specs.Image.{tableAt};
+ghost use Rattle.rules.proofs.Order.{Sorted};
 ghost use Rattle.rules.specs.Rebuild.{topFrom, withNormal, prefix, holders};
-ghost use Rattle.entries.specs.First.{findRow, Rises};
+ghost use Rattle.entries.specs.First.{findRow};
 ghost use Rattle.entries.specs.Table.{Holds, Table};
 ghost use Rattle.ballots.specs.Ballots.{votesIn, voteOf, Given};
 ghost use Rattle.rebuild.specs.Tables.{Indexed, Looks, Counted};
-ghost use Rattle.rebuild.specs.Rebuild.{Based, Starts, Climbs, Adds, Gives, lower, holdsAt, isNew, newFrom};
+ghost use Rattle.rebuild.specs.Rebuild.{Based, Starts, Adds, Gives, lower, holdsAt, isNew, newFrom};
 
 // Slots for the rows of the votes' logs: how many each log gets, how many logs have theirs, and for each replica which of them its vote's
 // log has, counted from 1; 0 where it has none.
@@ -36,12 +37,12 @@ struct Count {
     index: Index,
 }
 
-// What the rebuild starts from: what is counted, the replica whose vote gives the prefix, the prefix's length, the boundary.
+// What the rebuild starts from: what is counted, the replica whose vote gives the prefix, the prefix's length, its last entry.
 struct Basis {
     count: Count,
     replica: u64,
     length: usize,
-    boundary: u64,
+    last: Entry,
 }
 
 // The rebuilt log's boundary, where the table has room for the log.
@@ -244,7 +245,7 @@ fn in_prefix<'a>(
     find_row(log, number, counting.index, slots, basis.replica, e) < basis.length
 }
 
-// Whether e, of replica r's vote, is to be added: it is later than the boundary, no lower vote holds it, R votes hold it, and it is not in the prefix.
+// Whether e, of replica r's vote, is to be added: it is later than the prefix's last, no lower vote holds it, R votes hold it, and it is not in the prefix.
 fn is_new<'a>(
     shape: Shape,
     state: &'a [u8],
@@ -257,7 +258,7 @@ fn is_new<'a>(
     requires { ⌜ Starts shape (now state) (now message) basis (now slots) × (r < shape .n) ⌝ }
     ensures { λ t. ⌜ t ≡ isNew (shape .n) (basis .count .top) (votesIn shape (now (state .entry)) (now (message .entry)) (basis .count .cast)) r e ⌝ }
 {
-    if e.stamp <= basis.boundary {
+    if !entries::before(basis.last, e) {
         return false;
     }
     let counting = basis.count;
@@ -273,7 +274,7 @@ fn is_new<'a>(
 
 // Puts e in order into the table if it is to be added; false where the table is full.
 fn add_entry(table: &mut [u8], c: usize, new: bool, e: Entry) -> bool
-    requires { ⌜ Table c (now table) × (new ≡ true → Rises (entryOf (tableAt c (now table) 0)) e (length (tableAt c (now table) 0))) ⌝ }
+    requires { ⌜ Table c (now table) × Sorted (tableAt c (now table) 0) ⌝ }
     ensures { λ t. ⌜ Adds c (tableAt c (now (table .entry)) 0) (pick new (e ∷ []) []) (now (table .exit)) t ⌝ }
 {
     if !new {
@@ -298,7 +299,7 @@ fn add_from<'a>(
 ) -> bool
     requires { ⌜
         Starts shape (now state) (now message) basis (now slots) × (r < shape .n) × Table (shape .c) (now table)
-        × Climbs (basis .boundary) (tableAt (shape .c) (now table) 0) ⌝ }
+        × Sorted (tableAt (shape .c) (now table) 0) ⌝ }
     ensures { λ t. ⌜ (let votes = votesIn shape (now (state .entry)) (now (message .entry)) (basis .count .cast) in
         Adds (shape .c) (tableAt (shape .c) (now (table .entry)) 0) (newFrom (shape .n) (basis .count .top) votes r) (now (table .exit)) t) ⌝ }
 {
@@ -344,7 +345,7 @@ fn take_prefix<'a>(
             count,
             replica: best.replica,
             length: 0,
-            boundary: 0,
+            last: entries::no_entry(),
         };
     }
     let log = ballots::log_of(shape, state, message, count.cast, best.replica);
@@ -355,7 +356,7 @@ fn take_prefix<'a>(
         count,
         replica: best.replica,
         length,
-        boundary: last.stamp,
+        last,
     }
 }
 
@@ -379,7 +380,7 @@ fn add_all<'a>(
         }
         r += 1;
     }
-    Rebuilt::Log(basis.boundary)
+    Rebuilt::Log(basis.last.stamp)
 }
 
 // The log that the votes of the state and of the message give, put into the table, whose old bytes are not read.

@@ -17,6 +17,7 @@ use Rattle.entries.proofs.Table.{and-then}
 use Rattle.notes.specs.Notes.{notesAt, NotesHold, Notes}
 use Rattle.notes.proofs.Notes as noted
 use Rattle.early.specs.Listed.{chosen}
+use Rattle.early.specs.declared.Which.the-variants.{Any}
 use Rattle.early.proofs.Entries.{without-is}
 use Rattle.early.proofs.Kept.{keep-distinct}
 use Rattle.places.specs.Layout.{startOf, Midway, Own, Stands}
@@ -67,10 +68,10 @@ module _ {sh : Shape} {b : List ℕ} (m : Releasing sh b) (at end : ℕ) where
       arrive (log-comes (m .midway) at end _ j p q w) (record { group = m .own .group; replica = m .own .replica }) (m .early)
 
   -- entries leave early
-  pub early-left : {b′ x : List ℕ} (gone : List Entry) → at ≡ startOf sh atEarly → end ≡ startOf sh atLate → Holds (sh .c) (keep (chosen gone false 0) (tableAt (sh .c) (take (end - at) (drop at b)) 0)) x → b′ ≡ take at b ++ (x ++ drop (end - at) (drop at b)) → Reaches sh (earlyLeft (stateOf sh b) gone) b′
+  pub early-left : {b′ x : List ℕ} (gone : List Entry) → at ≡ startOf sh atEarly → end ≡ startOf sh atLate → Holds (sh .c) (keep (chosen gone Any) (tableAt (sh .c) (take (end - at) (drop at b)) 0)) x → b′ ≡ take at b ++ (x ++ drop (end - at) (drop at b)) → Reaches sh (earlyLeft (stateOf sh b) gone) b′
   early-left {x = x} gone p q h w =
       let es = stateOf sh b .waiting .early in
-      let j = and-then (sh .c) es _ (early-here (m .midway) at end p q) (keep (chosen gone false 0)) x h in
+      let j = and-then (sh .c) es _ (early-here (m .midway) at end p q) (keep (chosen gone Any)) x h in
       let g : Holds (sh .c) (without gone es) x = subst (λ (ds : List Entry). Holds (sh .c) ds x) (without-is gone es) j in
       arrive (early-comes (m .midway) at end _ g p q w) (record { group = m .own .group; replica = m .own .replica }) (keep-distinct _ es (m .early))
 

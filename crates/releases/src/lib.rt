@@ -1,6 +1,7 @@
 // The release of early entries that are due: how many there are and how many are agreed, one after the other to the log with the log's digest run on over
 // it, and all of them out of early and the notes.
 use early::Listed;
+use early::Which;
 use rules::Entry;
 use rules::Shape;
 ghost use mathlib.Core.Path.{_≡_};
@@ -187,7 +188,7 @@ fn early_leaves(shape: Shape, state: &mut [u8], b: &[u8], listed: Listed, slots:
         b,
         listed,
         slots,
-        0,
+        Which::Any,
     );
 }
 

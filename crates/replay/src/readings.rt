@@ -4,9 +4,9 @@ use crate::line;
 use crate::records::Run;
 use crate::records::broken;
 use crate::records::number_of;
+use crate::records::offset_of;
 use crate::records::read_first;
 use crate::records::with_difference;
-use rules::Answer;
 use rules::Shape;
 use rules::kind;
 use rules::refusal;
@@ -20,14 +20,6 @@ fn step_offset(kind: u8, offset: u64) -> u64 {
         return 0;
     }
     offset
-}
-
-// The offset of an answer.
-fn offset_of(answer: Answer) -> u64 {
-    match answer {
-        Answer::Done(_) => 0,
-        Answer::Refused(_, offset) => offset as u64,
-    }
 }
 
 // Whether a step on a fresh state does not refuse a malformed message, or tells another offset.

@@ -56,6 +56,14 @@ pub fn number_of(answer: Answer) -> u8 {
     }
 }
 
+// The offset of an answer: where a malformed message is wrong.
+pub fn offset_of(answer: Answer) -> u64 {
+    match answer {
+        Answer::Done(_) => 0,
+        Answer::Refused(_, offset) => offset as u64,
+    }
+}
+
 // The outgoing length of an answer.
 fn length_of(answer: Answer) -> usize {
     match answer {
@@ -112,6 +120,7 @@ fn start_record(fd: i32, run: Run, state: &mut [u8]) -> Run {
 // What a step answered and left.
 struct Came {
     number: u8,
+    offset: u64,
     length: usize,
     sent: u64,
     left: u64,
@@ -124,6 +133,7 @@ fn step_on(shape: Shape, state: &mut [u8], message: &[u8], out: &mut [u8]) -> Ca
     let sent = digest_first(out, length);
     Came {
         number: number_of(answer),
+        offset: offset_of(answer),
         length,
         sent,
         left: digest::digest_of(state),
@@ -136,8 +146,10 @@ fn held(mut run: Run, came: Came, want: &[u8]) -> Run {
     let at = run.records;
     let loud = run.differences == 0;
     let number = octets::look8(want, 0) as u64;
-    let length = octets::look32(want, 1) as u64;
+    let offset = octets::look32(want, 1) as u64;
+    let length = octets::look32(want, 5) as u64;
     let a = line::differ(loud, at, b"number", 0, came.number as u64, number);
+    let o = line::differ(loud, at, b"offset", 0, came.offset, offset);
     let b = line::differ(loud, at, b"outgoing length", 0, came.length as u64, length);
     let c = line::differ(
         loud,
@@ -145,7 +157,7 @@ fn held(mut run: Run, came: Came, want: &[u8]) -> Run {
         b"outgoing digest",
         16,
         came.sent,
-        octets::look64(want, 5),
+        octets::look64(want, 9),
     );
     let d = line::differ(
         loud,
@@ -153,9 +165,9 @@ fn held(mut run: Run, came: Came, want: &[u8]) -> Run {
         b"state digest",
         16,
         came.left,
-        octets::look64(want, 13),
+        octets::look64(want, 17),
     );
-    with_difference(run, a | b | c | d)
+    with_difference(run, a | o | b | c | d)
 }
 
 // One step on the first bytes of the state, with that much room.
@@ -167,12 +179,12 @@ fn step_in(
     want: &[u8],
     counts: &mut [u64],
 ) -> Run {
-    let mut out = [0u8; 1100];
+    let mut out = [0u8; 4000];
     let length = run.length;
     if state.len() < length {
         return broken(run, b"no state");
     }
-    if 1100 < room {
+    if 4000 < room {
         return broken(run, b"no such room");
     }
     let came = step_on(run.shape, &mut state[0..length], message, &mut out[0..room]);
@@ -183,20 +195,20 @@ fn step_in(
 // A record of a step.
 fn step_record(fd: i32, run: Run, state: &mut [u8], counts: &mut [u64]) -> Run {
     let mut sizes = [0u8; 8];
-    let mut message = [0u8; 320];
-    let mut want = [0u8; 21];
+    let mut message = [0u8; 1800];
+    let mut want = [0u8; 25];
     if !read_first(fd, &mut sizes, 8) {
         return broken(run, b"cut short");
     }
     let room = octets::look32(&sizes, 0) as usize;
     let size = octets::look32(&sizes, 4) as usize;
-    if 320 < size {
+    if 1800 < size {
         return broken(run, b"no room for the message");
     }
     if !read_first(fd, &mut message, size) {
         return broken(run, b"cut short");
     }
-    if !read_first(fd, &mut want, 21) {
+    if !read_first(fd, &mut want, 25) {
         return broken(run, b"cut short");
     }
     step_in(run, state, &message[0..size], room, &want, counts)

@@ -1,24 +1,36 @@
--- The names that say which timestamp follows a log's last: each is opened here and nowhere else. Assumes nothing.
-use Prim.Native.Nat.{ℕ, _≤_, _<_, max}
-use mathlib.Core.Path.{_≡_, ap, _∙_}
+-- The timestamp that a leader gives. Assumes nothing.
+use Prim.Native.Nat.{ℕ, _+_, _≤_}
+use mathlib.Core.Path.{_≡_, sym, ap, _∙_}
+use mathlib.Core.Bool.{Bool, true, false}
 use mathlib.Core.List.{List}
-use native.Mathlib.Omega.{arith}
-use lib.Dec.{leb}
-use Rattle.rules.specs.Log.{lastStamp, followsLast, leaderStamp, raised}
-use Rattle.rules.specs.Entry.{stamped, mayFollow}
+use native.Mathlib.Numerals.{add-one}
+use Rattle.rules.specs.Log.{lastOf, lastStamp, followsLast, leaderStamp, raised}
+use Rattle.rules.specs.Entry.{latest, stamped, before}
+use Rattle.rules.specs.Image.{stateOf}
 use Rattle.rules.specs.declared.Entry.{Entry}
+use Rattle.rules.specs.declared.Shape.{Shape}
+use Rattle.rules.proofs.Choice.{pick-true, pick-false}
+use Rattle.rules.proofs.Logs.{last-fits}
+use Rattle.rules.proofs.Conjuncts.{good-is}
+use Rattle.places.specs.Layout.{Stands}
 
--- an entry may follow where it is not below the last
-pub follows-is : (es : List Entry) (e : Entry) (last : ℕ) → last ≡ lastStamp es → leb last (e .stamp) ≡ followsLast es e
-unfolding mayFollow
-follows-is es e last q = ap (λ (t : ℕ). leb t (e .stamp)) q
+-- the last timestamp of a good state's log is at most the latest
+pub last-low : (sh : Shape) (b : List ℕ) → Stands sh (stateOf sh b) b → (last : Entry) → last ≡ lastOf (stateOf sh b .logged .log) → last .stamp ≤ latest
+last-low sh b s last q =
+    let st = stateOf sh b in
+    rw q (last-fits (sh .s) (st .site .group) (st .logged .log) (good-is sh st (s .good) .log))
 
--- a leader gives the greater of due and the last
-module _ (es : List Entry) (e : Entry) (last : ℕ) (q : last ≡ lastStamp es) where
-  pub raised-last : e .stamp < last → (y : Entry) → y ≡ stamped last e → y ≡ raised es e
+module _ (es : List Entry) (e last : Entry) (q : last ≡ lastOf es) (t : Bool) (f : t ≡ before last e) where
+  follows-is : t ≡ followsLast es e
+  follows-is = f ∙ ap (λ (x : Entry). before x e) q
+
+  -- due, where that places it after the last
+  pub raised-due : t ≡ true → e ≡ raised es e
   unfolding leaderStamp
-  raised-last h y u = u ∙ ap (λ (t : ℕ). stamped t e) (let z : last ≡ max (e .stamp) (lastStamp es) = omega arith in z)
+  raised-due h = sym (ap (λ (x : ℕ). stamped x e) (pick-true (followsLast es e) (e .stamp) _ (sym follows-is ∙ h)))
 
-  pub raised-due : last ≤ e .stamp → e ≡ raised es e
+  -- and otherwise the last timestamp plus one
+  pub raised-lifted : t ≡ false → (y : Entry) → y ≡ stamped (last .stamp + 1) e → y ≡ raised es e
   unfolding leaderStamp
-  raised-due h = ap (λ (t : ℕ). stamped t e) (let z : e .stamp ≡ max (e .stamp) (lastStamp es) = omega arith in z)
+  raised-lifted h y u =
+      u ∙ rw (q, add-one (lastStamp es)) (sym (ap (λ (x : ℕ). stamped x e) (pick-false (followsLast es e) (e .stamp) _ (sym follows-is ∙ h))))

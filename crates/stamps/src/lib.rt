@@ -13,7 +13,7 @@ ghost use Rattle.rules.specs.State as rule;
 ghost use Rattle.rules.specs.State.{withWaiting};
 ghost use Rattle.rules.specs.Image.{stateOf};
 ghost use Rattle.rules.specs.Early.{lifted};
-ghost use Rattle.places.specs.Layout.{Sized, Midway};
+ghost use Rattle.places.specs.Layout.{Sized, Midway, Stands};
 
 // ---- the log's last
 
@@ -30,24 +30,24 @@ pub fn stamped(stamp: u64, e: Entry) -> Entry
     }
 }
 
-// Whether e may follow the log's last.
+// Whether e lies after the log's last.
 pub fn may_follow(shape: Shape, state: &[u8], e: Entry) -> bool
     requires { ⌜ Sized shape (now state) ⌝ }
     ensures { λ r. ⌜ r ≡ log.followsLast (stateOf shape (now (state .entry)) .logged .log) e ⌝ }
 {
-    places::last_stamp(shape, state) <= e.stamp
+    entries::before(places::last_entry(shape, state), e)
 }
 
-// The entry that a leader puts in early: e at its due time or, where that is below the log's last, at that timestamp.
+// The entry that a leader puts in early: e at its due time or, where that does not place it after the log's last, one past the last timestamp.
 pub fn raised(shape: Shape, state: &[u8], e: Entry) -> Entry
-    requires { ⌜ Sized shape (now state) ⌝ }
+    requires { ⌜ Stands shape (stateOf shape (now state)) (now state) ⌝ }
     ensures { λ r. ⌜ r ≡ log.raised (stateOf shape (now (state .entry)) .logged .log) e ⌝ }
 {
-    let last = places::last_stamp(shape, state);
-    if e.stamp < last {
-        return stamped(last, e);
+    let last = places::last_entry(shape, state);
+    if entries::before(last, e) {
+        return e;
     }
-    e
+    stamped(last.stamp + 1, e)
 }
 
 // ---- the notes

@@ -9,7 +9,7 @@ use lib.Seq.{take-at, drop-at}
 use Rattle.octets.specs.Bytes.{le, part, splice}
 use Rattle.octets.proofs.Laws.{part-add, splice-home, splice-splice-next}
 use Rattle.rules.specs.Choice.{keep}
-use Rattle.rules.specs.Log.{lastStamp}
+use Rattle.rules.specs.Log.{lastOf}
 use Rattle.rules.specs.State.{State, withWaiting}
 use Rattle.rules.specs.Early.{staysEarly, notesWithout}
 use Rattle.rules.specs.Image.{tableLength, noteLength, tableBytes, image, atEarly, atLate, atLog, atNotes}
@@ -25,6 +25,7 @@ use Rattle.places.proofs.Tables as tables
 use Rattle.places.proofs.Head.{put-sync}
 use Rattle.places.proofs.Lent.{notes-lent, notes-home}
 use Rattle.early.specs.Listed.{chosen}
+use Rattle.early.specs.declared.Which.the-variants.{Any, After, NotAfter}
 use Rattle.early.specs.Buffers.{BothHold, earlyIn, lateIn, Both}
 use Rattle.syncs.specs.Takes.{lateBy, syncedBy}
 use Rattle.early.proofs.Buffers as buffers
@@ -67,7 +68,7 @@ module _ {sh : Shape} {st : State} {b : List ℕ} (g : Midway sh st b) (at n : �
 
 -- ---- the buffers, the notes, the log and the sync point
 
-module _ {sh : Shape} {st : State} {b : List ℕ} (s : Stands sh st b) (log : List Entry) (last : ℕ) (hl : last ≡ lastStamp log) (at n : ℕ) (e : at ≡ startOf sh atEarly) (m : n ≡ tableLength (sh .c) + tableLength (sh .c)) where
+module _ {sh : Shape} {st : State} {b : List ℕ} (s : Stands sh st b) (log : List Entry) (last : Entry) (hl : last ≡ lastOf log) (at n : ℕ) (e : at ≡ startOf sh atEarly) (m : n ≡ tableLength (sh .c) + tableLength (sh .c)) where
   abbrev lent : List ℕ
   lent = take n (drop at b)
 
@@ -77,16 +78,16 @@ module _ {sh : Shape} {st : State} {b : List ℕ} (s : Stands sh st b) (log : Li
   pub is-both : Both (sh .c) lent
   is-both = buffers.is-both both
 
-  late-counted : length (keep (chosen log false 0) (lateIn (sh .c) lent)) + length (keep (chosen log true last) (earlyIn (sh .c) lent)) ≡ length (lateBy st log)
+  late-counted : length (keep (chosen log Any) (lateIn (sh .c) lent)) + length (keep (chosen log (NotAfter last)) (earlyIn (sh .c) lent)) ≡ length (lateBy st log)
   late-counted = rw (buffers.early-is both, buffers.late-is both, hl) (late-long st log)
 
-  pub late-asked : length (lateBy st log) ≤ sh .c → length (keep (chosen log false 0) (lateIn (sh .c) lent)) + length (keep (chosen log true last) (earlyIn (sh .c) lent)) ≤ sh .c
+  pub late-asked : length (lateBy st log) ≤ sh .c → length (keep (chosen log Any) (lateIn (sh .c) lent)) + length (keep (chosen log (NotAfter last)) (earlyIn (sh .c) lent)) ≤ sh .c
   late-asked h = rw late-counted h
 
-  pub late-said : (r : ℕ) → r ≡ length (keep (chosen log false 0) (lateIn (sh .c) lent)) + length (keep (chosen log true last) (earlyIn (sh .c) lent)) → r ≡ length (lateBy st log)
+  pub late-said : (r : ℕ) → r ≡ length (keep (chosen log Any) (lateIn (sh .c) lent)) + length (keep (chosen log (NotAfter last)) (earlyIn (sh .c) lent)) → r ≡ length (lateBy st log)
   late-said r q = q ∙ late-counted
 
-  module _ (x : List ℕ) (k : BothHold (sh .c) (keep (chosen log false last) (earlyIn (sh .c) lent)) (keep (chosen log false 0) (lateIn (sh .c) lent) ++ keep (chosen log true last) (earlyIn (sh .c) lent)) x) where
+  module _ (x : List ℕ) (k : BothHold (sh .c) (keep (chosen log (After last)) (earlyIn (sh .c) lent)) (keep (chosen log Any) (lateIn (sh .c) lent) ++ keep (chosen log (NotAfter last)) (earlyIn (sh .c) lent)) x) where
     abbrev b₁ : List ℕ
     b₁ = take at b ++ (x ++ drop n (drop at b))
 

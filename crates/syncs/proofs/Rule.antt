@@ -1,19 +1,17 @@
 -- What is chosen, by the words of the rule. Assumes nothing.
 use Prim.Native.Nat.{ℕ, _+_}
 use mathlib.Core.Path.{_≡_, refl, sym, ap, _∙_}
-use mathlib.Core.Bool.{Bool, true, false, _&&_, not, or-false}
+use mathlib.Core.Bool.{Bool, true, false, _&&_, not}
 use mathlib.Core.List.{List, [], _∷_, _++_}
-use native.Mathlib.Omega.{arith}
 use lib.ListN.{length, length-append}
-use lib.Dec.{ltb, leb}
-use borrow.Author.Tests.{leb-true, leb-false, lt-ltb, le-ltb}
 use Rattle.rules.specs.Choice.{pick, keep}
-use Rattle.rules.specs.Entry.{among, mayFollow}
-use Rattle.rules.specs.Log.{followsLast, lastStamp}
+use Rattle.rules.specs.Entry.{among}
+use Rattle.rules.specs.Log.{lastOf, followsLast}
 use Rattle.rules.specs.State.{State}
 use Rattle.rules.specs.Early.{staysEarly, fallsLate}
 use Rattle.rules.specs.declared.Entry.{Entry}
-use Rattle.early.specs.Listed.{chosen}
+use Rattle.early.specs.Listed.{placed, chosen}
+use Rattle.early.specs.declared.Which.the-variants.{Any, After, NotAfter}
 use Rattle.early.proofs.Entries.{without-is}
 use Rattle.syncs.specs.Takes.{lateBy}
 
@@ -37,26 +35,19 @@ module _ {A : Type 0} where
   keep-twice p q r h [] = refl
   keep-twice p q r h (x ∷ xs) = rw (h x, keep-twice p q r h xs) (twice-step r x (keep q xs) (q x))
 
-above : (a b : ℕ) → ltb a b ≡ not (leb b a)
-above a b = go (leb b a) refl
-  where
-    go : (t : Bool) → leb b a ≡ t → ltb a b ≡ not t
-    go true e = le-ltb a b (leb-true b a e)
-    go false e = lt-ltb a b (omega (arith, leb-false b a e))
-
 module _ (log es : List Entry) where
-  pub stays-is : keep (chosen log false (lastStamp log)) es ≡ staysEarly log es
-  unfolding chosen mayFollow
-  stays-is = keep-twice (chosen log false (lastStamp log)) (λ e. not (among log e)) (followsLast log) (λ e. refl) es
+  pub stays-is : keep (chosen log (After (lastOf log))) es ≡ staysEarly log es
+  unfolding chosen placed
+  stays-is = keep-twice (chosen log (After (lastOf log))) (λ e. not (among log e)) (followsLast log) (λ e. refl) es
 
-  pub falls-is : keep (chosen log true (lastStamp log)) es ≡ fallsLate log es
-  unfolding chosen mayFollow
-  falls-is = keep-twice (chosen log true (lastStamp log)) (λ e. not (among log e)) (λ e. not (followsLast log e)) (λ e. rw (or-false (ltb (e .stamp) (lastStamp log)), above (e .stamp) (lastStamp log))) es
+  pub falls-is : keep (chosen log (NotAfter (lastOf log))) es ≡ fallsLate log es
+  unfolding chosen placed
+  falls-is = keep-twice (chosen log (NotAfter (lastOf log))) (λ e. not (among log e)) (λ e. not (followsLast log e)) (λ e. refl) es
 
 module _ (st : State) (log : List Entry) where
-  pub late-is : keep (chosen log false 0) (st .waiting .late) ++ keep (chosen log true (lastStamp log)) (st .waiting .early) ≡ lateBy st log
+  pub late-is : keep (chosen log Any) (st .waiting .late) ++ keep (chosen log (NotAfter (lastOf log))) (st .waiting .early) ≡ lateBy st log
   unfolding lateBy
   late-is = rw (without-is log (st .waiting .late), falls-is log (st .waiting .early))
 
-  pub late-long : length (keep (chosen log false 0) (st .waiting .late)) + length (keep (chosen log true (lastStamp log)) (st .waiting .early)) ≡ length (lateBy st log)
-  late-long = sym (length-append (keep (chosen log false 0) (st .waiting .late)) (keep (chosen log true (lastStamp log)) (st .waiting .early))) ∙ ap length late-is
+  pub late-long : length (keep (chosen log Any) (st .waiting .late)) + length (keep (chosen log (NotAfter (lastOf log))) (st .waiting .early)) ≡ length (lateBy st log)
+  late-long = sym (length-append (keep (chosen log Any) (st .waiting .late)) (keep (chosen log (NotAfter (lastOf log))) (st .waiting .early))) ∙ ap length late-is

@@ -10,7 +10,7 @@ use Rattle.octets.specs.Bytes.{num, splice, flat}
 use Rattle.octets.proofs.Codecs.{length-items, getD-items}
 use Rattle.rules.specs.Choice.{pick, any}
 use Rattle.rules.specs.Entry.{noEntry, entryOf, lastBefore}
-use Rattle.rules.specs.Log.{lastStamp}
+use Rattle.rules.specs.Log.{lastOf}
 use Rattle.rules.specs.Wire.{Wire, tagOf, wireBytes}
 use Rattle.rules.specs.Kind.{known, rowOf}
 use Rattle.rules.specs.Read.{entryAt, entriesAt, lengthFor, wireIn}
@@ -74,12 +74,12 @@ module _ {sh : Shape} {b msg : List ℕ} {log : Listed} (g : Coming sh b msg log
   long : length entries ≡ log .count
   long = length-items (entryAt msg) 24 (log .at) (log .count)
 
-  -- its last timestamp
-  pub last-is : (last : ℕ) → last ≡ num msg (log .at + 24 * (log .count - 1)) 8 → last ≡ lastStamp entries
-  unfolding lastBefore entryAt
+  -- its last entry
+  pub last-is : (last : Entry) → last ≡ entryAt msg (log .at + 24 * (log .count - 1)) → last ≡ lastOf entries
+  unfolding lastBefore
   last-is last q =
       let n : length entries ≡ suc (log .count - 1) = long ∙ omega (arith, g .past) in
-      q ∙ sym (ap (λ (k : ℕ). lastBefore (entryOf entries) k .stamp) n ∙ ap (λ (x : Entry). x .stamp) (getD-items (entryAt msg) 24 (log .at) (log .count) (log .count - 1) noEntry (omega (arith, g .past))))
+      q ∙ sym (ap (lastBefore (entryOf entries)) n ∙ getD-items (entryAt msg) 24 (log .at) (log .count) (log .count - 1) noEntry (omega (arith, g .past)))
 
   pub too-late : (out : List ℕ) (late : ℕ) → late ≡ length (lateBy st entries) → sh .c < late → leaves 8 b out ≡ closes sh b out (takes sh st entries)
   too-late out late e h = late-full sh st entries b out (rw e at h)

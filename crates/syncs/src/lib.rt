@@ -14,7 +14,7 @@ ghost use lib.ListN.{length};
 ghost use Rattle.octets.specs.Bytes.{splice, flat};
 ghost use Rattle.rules.specs.Choice.{pick, keep};
 ghost use Rattle.rules.specs.Entry.{entryOf};
-ghost use Rattle.rules.specs.Log.{lastStamp};
+ghost use Rattle.rules.specs.Log.{lastOf};
 ghost use Rattle.rules.specs.Wire.{wireBytes};
 ghost use Rattle.rules.specs.Read.{lengthFor};
 ghost use Rattle.rules.specs.Step.{slowReply, onReplicaSync};
@@ -34,9 +34,9 @@ fn late_length(
     message: &[u8],
     log: Listed,
     slots: &[u16],
-    last: u64,
+    last: Entry,
 ) -> usize
-    requires { ⌜ Stands shape (stateOf shape (now state)) (now state) × Lookup (now message) log (now slots) × (last ≡ lastStamp (listedIn (now message) log)) ⌝ }
+    requires { ⌜ Stands shape (stateOf shape (now state)) (now state) × Lookup (now message) log (now slots) × (last ≡ lastOf (listedIn (now message) log)) ⌝ }
     ensures { λ r. ⌜ r ≡ length (lateBy (stateOf shape (now (state .entry))) (listedIn (now (message .entry)) log)) ⌝ }
 {
     let places = places::places_of(shape);
@@ -53,9 +53,16 @@ fn late_length(
 }
 
 // Takes the log over: synced entries leave early, late and the notes, and the sync point becomes the log's length.
-fn sync_state(shape: Shape, state: &mut [u8], message: &[u8], log: Listed, slots: &[u16], last: u64)
+fn sync_state(
+    shape: Shape,
+    state: &mut [u8],
+    message: &[u8],
+    log: Listed,
+    slots: &[u16],
+    last: Entry,
+)
     requires { ⌜ (let st = stateOf shape (now state) in
-        Stands shape st (now state) × Lookup (now message) log (now slots) × (last ≡ lastStamp (listedIn (now message) log)) × (log .count ≤ shape .c)
+        Stands shape st (now state) × Lookup (now message) log (now slots) × (last ≡ lastOf (listedIn (now message) log)) × (log .count ≤ shape .c)
         × (length (lateBy st (listedIn (now message) log)) ≤ shape .c)) ⌝ }
     ensures { λ _. ⌜ now (state .exit) ≡ image shape (syncedBy (stateOf shape (now (state .entry))) (listedIn (now (message .entry)) log)) ⌝ }
 {
@@ -143,7 +150,7 @@ fn sync_by(
     ensures { λ r. ⌜ (let b = now (state .entry) in
         left r (now (state .exit)) (now (out .exit)) ≡ closes shape b (now (out .entry)) (takes shape (stateOf shape b) (listedIn (now (message .entry)) log))) ⌝ }
 {
-    let last = octets::get64(message, log.at + 24 * (log.count - 1));
+    let last = entries::entry_at(message, log.at + 24 * (log.count - 1));
     let late = late_length(shape, state, message, log, slots, last);
     if shape.c < late as u64 {
         return Answer::Refused(refusal::FULL, 0);

@@ -5,10 +5,10 @@ use mathlib.Core.Bool.{Bool, true, false, _&&_, _||_, not, and-true, and-false}
 use mathlib.Core.List.{List, []}
 use native.Mathlib.Omega.{arith}
 use native.Mathlib.Numerals.{add-one}
-use lib.Dec.{ltb, leb}
+use lib.Dec.{ltb}
 use borrow.Author.Tests.{lt-ltb, ltb-true}
 use Rattle.rules.specs.Choice.{pick, when, allOf}
-use Rattle.rules.specs.Entry.{lastBefore, mayFollow}
+use Rattle.rules.specs.Entry.{before, lastBefore}
 use Rattle.rules.specs.Log.{seenBefore, stands}
 use Rattle.rules.specs.Kind.{numbersIn, withLog}
 use Rattle.rules.specs.Read.{Fields, headRows, bodyRows, numberRows, entryRows, entriesAt, firstWrong, andThen, entriesWrong, messageWrong}
@@ -25,13 +25,13 @@ use Rattle.verdicts.specs.declared.Look.{Look}
 use Rattle.verdicts.proofs.Fresh.{Limit, limit-is}
 
 module _ (s k : ℕ) (f : ℕ → Entry) (i : ℕ) where
-  stands-fresh : (last : ℕ) → last ≡ lastBefore f i .stamp → seenBefore f (f i) i ≡ false → stands s k f i ≡ standsAfter s k last (f i)
-  unfolding stands mayFollow allOf
+  stands-fresh : (last : Entry) → last ≡ lastBefore f i → seenBefore f (f i) i ≡ false → stands s k f i ≡ standsAfter s k last (f i)
+  unfolding stands allOf
   stands-fresh last e h = rw (e, h, and-true (ltb (f i .mask) _))
 
   stands-again : seenBefore f (f i) i ≡ true → stands s k f i ≡ false
-  unfolding stands mayFollow allOf
-  stands-again h = rw (h, and-false (leb (lastBefore f i .stamp) (f i .stamp)))
+  unfolding stands allOf
+  stands-again h = rw (h, and-false (before (lastBefore f i) (f i)))
 
 module _ (s : ℕ) (h : Header) (f : ℕ → Entry) (whole : ℕ) where
   abbrev m : Fields
@@ -56,7 +56,7 @@ module _ (s : ℕ) (h : Header) (f : ℕ → Entry) (whole : ℕ) where
     abbrev is : Limit log f whole seen limit
     is = rw isLimit (limit-is log f whole seen)
 
-    module _ (i last : ℕ) (e : Entry) (st : Bool) (l : i < limit) (isLast : last ≡ lastBefore f i .stamp) (isEntry : e ≡ f i) (isStanding : st ≡ standsAfter s (h .«to_group») last e) where
+    module _ (i : ℕ) (last e : Entry) (st : Bool) (l : i < limit) (isLast : last ≡ lastBefore f i) (isEntry : e ≡ f i) (isStanding : st ≡ standsAfter s (h .«to_group») last e) where
       standing-is : when (withLog (h .kind) && ltb i whole) (stands s (h .«to_group») f i) ≡ (not (log && ltb i whole) || st)
       standing-is = rw (← isLog) (go (log && ltb i whole) refl)
         where

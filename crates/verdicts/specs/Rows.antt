@@ -2,9 +2,10 @@
 use Prim.Native.Nat.{ℕ, _+_, _-_, _*_, _^_, _≤_, min}
 use mathlib.Core.Bool.{Bool, _&&_}
 use mathlib.Core.List.{List}
-use lib.Dec.{ltb, leb}
+use lib.Dec.{ltb}
 use Rattle.rules.specs.Choice.{pick}
 use Rattle.rules.specs.Group.{holds}
+use Rattle.rules.specs.Entry.{before}
 use Rattle.rules.specs.Log.{seenBefore}
 use Rattle.rules.specs.Read.{entryAt, messageWrong}
 use Rattle.rules.specs.declared.Entry.{Entry}
@@ -26,9 +27,9 @@ repeatOf f n = firstTo (λ i. seenBefore f (f i) i) n
 unfoldable pub limitOf : Bool → (ℕ → Entry) → ℕ → ℕ → ℕ
 limitOf log f whole seen = pick (log && ltb (repeatOf f (min whole seen)) (min whole seen)) (repeatOf f (min whole seen)) seen
 
--- an entry whose transaction is new stands in a log of group k after one with the timestamp `last`
-abbrev pub standsAfter : ℕ → ℕ → ℕ → Entry → Bool
-standsAfter s k last e = leb last (e .stamp) && (holds (e .mask) k && ltb (e .mask) (2 ^ s))
+-- an entry whose transaction is new stands in a log of group k after the entry `last`
+abbrev pub standsAfter : ℕ → ℕ → Entry → Entry → Bool
+standsAfter s k last e = before last e && (holds (e .mask) k && ltb (e .mask) (2 ^ s))
 
 -- the verdict on a message of these numbers, whose entries stand in b
 abbrev pub wrongIn : ℕ → ℕ → Parts → List ℕ → List ℕ → Look → Verdict

@@ -71,12 +71,12 @@ fn limit_of(log: bool, b: &[u8], look: Look, slots: &mut [u16]) -> usize
     seen
 }
 
-// Whether an entry whose transaction is new stands in a log after one with the timestamp `last`.
-fn stands_after(s: u64, group: u64, last: u64, e: Entry) -> bool
+// Whether an entry whose transaction is new stands in a log after the entry `last`.
+fn stands_after(s: u64, group: u64, last: Entry, e: Entry) -> bool
     requires { ⌜ s ≤ 8 ⌝ }
     ensures { λ r. ⌜ r ≡ standsAfter s group last e ⌝ }
 {
-    (last <= e.stamp) & (group::holds(e.mask, group) & below(e.mask, s))
+    entries::before(last, e) & (group::holds(e.mask, group) & below(e.mask, s))
 }
 
 // The first wrong field of the entries that are looked at.
@@ -89,7 +89,7 @@ pub fn entries_wrong(s: u64, h: Header, b: &[u8], look: Look, slots: &mut [u16])
     let log = with_log(h.kind);
     let from = entries_at(s, h.kind);
     let limit = limit_of(log, b, look, slots);
-    let mut last: u64 = 0;
+    let mut last = entries::no_entry();
     let mut i = 0;
     while i < limit {
         let e = entries::look_entry(b, at + 24 * i);
@@ -99,7 +99,7 @@ pub fn entries_wrong(s: u64, h: Header, b: &[u8], look: Look, slots: &mut [u16])
             Verdict::Fine => {}
             Verdict::Wrong(a, u) => return Verdict::Wrong(a, u),
         }
-        last = e.stamp;
+        last = e;
         i += 1;
     }
     if limit < look.seen {

@@ -3,16 +3,17 @@ use Prim.Native.Nat.{ℕ, _*_, _/_}
 use mathlib.Core.Bool.{Bool, _&&_}
 use mathlib.Core.List.{List}
 use lib.ListN.{length}
+use lib.Dec.{leb}
 use Rattle.octets.specs.Bytes.{num, part, items}
 use Rattle.rules.specs.Choice.{keep}
 use Rattle.rules.specs.Group.{holds}
-use Rattle.rules.specs.Entry.{pastAsked, ordered}
+use Rattle.rules.specs.Entry.{ordered}
 use Rattle.rules.specs.Read.{entryAt}
 use Rattle.rules.specs.declared.Entry.{Entry}
 
--- an entry past the boundary whose mask has the asker's group
+-- an entry at the boundary or past it whose mask has the asker's group
 abbrev pub isAsked : ℕ → ℕ → Entry → Bool
-isAsked boundary j e = pastAsked boundary e && holds (e .mask) j
+isAsked boundary j e = leb boundary (e .stamp) && holds (e .mask) j
 
 -- the bytes of the entries that a table has
 unfoldable pub usedIn : List ℕ → List ℕ

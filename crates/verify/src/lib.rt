@@ -13,7 +13,6 @@ ghost use lib.Dec.{eqb};
 ghost use lib.ListN.{length};
 ghost use Rattle.octets.specs.Bytes.{le, num, splice, flat};
 ghost use Rattle.rules.specs.Choice.{pick};
-ghost use Rattle.rules.specs.Entry.{pastAsked};
 ghost use Rattle.rules.specs.Group as sets;
 ghost use Rattle.rules.specs.Wire.{entryBytes};
 ghost use Rattle.rules.specs.Image.{stateOf};
@@ -49,18 +48,11 @@ fn source_of(shape: Shape, state: &[u8]) -> &[u8]
     source(places::get_status(state), draft, log)
 }
 
-// Whether e is past the boundary that is asked from.
-fn is_past(boundary: u64, e: Entry) -> bool
-    ensures { λ r. ⌜ r ≡ pastAsked boundary e ⌝ }
-{
-    boundary < e.stamp
-}
-
-// Whether e is asked for: it is past the boundary, and its mask has the asker's group.
+// Whether e is asked for: it lies at the boundary or past it, and its mask has the asker's group.
 fn is_asked(boundary: u64, asker: u64, e: Entry) -> bool
     ensures { λ r. ⌜ r ≡ isAsked boundary asker e ⌝ }
 {
-    is_past(boundary, e) & group::holds(e.mask, asker)
+    (boundary <= e.stamp) & group::holds(e.mask, asker)
 }
 
 // How many of the entries in t are asked for.
@@ -121,7 +113,7 @@ fn tell_none(shape: Shape, state: &[u8], out: &mut [u8], to_group: u8, to: u64) 
     handler::tell(shape, state, out, 0, m, &state[0..0])
 }
 
-// Kind 18: the entries past the asked boundary whose mask has the asker's group are told to it, in the order. The state is read only.
+// Kind 18: the entries at the asked boundary or past it whose mask has the asker's group are told to it, in the order. The state is read only.
 pub fn on_verify_request(
     shape: Shape,
     state: &[u8],

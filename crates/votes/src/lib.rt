@@ -114,7 +114,7 @@ fn tell_all(shape: Shape, state: &[u8], out: &mut [u8], boundary: u64, mask: u16
     handler::tell_leaders(shape, state, out, asking, mask, &state[0..0])
 }
 
-// The rebuilt log becomes the draft, and the leaders of all other groups are asked for what they have past its boundary.
+// The rebuilt log becomes the draft, and the leaders of all other groups are asked for what they have from its boundary on.
 fn ask_all(
     shape: Shape,
     state: &mut [u8],

@@ -15,10 +15,10 @@ use Rattle.early.proofs.count_chosen.Statement.{statement}
 use Rattle.early.proofs.count_chosen.Tie as tie
 
 abbrev Inv-loop : tie.InvT-loop
-Inv-loop t c b listed slots below bound n found₀ i₀ found i = (i ≤ n) × (n ≡ length (tableAt c t 0)) × (found ≤ i) × (found ≡ length (keep (chosen (listedIn b listed) below bound) (take i (tableAt c t 0))))
+Inv-loop t c b listed slots which n found₀ i₀ found i = (i ≤ n) × (n ≡ length (tableAt c t 0)) × (found ≤ i) × (found ≡ length (keep (chosen (listedIn b listed) which) (take i (tableAt c t 0))))
 
 abbrev μ-loop : tie.MeasureT-loop
-μ-loop t c b listed slots below bound n found₀ i₀ found i = n - i
+μ-loop t c b listed slots which n found₀ i₀ found i = n - i
 
 count-requires : tie.Need-count-requires Inv-loop μ-loop
 count-requires c κs = search needs

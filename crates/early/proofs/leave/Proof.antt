@@ -2,7 +2,6 @@
 -- Made by tools/answers from the file `answers` beside it: change that one.
 use Prim.Native.Nat.{_≤_, _-_}
 use mathlib.Core.Path.{_≡_, refl, subst, _∙_}
-use mathlib.Core.Bool.{false}
 use mathlib.Core.List.{List}
 use native.Mathlib.Omega.{arith}
 use lib.ListN.{length}
@@ -17,10 +16,10 @@ use Rattle.early.proofs.leave.Statement.{statement}
 use Rattle.early.proofs.leave.Tie as tie
 
 abbrev Inv-loop : tie.InvT-loop
-Inv-loop t₀ c b listed slots bound n kept₀ i₀ t kept i = (i ≤ n) × (n ≡ length (tableAt c t₀ 0)) × (length t ≡ length t₀) × Table c t × Sifted (chosen (listedIn b listed) false bound) (tableAt c t₀ 0) i kept (tableAt c t 0)
+Inv-loop t₀ c b listed slots which n kept₀ i₀ t kept i = (i ≤ n) × (n ≡ length (tableAt c t₀ 0)) × (length t ≡ length t₀) × Table c t × Sifted (chosen (listedIn b listed) which) (tableAt c t₀ 0) i kept (tableAt c t 0)
 
 abbrev μ-loop : tie.MeasureT-loop
-μ-loop t₀ c b listed slots bound n kept₀ i₀ t kept i = n - i
+μ-loop t₀ c b listed slots which n kept₀ i₀ t kept i = n - i
 
 count-requires : tie.Need-count-requires Inv-loop μ-loop
 count-requires c κs = search needs

@@ -1,26 +1,29 @@
--- `logs::first_unfit` meets its contract. The invariant: every entry passed fits, and `last` is the timestamp of the last of them. Assumes nothing.
+-- `logs::first_unfit` meets its contract. The invariant: every entry passed fits, and `last` is the last of them. Assumes nothing.
 -- Made by tools/answers from the file `answers` beside it: change that one.
 use Prim.Native.Nat.{_≤_, _-_}
 use mathlib.Core.Path.{_≡_}
 use native.Mathlib.Omega.{arith}
 use Rattle.rules.specs.Entry.{lastBefore}
-use Rattle.rules.proofs.Verdicts.{stamp-next}
+use Rattle.rules.proofs.Verdicts.{last-next}
 use Rattle.repeats.specs.Repeat.{firstTo}
 use Rattle.repeats.proofs.Laws.{first-start, first-pass, first-stop, first-end}
 use Rattle.logs.specs.Place.{rowAt, unfitAt}
-use Rattle.logs.proofs.Place.{unfit-row, stamp-start}
+use Rattle.logs.proofs.Place.{unfit-row, last-start}
 use borrow.Author.Needs.{needs}
 use Rattle.logs.proofs.first_unfit.Statement.{statement}
 use Rattle.logs.proofs.first_unfit.Tie as tie
 
 abbrev Inv-loop : tie.InvT-loop
-Inv-loop b at count s k j last₀ i₀ last i = (i ≤ count) × (last ≡ lastBefore (rowAt b at) i .stamp) × (firstTo (unfitAt s k j (rowAt b at)) i ≡ i)
+Inv-loop b at count s k j last₀ i₀ last i = (i ≤ count) × (last ≡ lastBefore (rowAt b at) i) × (firstTo (unfitAt s k j (rowAt b at)) i ≡ i)
 
 abbrev μ-loop : tie.MeasureT-loop
 μ-loop b at count s k j last₀ i₀ last i = count - i
 
+no-entry-requires : tie.Need-no-entry-requires Inv-loop μ-loop
+no-entry-requires c κs = search needs
+
 loop-holds : tie.Need-loop-holds Inv-loop μ-loop
-loop-holds c = (omega arith, stamp-start _, first-start _)
+loop-holds c = (omega arith, last-start _ _ (c .no-entry .ensures), first-start _)
 
 mul-entry-at : tie.Need-mul-entry-at Inv-loop μ-loop
 mul-entry-at c = search needs
@@ -44,7 +47,7 @@ loop-less : tie.Need-loop-less Inv-loop μ-loop
 loop-less c = search needs
 
 loop-again : tie.Need-loop-again Inv-loop μ-loop
-loop-again c = (omega arith, stamp-next _ (c .before .before .before .before .loop .i) _ (c .before .before .entry-at .ensures), first-pass _ (c .before .before .before .before .loop .i) (c .before .before .before .before .loop .inv .2) (unfit-row _ _ _ _ (c .before .before .before .before .loop .i) _ _ _ _ (c .before .before .entry-at .ensures) (c .before .before .before .before .loop .inv .1) (c .before .fits-after .ensures) (c .if1 .left)))
+loop-again c = (omega arith, last-next _ (c .before .before .before .before .loop .i) _ (c .before .before .entry-at .ensures), first-pass _ (c .before .before .before .before .loop .i) (c .before .before .before .before .loop .inv .2) (unfit-row _ _ _ _ (c .before .before .before .before .loop .i) _ _ _ _ (c .before .before .entry-at .ensures) (c .before .before .before .before .loop .inv .1) (c .before .fits-after .ensures) (c .if1 .left)))
 
 returns-2 : tie.Need-returns-2 Inv-loop μ-loop
 returns-2 c = first-end _ (c .before .loop .i) _ (c .before .loop .inv .2) (c .before .loop .inv .0) (c .loop-test .left)
@@ -55,6 +58,7 @@ first-unfit-spec =
     (tie.spec
     Inv-loop
     μ-loop
+    no-entry-requires
     loop-holds
     mul-entry-at
     add-entry-at

@@ -14,8 +14,18 @@ holds-requires-2 c κs = search needs
 entry-fits-requires : tie.Need-entry-fits-requires
 entry-fits-requires c κs = search needs
 
+before-requires : tie.Need-before-requires
+before-requires c κs = search needs
+
 returns : tie.Need-returns
-returns c = all-by _ _ _ _ _ _ _ _ (c .before .entry-fits .ensures) (c .before .before .before .holds .ensures) (c .before .before .holds2 .ensures)
+returns c = all-by _ _ _ _ _ _ _ _ _ (c .before .entry-fits .ensures) (c .before2 .ensures) (c .before .before .before .holds .ensures) (c .before .before .holds2 .ensures)
 
 pub fits-after-spec : {M : Type 1} → statement M
-fits-after-spec = tie.close (tie.spec holds-requires holds-requires-2 entry-fits-requires returns)
+fits-after-spec =
+    tie.close
+    (tie.spec
+    holds-requires
+    holds-requires-2
+    entry-fits-requires
+    before-requires
+    returns)

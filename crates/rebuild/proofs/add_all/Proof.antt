@@ -9,8 +9,7 @@ use Rattle.entries.proofs.Table.{is-table}
 use Rattle.ballots.specs.Ballots.{votesIn}
 use Rattle.ballots.proofs.Votes.{votes-long}
 use Rattle.ballots.proofs.Sound.{lower-good}
-use Rattle.rebuild.proofs.Climbing.{climbs-on}
-use Rattle.rebuild.proofs.Whole.{addedBelow, front-climbs, whole-start, whole-turn, whole-stop, whole-end}
+use Rattle.rebuild.proofs.Whole.{addedBelow, front-sorted, whole-start, whole-turn, whole-stop, whole-end}
 use Rattle.rebuild.proofs.add_all.Statement.{statement}
 use Rattle.rebuild.proofs.add_all.Tie as tie
 
@@ -24,7 +23,7 @@ loop-holds : tie.Need-loop-holds Inv-loop μ-loop
 loop-holds c = (omega arith, whole-start _ _ _ _ _ _ (c .before .before .before .before .pre .1))
 
 add-from-requires : tie.Need-add-from-requires Inv-loop μ-loop
-add-from-requires c κs = (c .before .before .before .before .before .before .before .before .pre .0, c .before .if1 .taken, is-table _ _ _ (c .before .before .before .loop .inv .1), climbs-on _ _ _ _ _ (front-climbs _ _ (c .before .before .before .before .before .before .before .before .args .shape .c) _ _ _ (votes-long _ _ _ _ (c .before .before .before .before .before .before .before .before .pre .0 .counted .given .sent)) (c .before .before .before .before .before .before .before .before .pre .0 .based) (lower-good _ _ _ _ (c .before .before .before .before .before .before .before .before .pre .0 .counted .given) _)) (c .before .before .before .loop .inv .1))
+add-from-requires c κs = (c .before .before .before .before .before .before .before .before .pre .0, c .before .if1 .taken, is-table _ _ _ (c .before .before .before .loop .inv .1), front-sorted _ _ _ _ _ _ (votes-long _ _ _ _ (c .before .before .before .before .before .before .before .before .pre .0 .counted .given .sent)) (c .before .before .before .before .before .before .before .before .pre .0 .based) (lower-good _ _ _ _ (c .before .before .before .before .before .before .before .before .pre .0 .counted .given) _) _ _ (c .before .before .before .loop .inv .1))
 
 same-length : tie.Need-same-length Inv-loop μ-loop
 same-length c = omega (arith, c .before .before .before .before .before .before .before .before .before .before .before .before .pre .1 .size, c .before .before .before .before .before .before .before .loop .inv .1 .size)

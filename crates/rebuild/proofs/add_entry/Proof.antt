@@ -2,7 +2,10 @@
 -- Made by tools/answers from the file `answers` beside it: change that one.
 use native.Mathlib.Omega.{arith}
 use mathlib.Core.Path.{refl}
-use borrow.Author.Tests.{not-false}
+use lib.ListN.{length}
+use Rattle.rules.specs.Entry.{entryOf}
+use Rattle.rules.specs.Image.{tableAt}
+use Rattle.entries.proofs.Sorting.{sorted-rises}
 use Rattle.rebuild.proofs.Added.{entry-passed, entry-full, entry-added}
 use borrow.Author.Needs.{needs}
 use Rattle.rebuild.proofs.add_entry.Statement.{statement}
@@ -21,7 +24,7 @@ returns-2 : tie.Need-returns-2
 returns-2 c = entry-full _ (c .before .before .before .before .before .args .e) _ _ refl _ _ _ (c .before .before .before .before .before .pre .0) (c .before .before .before .if1 .left) (c .before .count .ensures) (c .if2 .taken)
 
 insert-in-order-requires : tie.Need-insert-in-order-requires
-insert-in-order-requires c κs = (c .before .before .before .before .before .before .pre .0, omega arith, c .before .before .before .before .before .before .pre .1 (not-false _ (c .before .before .before .before .if1 .left)))
+insert-in-order-requires c κs = let es = tableAt (c .before .before .before .before .before .before .args .c) (c .before .before .before .before .before .before .args .table .now) 0 in (c .before .before .before .before .before .before .pre .0, omega arith, sorted-rises (entryOf es) (c .before .before .before .before .before .before .args .e) es (length es) refl (λ k _. refl) (c .before .before .before .before .before .before .pre .1))
 
 same-length-2 : tie.Need-same-length-2
 same-length-2 c = search needs

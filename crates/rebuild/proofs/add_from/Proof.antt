@@ -2,8 +2,7 @@
 -- Made by tools/answers from the file `answers` beside it: change that one.
 use borrow.Author.Tests.{not-false}
 use Prim.Native.Nat.{ℕ, _≤_, _<_, _-_}
-use mathlib.Core.Path.{_≡_, ap, _∙_}
-use mathlib.Core.Bool.{Bool, not}
+use mathlib.Core.Path.{_≡_, _∙_}
 use mathlib.Core.Option.{none}
 use native.Mathlib.Omega.{arith}
 use lib.ListN.{length, getD, take}
@@ -15,9 +14,7 @@ use Rattle.entries.proofs.Table.{is-table, row-read}
 use Rattle.ballots.specs.Ballots.{votesIn, voteOf}
 use Rattle.rebuild.specs.Rebuild.{isNew}
 use Rattle.rebuild.proofs.Holders.{counts-some}
-use Rattle.rebuild.proofs.New.{new-later}
-use Rattle.rebuild.proofs.Climbing.{climbs-on, climbs-rise}
-use Rattle.rebuild.proofs.Added.{as-new, log-start, log-turn, log-stop, log-end, from-passed, from-stopped, from-added}
+use Rattle.rebuild.proofs.Added.{sorted-on, as-new, log-start, log-turn, log-stop, log-end, from-passed, from-stopped, from-added}
 use Rattle.rebuild.proofs.add_from.Statement.{statement}
 use Rattle.rebuild.proofs.add_from.Tie as tie
 
@@ -61,7 +58,7 @@ is-new-requires : tie.Need-is-new-requires Inv-loop μ-loop
 is-new-requires c κs = (c .before .before .before .before .before .before .before .before .before .before .before .before .pre .0, c .before .before .before .before .before .before .before .before .before .before .before .before .pre .1)
 
 add-entry-requires : tie.Need-add-entry-requires Inv-loop μ-loop
-add-entry-requires c κs = (is-table _ _ _ (c .before .before .before .before .loop .inv .2), λ t. climbs-rise _ _ _ (climbs-on _ _ _ _ _ (c .before .before .before .before .before .before .before .before .before .before .before .before .before .before .pre .3) (c .before .before .before .before .loop .inv .2)) (new-later _ _ _ (c .before .before .before .before .before .before .before .before .before .before .before .before .before .before .pre .0 .based) _ _ _ (c .before .is-new .ensures) (ap not t)))
+add-entry-requires c κs = (is-table _ _ _ (c .before .before .before .before .loop .inv .2), sorted-on _ _ _ _ (c .before .before .before .before .before .before .before .before .before .before .before .before .before .before .pre .3) (c .before .before .before .before .loop .inv .2))
 
 same-length : tie.Need-same-length Inv-loop μ-loop
 same-length c = omega (arith, c .before .before .before .before .before .before .before .before .before .before .before .before .before .before .before .before .before .before .pre .2 .size)

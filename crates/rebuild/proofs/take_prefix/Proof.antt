@@ -15,11 +15,14 @@ best-vote-requires c κs = search needs
 clear-requires : tie.Need-clear-requires
 clear-requires c κs = search needs
 
+no-entry-requires : tie.Need-no-entry-requires
+no-entry-requires c κs = search needs
+
 same-length : tie.Need-same-length
 same-length c = search needs
 
 returns : tie.Need-returns
-returns c = let l = votes-long _ _ (c .before .before .before .before .before .before .before .before .before .before .before .args .message .now) _ (c .before .before .before .before .before .before .before .before .before .before .before .pre .0 .sent) in let t = c .before .before .before .before .before .before .before .before .before .before .before .pre .2 in let k = c .before .before .before .before .before .before .before .best-vote .ensures (c .before .before .before .before .before .before .before .before .before .before .before .args .message .now) in (refl, based-none _ _ (c .before .before .before .before .before .before .before .before .before .before .before .args .count) _ l t k (c .before .before .before .before .if1 .taken), takes-none _ _ (c .before .before .before .before .before .before .before .before .before .before .before .args .count) _ l t k _ _ (c .before .before .before .before .if1 .taken) (c .before .before .before .before .before .before .before .before .before .before .before .pre .0 .sent .stands .fits .small) (c .before .before .clear .ensures))
+returns c = let l = votes-long _ _ (c .before .before .before .before .before .before .before .before .before .before .before .before .args .message .now) _ (c .before .before .before .before .before .before .before .before .before .before .before .before .pre .0 .sent) in let t = c .before .before .before .before .before .before .before .before .before .before .before .before .pre .2 in let k = c .before .before .before .before .before .before .before .before .best-vote .ensures (c .before .before .before .before .before .before .before .before .before .before .before .before .args .message .now) in (refl, based-none _ _ (c .before .before .before .before .before .before .before .before .before .before .before .before .args .count) _ l t k _ (c .no-entry .ensures) (c .before .before .before .before .before .if1 .taken), takes-none _ _ (c .before .before .before .before .before .before .before .before .before .before .before .before .args .count) _ l t k _ _ (c .before .before .before .before .before .if1 .taken) (c .before .before .before .before .before .before .before .before .before .before .before .before .pre .0 .sent .stands .fits .small) (c .before .before .before .clear .ensures))
 
 log-of-requires : tie.Need-log-of-requires
 log-of-requires c κs = (c .before .before .before .before .before .before .before .pre .0, c .if1 .left, c .before .before .before .best-vote .ensures (c .before .before .before .before .before .before .before .args .message .now) .held (c .if1 .left))
@@ -51,6 +54,7 @@ take-prefix-spec =
     (tie.spec
     best-vote-requires
     clear-requires
+    no-entry-requires
     same-length
     returns
     log-of-requires

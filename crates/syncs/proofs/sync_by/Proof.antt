@@ -6,20 +6,20 @@ use borrow.Author.Needs.{needs}
 use Rattle.syncs.proofs.sync_by.Statement.{statement}
 use Rattle.syncs.proofs.sync_by.Tie as tie
 
-sub-get64 : tie.Need-sub-get64
-sub-get64 c = omega (arith, c .before .before .before .before .before .pre .0 .past)
+sub-entry-at : tie.Need-sub-entry-at
+sub-entry-at c = omega (arith, c .before .before .before .before .before .pre .0 .past)
 
-mul-get64 : tie.Need-mul-get64
-mul-get64 c = omega (arith, c .before .before .before .before .before .pre .0 .inside)
+mul-entry-at : tie.Need-mul-entry-at
+mul-entry-at c = omega (arith, c .before .before .before .before .before .pre .0 .inside)
 
-add-get64 : tie.Need-add-get64
-add-get64 c = omega (arith, c .before .before .before .before .before .before .pre .0 .inside)
+add-entry-at : tie.Need-add-entry-at
+add-entry-at c = omega (arith, c .before .before .before .before .before .before .pre .0 .inside)
 
-get64-requires : tie.Need-get64-requires
-get64-requires c κs = omega (arith, c .before .before .before .before .before .before .pre .0 .inside, c .before .before .before .before .before .before .pre .0 .past)
+entry-at-requires : tie.Need-entry-at-requires
+entry-at-requires c κs = omega (arith, c .before .before .before .before .before .before .pre .0 .inside, c .before .before .before .before .before .before .pre .0 .past)
 
 late-length-requires : tie.Need-late-length-requires
-late-length-requires c κs = (c .before .before .before .before .before .before .before .before .pre .0 .stands, c .before .before .before .before .before .before .before .before .pre .1, last-is (c .before .before .before .before .before .before .before .before .pre .0) _ (c .before .get64 .ensures))
+late-length-requires c κs = (c .before .before .before .before .before .before .before .before .pre .0 .stands, c .before .before .before .before .before .before .before .before .pre .1, last-is (c .before .before .before .before .before .before .before .before .pre .0) _ (c .before .entry-at .ensures))
 
 same-length : tie.Need-same-length
 same-length c = search needs
@@ -40,7 +40,7 @@ tell-synced-requires : tie.Need-tell-synced-requires
 tell-synced-requires c κs = (c .before .before .before .before .before .before .before .before .before .before .before .before .before .before .before .before .pre .0, omega (arith, c .before .before .before .slow-length .ensures, c .before .before .if2 .left))
 
 sync-state-requires : tie.Need-sync-state-requires
-sync-state-requires c κs = (c .before .before .before .before .before .before .before .before .before .before .before .before .before .before .before .before .before .before .before .before .pre .0 .stands, c .before .before .before .before .before .before .before .before .before .before .before .before .before .before .before .before .before .before .before .before .pre .1, last-is (c .before .before .before .before .before .before .before .before .before .before .before .before .before .before .before .before .before .before .before .before .pre .0) _ (c .before .before .before .before .before .before .before .before .before .before .before .before .before .get64 .ensures), c .before .before .before .before .before .before .before .before .before .before .before .before .before .before .before .before .before .before .before .before .pre .0 .room, omega (arith, c .before .before .before .before .before .before .before .before .before .before .before .late-length .ensures, c .before .before .before .before .before .before .before .before .before .if1 .left))
+sync-state-requires c κs = (c .before .before .before .before .before .before .before .before .before .before .before .before .before .before .before .before .before .before .before .before .pre .0 .stands, c .before .before .before .before .before .before .before .before .before .before .before .before .before .before .before .before .before .before .before .before .pre .1, last-is (c .before .before .before .before .before .before .before .before .before .before .before .before .before .before .before .before .before .before .before .before .pre .0) _ (c .before .before .before .before .before .before .before .before .before .before .before .before .before .entry-at .ensures), c .before .before .before .before .before .before .before .before .before .before .before .before .before .before .before .before .before .before .before .before .pre .0 .room, omega (arith, c .before .before .before .before .before .before .before .before .before .before .before .late-length .ensures, c .before .before .before .before .before .before .before .before .before .if1 .left))
 
 same-length-3 : tie.Need-same-length-3
 same-length-3 c = search needs
@@ -55,10 +55,10 @@ pub sync-by-spec : {M : Type 1} → statement M
 sync-by-spec =
     tie.close
     (tie.spec
-    sub-get64
-    mul-get64
-    add-get64
-    get64-requires
+    sub-entry-at
+    mul-entry-at
+    add-entry-at
+    entry-at-requires
     late-length-requires
     same-length
     returns

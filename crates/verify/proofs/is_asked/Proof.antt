@@ -4,14 +4,11 @@ use borrow.Author.Needs.{needs}
 use Rattle.verify.proofs.is_asked.Statement.{statement}
 use Rattle.verify.proofs.is_asked.Tie as tie
 
-is-past-requires : tie.Need-is-past-requires
-is-past-requires c κs = search needs
-
 holds-requires : tie.Need-holds-requires
 holds-requires c κs = search needs
 
 returns : tie.Need-returns
-returns c = rw (c .before .is-past .ensures, c .holds .ensures)
+returns c = rw (c .holds .ensures)
 
 pub is-asked-spec : {M : Type 1} → statement M
-is-asked-spec = tie.close (tie.spec is-past-requires holds-requires returns)
+is-asked-spec = tie.close (tie.spec holds-requires returns)

@@ -1,0 +1,117 @@
+#!/usr/bin/env bash
+# Wrong programs: the C model with one slip, in the place of the core. compare must find a difference, and simulate, where one
+# of its promises speaks of what is wrong, a promise that fails. The last line is 'N found, M missed'; the exit status is 1 if
+# any was missed. With words, only the slips named. A slip's old text stands once in its file. It takes some minutes.
+set -u
+tree=$(cd "$(dirname "$0")/../.." && pwd -P)
+room=$(mktemp -d)
+trap 'rm -rf "$room"' EXIT
+found=0 missed=0
+wanted=" $* "
+
+compile() { # FLAGS AND SOURCES
+    gcc -std=c11 -O1 "$@"
+}
+
+# The two programs but for their core; simulate without a page.
+make_programs() {
+    mkdir -p "$room/programs"
+    echo 'static const char page_head[] = "", page_tail[] = "";' >"$room/page.h"
+    (cd "$room/programs" && compile -I "$tree/include" -I "$room" -c "$tree"/hosts/{compare/compare,simulate/simulate,common/places,model/model}.c) || exit 2
+}
+
+# Copies what a core is made of, puts the slip in, and links the programs with it.
+make_core() { # FILE OLD NEW
+    local text without program
+    rm -rf "$room/hosts" "$room/include"
+    mkdir "$room/hosts"
+    cp -R "$tree/hosts/model" "$tree/hosts/common" "$room/hosts" && cp -R "$tree/include" "$room" || exit 2
+    text=$(<"$room/hosts/$1")
+    without=${text//"$2"/}
+    [ $((${#text} - ${#without})) -eq ${#2} ] || return 1
+    printf '%s\n' "${text/"$2"/"$3"}" >"$room/hosts/$1"
+    compile -c -o "$room/core.o" "$room/hosts/model/core.c" || return 1
+    for program in compare simulate; do
+        compile -o "$room/$program" "$room"/programs/{"$program",places,model}.o "$room/core.o" || return 1
+    done
+}
+
+run() { "$room/$1" "${@:2}" >"$room/out" 2>"$room/said" </dev/null; }
+
+by_compare() { ! run compare --steps 20000 && grep -q '^DIFFERENCE' "$room/out"; }
+
+by_simulate() {
+    local seed shape
+    for seed in {1..12}; do
+        for shape in '3 1' '3 2' '5 2' '5 3'; do
+            # shellcheck disable=SC2086
+            set -- $shape
+            run simulate --quiet --seed "$seed" --sites "$1" --groups "$2" --loss 20 --repeat 10 --steps $((800 * $1 * $2)) || {
+                grep -q 'A PROMISE FAILED' "$room/said"
+                return
+            }
+        done
+    done
+    return 1
+}
+
+told() { # NAME BY WHETHER
+    if [ "$3" -eq 0 ]; then found=$((found + 1)); else missed=$((missed + 1)); fi
+    printf '%-33s %-9s ' "$1" "$2"
+    if [ "$3" -eq 0 ]; then grep -h -m 1 -e '^DIFFERENCE' -e PROMISE "$room/out" "$room/said"; else echo MISSED; fi
+}
+
+slip() { # NAME FILE OLD NEW FOUND-BY...
+    local name=$1 by status
+    [ "$wanted" = '  ' ] || [[ $wanted = *" $name "* ]] || return
+    make_core "$2" "$3" "$4" || {
+        told "$name" 'no core' 1
+        return
+    }
+    shift 4
+    for by in "$@"; do
+        "by_$by"
+        status=$?
+        told "$name" "$by" "$status"
+    done
+}
+
+make_programs
+
+# ---- the order of timestamp, coordinator, request
+
+slip request_before_coordinator common/layout.h \
+    'one.transaction > other.transaction' \
+    '(one.transaction << 32 | one.transaction >> 32) > (other.transaction << 32 | other.transaction >> 32)' compare simulate
+slip ties_by_arrival common/layout.h \
+    '(one.timestamp == other.timestamp && one.transaction > other.transaction)' 'false' compare simulate
+slip equal_times_in_a_log model/model.c \
+    'bool in_range = later(own, last) &&' 'bool in_range = own.timestamp >= last.timestamp &&' compare
+slip lifted_to_the_last model/model.c \
+    'own->last.timestamp + 1 : due' 'own->last.timestamp : due' compare simulate
+slip lifted_needlessly model/model.c \
+    'own->leads && !follows ? own->last.timestamp + 1' 'own->leads && due <= own->last.timestamp ? own->last.timestamp + 1' compare simulate
+slip lifted_past_the_greatest model/model.c \
+    'stamp > GREATEST_TIMESTAMP' 'stamp > GREATEST_TIMESTAMP + 1' compare
+slip lifted_short_of_the_greatest model/model.c \
+    'stamp > GREATEST_TIMESTAMP' 'stamp >= GREATEST_TIMESTAMP' compare
+slip lifted_before_known model/model.c \
+    'if (index_find(&work.known, transaction) != NOWHERE)' \
+    'if (stamp > GREATEST_TIMESTAMP) return JALLUMERE_FULL; if (index_find(&work.known, transaction) != NOWHERE)' compare
+slip early_tie_is_good model/model.c \
+    '(row){.last = own->last,' '(row){.last = {own->last.timestamp, 0},' compare
+slip tie_kept_early model/model.c \
+    'early = own->leads || follows' 'early = own->leads || due >= own->last.timestamp' compare simulate
+slip sync_leaves_tie_early model/model.c \
+    '(last != NULL && !later(key_of(place), *last))' '(last != NULL && timestamp_of(place) < last->timestamp)' compare simulate
+slip sync_loses_tie model/model.c \
+    'i < own->late || !later(key_of(bytes), last)' 'i < own->late || timestamp_of(bytes) < last.timestamp' compare
+slip rebuilt_by_time model/model.c \
+    'if (later(entry.key, last) &&' 'if (entry.key.timestamp > last.timestamp &&' compare simulate
+slip rebuilt_from_boundary model/model.c \
+    'if (later(entry.key, last) &&' 'if (entry.key.timestamp >= last.timestamp &&' compare simulate
+slip told_past_the_boundary model/model.c \
+    'timestamp_of(bytes) >= now->told.numbers[0]' 'timestamp_of(bytes) > now->told.numbers[0]' compare simulate
+
+echo "$found found, $missed missed"
+[ "$missed" -eq 0 ]
