@@ -51,12 +51,12 @@ pub struct Listed {
 
 // ---- an entry comes
 
-// Puts e into the buffer.
+// Puts e into the buffer, in its place.
 pub fn put(t: &mut [u8], c: usize, e: Entry)
-    requires { ⌜ Table c (now t) × (length (tableAt c (now t) 0) < c) ⌝ }
-    ensures { λ _. ⌜ Holds c (tableAt c (now (t .entry)) 0 ++ (e ∷ [])) (now (t .exit)) ⌝ }
+    requires { ⌜ Table c (now t) × (length (tableAt c (now t) 0) < c) × Sorted (tableAt c (now t) 0) ⌝ }
+    ensures { λ _. ⌜ Holds c (place e (tableAt c (now (t .entry)) 0)) (now (t .exit)) ⌝ }
 {
-    entries::append(t, c, e);
+    entries::insert_in_order(t, c, e);
 }
 
 // Puts e, which is entry i at another timestamp, in its place.
@@ -64,7 +64,7 @@ pub fn lift(t: &mut [u8], c: usize, i: usize, e: Entry)
     requires { ⌜ Table c (now t) × (i < length (tableAt c (now t) 0)) ⌝ }
     ensures { λ _. ⌜ Holds c (set (tableAt c (now (t .entry)) 0) i e) (now (t .exit)) ⌝ }
 {
-    entries::replace_at(t, c, i, e);
+    entries::move_on(t, c, i, e);
 }
 
 // ---- those that are due

@@ -64,6 +64,15 @@ fn all_fit(b: &[u8], at: usize, c: usize, last: Entry, s: u64, k: u64) -> bool
     logs::all_fit(b, at + 4, n, last, s, k)
 }
 
+// Whether each entry of the table at `at` fits after the one before it, and the first after the entry `last`.
+fn rise_from(b: &[u8], at: usize, c: usize, last: Entry, s: u64, k: u64) -> bool
+    requires { ⌜ at + tableLength c ≤ length (now b) ⌝ }
+    ensures { λ r. ⌜ r ≡ riseFrom s k last (tableAt c (now (b .entry)) at) ⌝ }
+{
+    let n = count_at(b, at, c);
+    logs::rise_from(b, at + 4, n, last, s, k)
+}
+
 // The last entry of the table at `at`, no entry where it has none.
 fn last_entry(b: &[u8], at: usize, c: usize) -> Entry
     requires { ⌜ at + tableLength c ≤ length (now b) ⌝ }
@@ -263,7 +272,7 @@ fn entries_good(shape: Shape, state: &[u8], slots: &mut [u16]) -> bool
     let group = places::get_group(state);
     let last = last_entry(state, layout.log, c);
     let log = rows_fit(state, layout.log, c, shape.s, group);
-    let early = all_fit(state, layout.early, c, last, shape.s, group);
+    let early = rise_from(state, layout.early, c, last, shape.s, group);
     let late = all_fit(state, layout.late, c, entries::no_entry(), shape.s, group);
     let apart = logs::distinct3(state, layout.log, layout.early, layout.late, c, slots);
     log & (early & (late & apart))

@@ -1,7 +1,7 @@
 -- Entries in a row of bytes, and an entry that can stand where it does in a log, its transaction aside.
 use Prim.Native.Nat.{ℕ, _+_, _*_, _≤_}
-use mathlib.Core.Bool.{Bool, _&&_, not}
-use mathlib.Core.List.{List}
+use mathlib.Core.Bool.{Bool, true, _&&_, not}
+use mathlib.Core.List.{List, [], _∷_}
 use lib.ListN.{length}
 use Rattle.octets.specs.Bytes.{num}
 use Rattle.rules.specs.Group.{holds}
@@ -16,6 +16,11 @@ rowAt b at i = entryAt b (at + 24 * i)
 -- after the entry `last`, in a log of group k: the entry is in range and lies after `last`, and its mask holds k, and j too
 unfoldable pub fits : ℕ → ℕ → ℕ → Entry → Entry → Bool
 fits s k j last e = entryFits s e && (before last e && (holds (e .mask) k && holds (e .mask) j))
+
+-- each entry fits after the one before it, and the first after `last`
+unfoldable pub riseFrom : ℕ → ℕ → Entry → List Entry → Bool
+riseFrom s k last [] = true
+riseFrom s k last (e ∷ es) = fits s k k last e && riseFrom s k e es
 
 -- entry i of entries in a row does not fit after the one before it
 abbrev pub unfitAt : ℕ → ℕ → ℕ → (ℕ → Entry) → ℕ → Bool

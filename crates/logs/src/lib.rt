@@ -15,7 +15,7 @@ ghost use Rattle.rules.specs.Read.{entryAt};
 ghost use Rattle.rules.specs.Image.{tableAt};
 ghost use Rattle.repeats.specs.Repeat.{firstTo};
 ghost use Rattle.entries.specs.Rows.{entrySpots};
-ghost use Rattle.logs.specs.Place.{rowAt, fits, unfitAt, Within};
+ghost use Rattle.logs.specs.Place.{rowAt, fits, riseFrom, unfitAt, Within};
 
 // Whether every field of an entry is in range, where there are s groups.
 pub fn entry_fits(e: Entry, s: u64) -> bool
@@ -70,6 +70,24 @@ pub fn all_fit(b: &[u8], at: usize, count: usize, last: Entry, s: u64, k: u64) -
         if !fits_after(entries::entry_at(b, at + 24 * i), last, s, k, k) {
             return false;
         }
+        i += 1;
+    }
+    true
+}
+
+// Whether each of `count` entries from `at` on fits after the one before it, and the first after the entry `last`.
+pub fn rise_from(b: &[u8], at: usize, count: usize, last: Entry, s: u64, k: u64) -> bool
+    requires { ⌜ at + 24 * count ≤ length (now b) ⌝ }
+    ensures { λ r. ⌜ r ≡ riseFrom s k last (items (entryAt (now (b .entry))) 24 at count) ⌝ }
+{
+    let mut lower = last;
+    let mut i = 0;
+    while i < count {
+        let e = entries::entry_at(b, at + 24 * i);
+        if !fits_after(e, lower, s, k, k) {
+            return false;
+        }
+        lower = e;
         i += 1;
     }
     true
