@@ -1,7 +1,8 @@
 -- One early entry after the other goes to the log, and all of them leave early and the notes. Assumes nothing.
-use Prim.Native.Nat.{ℕ, _+_, _≤_}
-use mathlib.Core.Path.{_≡_, sym, ap, subst, _∙_}
-use mathlib.Core.List.{List, []}
+use Prim.Native.Nat.{ℕ}
+use mathlib.Core.Path.{_≡_, refl, sym, ap, subst, _∙_}
+use mathlib.Core.List.{List, [], _∷_}
+use native.Mathlib.Omega.{arith}
 use lib.ListN.{length, take, drop}
 use Rattle.octets.specs.Bytes.{num, items}
 use Rattle.rules.specs.Choice.{keep}
@@ -11,6 +12,7 @@ use Rattle.rules.specs.Image.{stateOf}
 use Rattle.rules.specs.Early.{notesWithout}
 use Rattle.rules.specs.declared.Entry.{Entry}
 use Rattle.rules.specs.declared.Shape.{Shape}
+use Rattle.notes.specs.Notes.{notesAt, Notes}
 use Rattle.releases.specs.Releasing.{Releasing, Reaches, logging, earlyLeft, notesLeft, Noted, Cleared}
 
 -- it went to the log
@@ -25,14 +27,19 @@ pub copies-noted : {sh : Shape} (b : List ℕ) {b′ : List ℕ} (n k : ℕ) (u 
 copies-noted {sh} b {b′} n k u e r = subst (λ (gone : List Entry). Reaches sh (notesLeft (stateOf sh b) gone) b′) e r
 
 -- there is no note
-pub none-noted : {sh : Shape} {b : List ℕ} (n : ℕ) → Releasing sh b → stateOf sh b .waiting .notes ≡ [] → Noted sh b n b
+pub none-noted : {sh : Shape} {b : List ℕ} (n : ℕ) → Releasing sh b → (t : List ℕ) → Notes (sh .c) (sh .s) t × (notesAt (sh .c) (sh .s) t ≡ stateOf sh b .waiting .notes) → (k : ℕ) → k ≡ num t 0 4 → k ≡ 0 → Noted sh b n b
 unfolding keep
-none-noted {sh} {b} n m e =
+none-noted {sh} {b} n m t (g, e) k q z =
     let st = stateOf sh b in
+    let y : st .waiting .notes ≡ [] = sym e ∙ nothing (notesAt (sh .c) (sh .s) t) (sym (g .count) ∙ sym q ∙ z) in
     record {
-      is = sym (ap (λ (xs : List Note). withWaiting (st .waiting .early) (st .waiting .late) xs st) (ap (notesWithout (drop n (st .logged .log))) e ∙ sym e));
+      is = sym (ap (λ (xs : List Note). withWaiting (st .waiting .early) (st .waiting .late) xs st) (ap (notesWithout (drop n (st .logged .log))) y ∙ sym y));
       releasing = m;
     }
+  where
+    nothing : (xs : List Note) → length xs ≡ 0 → xs ≡ []
+    nothing [] h = refl
+    nothing (x ∷ xs) h = absurd (omega arith)
 
 -- early is left, then the notes
 pub all-left : {sh : Shape} (b : List ℕ) {b₁ b₂ : List ℕ} (n k : ℕ) → drop n (stateOf sh b .logged .log) ≡ take k (stateOf sh b .waiting .early)
