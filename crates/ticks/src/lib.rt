@@ -49,7 +49,7 @@ fn tell_unplaced(shape: Shape, state: &[u8], out: &mut [u8], time: u64) -> usize
         (r ≡ lengthFor (shape .s) 5 1)
         × (now (out .exit) ≡ splice (now (out .entry)) 0 (wireBytes (unplacedReply st (entryOf (dueOf time (st .waiting .early)) 0))))) ⌝ }
 {
-    let from = releases::early_place(shape, releases::first_due(shape, state, time));
+    let from = releases::early_place(shape, 0);
     let end = from + 24;
     let sum = releases::log_digest(shape, state);
     let m = Message::FastReply(
@@ -119,7 +119,7 @@ fn release(
     let mut at = 0;
     let mut i = 0;
     while i < k {
-        sum = releases::release_one(shape, state, time, n, i, sum);
+        sum = releases::release_one(shape, state, n, i, sum);
         at = tell_placed(shape, state, out, at, n + i, sum);
         i += 1;
     }
