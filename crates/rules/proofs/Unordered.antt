@@ -29,7 +29,7 @@ use Rattle.rules.specs.Step.{fitting, released, placedReply, placedRepli
 use Rattle.rules.specs.Step.{onChangeView, starts, verifies, keepsVote, voteIn, onVote, onStartView, onVerifyRequest, onVerifyReply, handle, step}
 use Rattle.rules.specs.declared.Entry.{Entry}
 use Rattle.rules.specs.declared.Shape.{Shape}
-use Rattle.rules.proofs.Order.{Perm, perm-none, perm-next, perm-swap, perm-then, perm-same, perm-shift, perm-behind, perm-front, perm-length, perm-any, perm-pairs, Sorted, before-asym, before-stamps, key-txn, place-perm, ordered-unique}
+use Rattle.rules.proofs.Order.{Perm, perm-none, perm-next, perm-swap, perm-then, perm-same, perm-back, perm-shift, perm-behind, perm-front, perm-length, perm-any, perm-pairs, Sorted, before-asym, before-stamps, key-txn, place-perm, ordered-unique}
 use Rattle.rules.proofs.Choice.{Pairs, all-map, pairs-keep, pairs-map, pairs-front, pairs-back, fails, clash}
 use Rattle.rules.proofs.Logs.{Apart, apart-turns, rise-pairs, distinct-pairs}
 use Rattle.rules.proofs.Conjuncts.{good-is}
@@ -137,12 +137,6 @@ agree-same (done a ms) = both-done ms (alike-same a)
 -- ---- permutations
 
 module _ {A : Type 0} where
-  perm-back : {xs ys : List A} → Perm xs ys → Perm ys xs
-  perm-back perm-none = perm-none
-  perm-back (perm-next x h) = perm-next x (perm-back h)
-  perm-back (perm-swap x y xs) = perm-swap y x xs
-  perm-back (perm-then h k) = perm-then (perm-back k) (perm-back h)
-
   perm-map : (f : A → A) {xs ys : List A} → Perm xs ys → Perm (map f xs) (map f ys)
   perm-map f perm-none = perm-none
   perm-map f (perm-next x h) = perm-next (f x) (perm-map f h)
