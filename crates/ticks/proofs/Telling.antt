@@ -109,7 +109,7 @@ module _ {sh : Shape} {b : List ℕ} (m : Releasing sh b) where
     unplaced-told out out′ r sum h hh hs w =
         let e = entryOf (stateOf sh b .waiting .early) i in
         let s = said out out′ (take (end - from) (drop from b)) 0 r 5 255 1 (FastReply h 0 0 sum) (0 ∷ 0 ∷ sum ∷ []) (e ∷ []) hh refl (unplaced-bytes ∙ one-flat e) (all-at EntryFits noEntry (stateOf sh b .waiting .early) (m .midway .holds .early .each) i hi, tt) refl refl w in
-        (omega (arith, s .0), s .1 ∙ rw (hs, hd))
+        (omega (arith, s .0), s .1 ∙ rw hs)
 
   -- ---- the log, to all followers
   module _ (from end : ℕ) (hf : from ≡ startOf sh atLog + 4) (he : end ≡ from + 24 * length (stateOf sh b .logged .log)) where
