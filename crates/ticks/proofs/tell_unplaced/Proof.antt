@@ -1,11 +1,8 @@
--- `ticks::tell_unplaced` meets its contract: the bytes lent are those of the first entry due, which is the first of early. Assumes nothing.
+-- `ticks::tell_unplaced` meets its contract: the bytes lent are those of the first of early. Assumes nothing.
 -- Made by tools/answers from the file `answers` beside it: change that one.
-use Prim.Native.Nat.{_+_, _<_}
-use mathlib.Core.Path.{refl, sym}
+use Prim.Native.Nat.{_+_}
+use mathlib.Core.Path.{refl}
 use native.Mathlib.Omega.{arith}
-use lib.ListN.{length}
-use Rattle.rules.specs.Image.{stateOf}
-use Rattle.early.proofs.Leading.{due-at, due-within}
 use Rattle.ticks.proofs.Telling.{unplaced-room, unplaced-told}
 use borrow.Author.Needs.{needs}
 use Rattle.ticks.proofs.tell_unplaced.Statement.{statement}
@@ -33,13 +30,13 @@ part-tell-end : tie.Need-part-tell-end
 part-tell-end c = search needs
 
 tell-requires : tie.Need-tell-requires
-tell-requires c κs = let st = stateOf (c .before .before .before .before .before .before .before .args .shape) (c .before .before .before .before .before .before .before .args .state .now) in let w : 0 < length (st .waiting .early) = omega (arith, c .before .before .before .before .before .before .before .pre .1, due-within (c .before .before .before .before .before .before .before .args .time) (st .waiting .early)) in unplaced-room (c .before .before .before .before .before .before .before .pre .0) (c .before .before .before .before .early-place .result) (c .before .before .before .before .early-place .result + 24) 0 0 (c .before .before .before .before .early-place .ensures .0) refl w _ (c .before .before .before .before .before .before .before .pre .2)
+tell-requires c κs = unplaced-room (c .before .before .before .before .before .before .before .pre .0) (c .before .before .before .before .early-place .result) (c .before .before .before .before .early-place .result + 24) 0 (c .before .before .before .before .early-place .ensures .0) refl (c .before .before .before .before .before .before .before .pre .1) _ (c .before .before .before .before .before .before .before .pre .2)
 
 same-length : tie.Need-same-length
 same-length c = search needs
 
 returns : tie.Need-returns
-returns c = let st = stateOf (c .before .before .before .before .before .before .before .before .before .before .args .shape) (c .before .before .before .before .before .before .before .before .before .before .args .state .now) in let w : 0 < length (st .waiting .early) = omega (arith, c .before .before .before .before .before .before .before .before .before .before .pre .1, due-within (c .before .before .before .before .before .before .before .before .before .before .args .time) (st .waiting .early)) in unplaced-told (c .before .before .before .before .before .before .before .before .before .before .pre .0) (c .before .before .before .before .before .before .before .early-place .result) (c .before .before .before .before .before .before .before .early-place .result + 24) 0 (c .before .before .before .before .before .before .before .before .before .before .args .time) (c .before .before .before .before .before .before .before .early-place .ensures .0) refl w _ _ _ _ _ (c .before .before .before .before .before .headed .ensures) (c .before .before .before .before .before .before .log-digest .ensures) (sym (due-at (c .before .before .before .before .before .before .before .before .before .before .args .time) (st .waiting .early) 0 (c .before .before .before .before .before .before .before .before .before .before .pre .1))) (c .before .before .tell .ensures)
+returns c = unplaced-told (c .before .before .before .before .before .before .before .before .before .before .pre .0) (c .before .before .before .before .before .before .before .early-place .result) (c .before .before .before .before .before .before .before .early-place .result + 24) 0 (c .before .before .before .before .before .before .before .early-place .ensures .0) refl (c .before .before .before .before .before .before .before .before .before .before .pre .1) _ _ _ _ _ (c .before .before .before .before .before .headed .ensures) (c .before .before .before .before .before .before .log-digest .ensures) (c .before .before .tell .ensures)
 
 pub tell-unplaced-spec : {M : Type 1} → statement M
 tell-unplaced-spec =
