@@ -17,7 +17,7 @@
 #include <stdint.h>
 
 /* The version of this interface: major * 10000 + minor * 100 + patch. */
-#define JALLUMERE_VERSION 20000
+#define JALLUMERE_VERSION 20100
 
 /* What stands in the place of a group's or a replica's number for whatever is outside every group. */
 #define JALLUMERE_OUTSIDE 255
@@ -146,10 +146,19 @@ uint64_t jallumere_step(uint64_t n, uint64_t s, uint64_t c, uint8_t *state, size
 /*
  * Whether these bytes are a good state: JALLUMERE_DONE where they are, JALLUMERE_WRONG_STATE where not (or a
  * size or the length is wrong): exactly where a step would refuse with it. Writes nothing. A good state need not
- * be the one that was stored: keep a digest beside it. Its logs rise strictly by timestamp, coordinator, request,
- * and its early entries are later than the log's last.
+ * be the one that was stored: keep a digest beside it. Its logs and its early entries rise strictly by timestamp,
+ * coordinator, request, and its early entries are later than the log's last.
  */
 uint64_t jallumere_good(uint64_t n, uint64_t s, uint64_t c, const uint8_t *state, size_t state_length);
+
+/*
+ * Puts the early entries of a state into the order of timestamp, coordinator, request, and keeps every one of them; no
+ * other byte changes. It is for a state that a core before interface 2.1 has left, whose early entries stand as they
+ * came: once, before the first step. Gives JALLUMERE_DONE; or, with `state` as it was, JALLUMERE_WRONG_STATE where a
+ * size or the length is wrong, or the state is not good for another reason than that order. A good state stays as it
+ * is, byte for byte.
+ */
+uint64_t jallumere_order(uint64_t n, uint64_t s, uint64_t c, uint8_t *state, size_t state_length);
 
 /*
  * What a field of a state says, by its number in enum jallumere_field_number; JALLUMERE_NOTHING where a size, the

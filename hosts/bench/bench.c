@@ -1,6 +1,7 @@
-/* What a step costs: core against model, for each kind that a site handles, at capacities 16, 256 and 4,096, with logs
- * from empty to full, for the smallest and the largest shape (n = 3, S = 1 and n = 7, S = 8). The figures go to the
- * standard output as lines of CSV, of which ./jallumere bench has tables or a drawing made (--help lists the options).
+/* What a step costs, and putting a state in order: core against model, for each kind that a site handles, at capacities
+ * 16, 256 and 4,096, with logs from empty to full, for the smallest and the largest shape (n = 3, S = 1 and n = 7,
+ * S = 8). The figures go to the standard output as lines of CSV, of which ./jallumere bench has tables or a drawing
+ * made (--help lists the options).
  *
  * Some rows are measured with chosen transactions too, in the same state but for these.
  *
@@ -32,10 +33,24 @@ static uint64_t turns = 20;
 /* ---- the rows ----------------------------------------------------------------------------------------- */
 
 /* How many of something, by the sizes; an eighth of a table is what waits early, and what a large step takes. */
-enum amount { NONE, ONE, EIGHTH, TABLE, HALF_GROUPS, OTHER_GROUPS, GROUPS, MINORITY, FEW_REPLIES, MOST_REPLIES };
+enum amount {
+    NONE,
+    ONE,
+    EIGHTH,
+    ALL_BUT_ONE,
+    TABLE,
+    HALF_GROUPS,
+    OTHER_GROUPS,
+    GROUPS,
+    MINORITY,
+    FEW_REPLIES,
+    MOST_REPLIES
+};
 
 /* Which entry a message of kind 1 or 3 names. */
 enum named { NEW, FIRST_EARLY, LAST_EARLY };
+
+enum { ORDERING }; /* in the place of a kind: no step, but jallumere_order */
 
 /* A state and a message. The state is in view 2, normal and a follower's where the row says nothing else. With
  * kinds 4 and 23 the early entries are those that follow the log, else later ones. */
@@ -49,16 +64,22 @@ typedef struct {
     enum amount held; /* each early entry's notes at a normal leader, else votes or replies */
     enum amount adds; /* entries that the step adds to the log */
     enum named names;
-    uint8_t view;                              /* the message's, where it is another than the state's */
-    bool elsewhere, no_room;                   /* to another site; without an outgoing buffer */
+    bool amid;               /* due in the middle of early; of a timestamp note: lifted behind all of it */
+    bool reversed;           /* early stands the other way round */
+    uint8_t view;            /* the message's, where it is another than the state's */
+    bool elsewhere, no_room; /* to another site; without an outgoing buffer */
     uint8_t state_cut, message_cut, last_byte; /* bytes that are missing; what the last place, a free one, holds */
 } row;
 
 static const row rows[] = {
     {1, "transaction, leader", .leads = true, .early = EIGHTH, .held = HALF_GROUPS},
     {1, "transaction, follower", .early = EIGHTH, .late = EIGHTH},
+    {1, "amid C-1 early, leader", .leads = true, .early = ALL_BUT_ONE, .held = HALF_GROUPS, .amid = true},
+    {1, "amid C-1 early, foll.", .early = ALL_BUT_ONE, .amid = true},
     {3, "timestamp note, agrees", .leads = true, .early = EIGHTH, .held = OTHER_GROUPS, .names = FIRST_EARLY},
     {3, "timestamp note, first", .leads = true, .early = EIGHTH, .held = HALF_GROUPS},
+    {3, "note lifts over C-1", 0, .leads = true, .early = TABLE, .held = OTHER_GROUPS, .names = FIRST_EARLY,
+     .amid = true},
     {4, "replica sync, 1 new", .early = EIGHTH, .adds = ONE, .chosen = true},
     {4, "replica sync, C/8 new", .early = EIGHTH, .adds = EIGHTH},
     {7, "change view, leader", .leads = true, .early = EIGHTH, .held = HALF_GROUPS, .view = 3},
@@ -78,6 +99,8 @@ static const row rows[] = {
     {23, "tick, follower, 1 due", .early = EIGHTH, .adds = ONE},
     {23, "tick, follower, C/8 due", .early = EIGHTH, .adds = EIGHTH},
     {23, "tick, buffers full", .early = TABLE, .late = TABLE, .chosen = true},
+    {ORDERING, "order, C early reversed", .early = TABLE, .reversed = true},
+    {ORDERING, "order, C early in order", .early = TABLE},
     {23, "1: wrong length", 1, .early = EIGHTH, .state_cut = 1},
     {23, "1: last byte wrong", 1, .early = EIGHTH, .last_byte = 1},
     {23, "2: a byte short", 2, .early = EIGHTH, .message_cut = 1},
@@ -100,6 +123,7 @@ typedef struct {
     uint64_t filled; /* entries that the log shall have */
     uint64_t logged; /* that it has: where a step adds to the log, a full log is one that is full after it */
     unsigned answer;
+    size_t room;                   /* in the outgoing buffer */
     double best[2];                /* nanoseconds of core and model; 0 before they are measured */
     const attack *against;         /* where transactions are chosen: against what, */
     uint64_t first_chosen, chosen; /* the position of the first, how many they are, */
@@ -111,7 +135,7 @@ static size_t cell_count;
 
 static uint64_t amount_of(enum amount amount, const layout *at) {
     const uint64_t n = at->n, s = at->s, c = at->c;
-    const uint64_t amounts[] = {0, 1, c / 8, c, (s + 1) / 2, s - 1, s, majority_of(n) - 1, s / 2 - 1, s - 2};
+    const uint64_t amounts[] = {0, 1, c / 8, c - 1, c, (s + 1) / 2, s - 1, s, majority_of(n) - 1, s / 2 - 1, s - 2};
     return amounts[amount];
 }
 
@@ -121,6 +145,7 @@ static void add_cell(const row *of, const uint64_t shape[2], uint64_t capacity, 
     uint64_t added = amount_of(of->adds, &made.at);
     made.filled = capacity * sixteenths[fill] / 16;
     made.logged = made.filled + added <= capacity ? made.filled : capacity - added;
+    made.room = of->no_room ? 0 : ample_room(&made.at);
     if (of->kind == JALLUMERE_COMMIT && made.answer == JALLUMERE_DONE && made.filled == 0)
         made.answer = JALLUMERE_NOTHING_TO_DO; /* with an empty log a commit point cannot rise */
     if (forms[of->kind].sender != OTHER_LEADER || made.at.s > 1)
@@ -175,20 +200,17 @@ static void put_entries(const cell *now, uint8_t *table, uint64_t first, uint64_
     store(table, kept, 4);
 }
 
-/* Early entries, at a leader with their notes of the first so many groups. Those that share a time stand against the
- * order: a buffer has that of arrival. */
+/* Early entries, at a leader with their notes of the first so many groups. */
 static void put_early(const cell *now, uint64_t count, uint64_t held) {
     const row *of = now->of;
     bool follow = of->kind == JALLUMERE_REPLICA_SYNC || of->kind == JALLUMERE_TICK;
     uint8_t *early = state + now->at.early, kept[ENTRY_LENGTH];
     put_entries(now, early, follow ? now->logged : now->at.c, count, OWN);
-    for (uint64_t i = 1; i < count; i++) {
-        uint8_t *one = early + entry_place(i - 1), *other = early + entry_place(i);
-        if (load(one, 8) == load(other, 8)) {
-            memcpy(kept, one, ENTRY_LENGTH);
-            memcpy(one, other, ENTRY_LENGTH);
-            memcpy(other, kept, ENTRY_LENGTH);
-        }
+    for (uint64_t i = 0; of->reversed && i < count / 2; i++) {
+        uint8_t *one = early + entry_place(i), *other = early + entry_place(count - 1 - i);
+        memcpy(kept, one, ENTRY_LENGTH);
+        memcpy(one, other, ENTRY_LENGTH);
+        memcpy(other, kept, ENTRY_LENGTH);
     }
     store(state + now->at.notes, of->leads ? count : 0, 4);
     for (uint64_t i = 0; of->leads && i < count; i++) {
@@ -240,7 +262,7 @@ static void put_section(const cell *now, uint8_t *table, int sender) {
     if (of->kind == JALLUMERE_TRANSACTION) /* it has no timestamp yet */
         store(table + entry_place(0), 0, 8);
     if (of->kind == JALLUMERE_TIMESTAMP_NOTE && of->names == FIRST_EARLY) /* later than the notes that are held */
-        store(table + entry_place(0), time_of(c) + 5, 8);
+        store(table + entry_place(0), time_of(of->amid ? 2 * c : c) + 5, 8);
 }
 
 static void put_letter(const cell *now) {
@@ -248,7 +270,7 @@ static void put_letter(const cell *now) {
     const row *of = now->of;
     const form *has = &forms[of->kind];
     message made = message_of_kind(of->kind, now->at.s);
-    uint64_t kind = of->kind, due = amount_of(of->adds, &now->at);
+    uint64_t kind = of->kind, due = amount_of(of->adds, &now->at), c = now->at.c;
     uint8_t *table = letter + length_of(&made) - 4;
     made.views = views;
     made.to_group = 0;
@@ -258,7 +280,7 @@ static void put_letter(const cell *now) {
         made.from_replica = has->sender == OTHER_REPLICA ? now->at.n - 1 : 0;
     }
     made.view = !has->has_views ? 0 : of->view == 0 ? OWN_VIEW : of->view;
-    made.numbers[0] = kind == JALLUMERE_TRANSACTION      ? 10 * now->at.c
+    made.numbers[0] = kind == JALLUMERE_TRANSACTION      ? (of->amid ? time_of(c + c / 2) - 100 : 10 * c)
                       : kind == JALLUMERE_VOTE           ? made.view - 1
                       : kind == JALLUMERE_TICK           ? (due == 0 ? 0 : time_of(now->logged + due - 1))
                       : kind == JALLUMERE_VERIFY_REQUEST ? 0 /* the whole log */
@@ -273,9 +295,18 @@ static void put_letter(const cell *now) {
 /* ---- measuring ---------------------------------------------------------------------------------------- */
 
 static __typeof__(jallumere_step) *const steps[2] = {jallumere_step, model_step};
+static __typeof__(jallumere_order) *const orders[2] = {jallumere_order, model_order};
 
 /* Copies of one state for a side, and the buffer that its steps send into. */
 static uint8_t *copies[2], *out[2];
+
+/* The call that a cell measures, by one side, on one copy. */
+static inline uint64_t make_call(const cell *now, int side, uint8_t *own) {
+    const size_t lent = now->at.length - now->of->state_cut;
+    return now->of->kind == ORDERING
+               ? orders[side](SIZES(&now->at), own, lent)
+               : steps[side](SIZES(&now->at), own, lent, letter, letter_length, out[side], now->room);
+}
 
 /* What reading the clock takes of a measured time. */
 static double clock_time;
@@ -301,8 +332,7 @@ static void check_same(const cell *now, const uint64_t answers[2]) {
 
 /* Turns of both sides, each over as many copies of the state; a cell keeps the best of this pass and those before. */
 static void measure(cell *now) {
-    size_t length = now->at.length, lent = length - now->of->state_cut, count = COPIES_BYTES / length;
-    size_t room = now->of->no_room ? 0 : ample_room(&now->at);
+    size_t length = now->at.length, count = COPIES_BYTES / length;
     uint64_t answers[2] = {0, 0};
     count = count < 1 ? 1 : count > COPIES_MOST ? COPIES_MOST : count;
     put_state(now);
@@ -314,7 +344,7 @@ static void measure(cell *now) {
                 memcpy(copies[side] + length * i, state, length);
             double before = thread_time();
             for (uint8_t *own = copies[side]; own < copies[side] + length * count; own += length)
-                answers[side] = steps[side](SIZES(&now->at), own, lent, letter, letter_length, out[side], room);
+                answers[side] = make_call(now, side, own);
             double taken = thread_time() - before - clock_time;
             taken = (taken < 1 ? 1 : taken) / (double)count;
             if (now->best[side] == 0 || taken < now->best[side])

@@ -19,6 +19,12 @@ END {
     draw_all()
 }
 
+# What is no step has the kind 0, which is not shown.
+function title_of(name) {
+    sub(/^0 /, "", name)
+    return name
+}
+
 function log10(value) {
     return log(value) / log(10)
 }
@@ -142,7 +148,7 @@ function draw_section(shape_place, top,    i, place) {
     printf "<text class=\"section\" x=\"24\" y=\"%d\">%s</text>\n", top + 26, shapes[shape_place]
     for (i = 1; i <= rows; i++)
         if (row_shape[row_key[i]] == shape_place && row_key[i] in done)
-            draw_panel(row_key[i], row_name[i], place++, top + section_head)
+            draw_panel(row_key[i], title_of(row_name[i]), place++, top + section_head)
 }
 
 function draw_all(    i, width, height, top) {

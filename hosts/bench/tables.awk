@@ -36,8 +36,9 @@ function print_head(head,    bars) {
     print "| kind | step                    |" head "\n|--:|---|" bars
 }
 
+# What is no step has the kind 0, which is not shown.
 function name_of(name) {
-    return sprintf("| %4d | %-23s |", name, substr(name, index(name, " ") + 1))
+    return sprintf("| %4s | %-23s |", name + 0 == 0 ? "" : name + 0, substr(name, index(name, " ") + 1))
 }
 
 function head_of_cells() {

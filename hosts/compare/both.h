@@ -37,12 +37,13 @@ static letter copy_of(const uint8_t *bytes, size_t length) {
 /* ---- what has been reached --------------------------------------------------------------------------- */
 
 /* Where a step's state and message come from. */
-enum origin { FROM_RUN, FROM_EDIT, BUILT, DAMAGED_MESSAGE, DAMAGED_STATE, WRONG_SIZES, RECORDED, ORIGINS };
+enum origin { FROM_RUN, FROM_EDIT, BUILT, UNORDERED, DAMAGED_MESSAGE, DAMAGED_STATE, WRONG_SIZES, RECORDED, ORIGINS };
 
 #define BY_ANSWER "        0        1        2        3        4        5        6        7        8        9"
 #define BY_SPAN "            C = 16                 17          18 to 255                256              4,096"
-static const char *const origins[] = {"run",           "odd run",     "built",    "damaged message",
-                                      "damaged state", "wrong sizes", "recorded", NULL};
+static const char *const origins[] = {
+    "run",         "odd run",  "built", "early out of order", "damaged message", "damaged state",
+    "wrong sizes", "recorded", NULL};
 static const char *const full_tables[] = {"log", "early", "late", "notes", "draft", "a vote", "a reply", NULL};
 static const char *const after[] = {"done, by status after", NULL};
 static const char *const wrong_fields[] = {"kind",
@@ -65,7 +66,7 @@ static const char *const wrong_fields[] = {"kind",
                                            "behind its end",
                                            NULL};
 
-enum table { STEPS, SPANS, FULL, SOURCES, PLACED, ENTERED, STATES, MESSAGES, OFFSETS, TABLES };
+enum table { STEPS, SPANS, FULL, SOURCES, PLACED, ENTERED, STATES, ORDERS, MESSAGES, OFFSETS, TABLES };
 enum { COLUMNS = 10 };
 
 /* Of each table its head, what its rows are (NULL: kinds), how many columns there are, and whether they are pairs. */
@@ -81,6 +82,7 @@ static const struct {
     [PLACED] = {"\ndone, by status before 1 follow   1 lead 2 follow   2 lead   3 lead\n", NULL, 5, false},
     [ENTERED] = {"", after, 3, false},
     [STATES] = {"\nstates                     good not good\n", origins, 2, false},
+    [ORDERS] = {"\norder of a state         stayed  changed  refused\n", origins, 3, false},
     [MESSAGES] = {"\nmessages                 read 0        1        2  write 0        1        2        9\n", NULL, 7,
                   false},
     [OFFSETS] = {"\nmalformed, at             read     step    write\n", wrong_fields, 3, false},
@@ -357,6 +359,21 @@ static void try_start(uint64_t group, uint64_t replica) {
     const uint64_t answers[] = {jallumere_start(SIZES(&at), group, replica, state_of[0], at.length),
                                 model_start(SIZES(&at), group, replica, state_of[1], at.length)};
     starts[compare_sides("start", answers, pattern, at.length, 0, (letter){0}) != JALLUMERE_DONE]++;
+}
+
+/* What is good stays as it is, and of the rest what is put in order is good then. */
+static uint64_t try_order(const uint8_t *state, enum origin from) {
+    lend(state, at.length, 0);
+    const uint64_t answers[] = {jallumere_order(SIZES(&at), state_of[0], at.length),
+                                model_order(SIZES(&at), state_of[1], at.length)};
+    uint64_t answer = compare_sides("order", answers, state, at.length, 0, (letter){0});
+    bool changed = memcmp(state_of[1], state, at.length) != 0, done = answer == JALLUMERE_DONE;
+    if ((done && !changed) != (jallumere_good(SIZES(&at), state, at.length) == JALLUMERE_DONE))
+        end_with_difference("order", "a good state does not stay as it is, or another does", state, at.length);
+    if (done && jallumere_good(SIZES(&at), state_of[0], at.length) != JALLUMERE_DONE)
+        end_with_difference("order", "the state that it leaves is not good", state, at.length);
+    counts[ORDERS][from][done ? changed : 2]++;
+    return answer;
 }
 
 /* Whether a message with these fields can be put into bytes, which are then read. */

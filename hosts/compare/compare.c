@@ -59,6 +59,7 @@ static void try_wrong_sizes(const uint8_t *state, letter told) {
     if (memcmp(&at, &right, sizeof at) != 0) {
         try_start(below(right.s), below(right.n));
         try_good(state, WRONG_SIZES);
+        try_order(state, WRONG_SIZES);
         try_state_readers(state);
         try_step(state, told, ample_room(&right), WRONG_SIZES);
         try_read(told);
@@ -82,7 +83,34 @@ static void try_damage(const uint8_t *state, letter told) {
         memcpy(spare_state, state, at.length);
         damage_state(spare_state);
         try_good(spare_state, DAMAGED_STATE);
+        if (chance(40))
+            try_order(spare_state, DAMAGED_STATE);
         try_step(spare_state, odd, ample_room(&at), DAMAGED_STATE);
+    }
+}
+
+/* A good state as an older core may have left it: refused as it is, and the good one again once it is ordered. Now and
+ * then it is damaged as well; and what is good is ordered too. */
+static void try_disorder(const uint8_t *state, letter told, enum origin from) {
+    uint64_t early = load(state + at.early, 4);
+    if (model_good(SIZES(&at), state, at.length) != JALLUMERE_DONE)
+        return;
+    if (early < 2 || chance(20))
+        try_order(state, from);
+    if (early < 2)
+        return;
+    memcpy(spare_state, state, at.length);
+    disorder(spare_state + at.early + 4, early);
+    bool same = memcmp(spare_state, state, at.length) == 0;
+    if (try_good(spare_state, UNORDERED) != same)
+        end_with_difference("good", "a state is good whose early is out of order", spare_state, at.length);
+    uint64_t answer = try_order(spare_state, UNORDERED);
+    if (answer != JALLUMERE_DONE || memcmp(state_of[1], state, at.length) != 0)
+        end_with_difference("order", "the good state does not come back", spare_state, at.length);
+    try_step(spare_state, told, ample_room(&at), UNORDERED);
+    if (chance(30)) {
+        damage_state(spare_state);
+        try_order(spare_state, DAMAGED_STATE);
     }
 }
 
@@ -93,6 +121,8 @@ static uint64_t try_all(const uint8_t *state, letter told, enum origin from) {
     show_progress(steps_done, steps_wanted, "steps");
     if (chance(25))
         try_damage(state, told);
+    if (chance(8))
+        try_disorder(state, told, from);
     if (chance(3))
         try_wrong_sizes(state, told);
     if (chance(10)) {

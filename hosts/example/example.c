@@ -50,7 +50,8 @@ static void persist(const struct site *own) {
         stop("the folder cannot be written");
 }
 
-/* A good state need not be the one that was stored, so the digest decides, and then the core. */
+/* A good state need not be the one that was stored, so the digest decides, and then the core. One of a core before
+ * interface 2.1 is put in order here; a good one stays as it is. */
 static void load(struct site *own, uint64_t group, uint64_t replica) {
     uint64_t digest;
     FILE *file = fopen("site", "rb");
@@ -63,7 +64,7 @@ static void load(struct site *own, uint64_t group, uint64_t replica) {
     if (fgetc(file) != EOF || ferror(file) || digest != digest_of(own))
         stop("the site's file is not what was written");
     fclose(file);
-    if (jallumere_good(N, S, C, own->state, own->state_length) != JALLUMERE_DONE ||
+    if (jallumere_order(N, S, C, own->state, own->state_length) != JALLUMERE_DONE ||
         jallumere_field(N, S, C, JALLUMERE_FIELD_GROUP, own->state, own->state_length) != group ||
         jallumere_field(N, S, C, JALLUMERE_FIELD_REPLICA, own->state, own->state_length) != replica)
         stop("the file is no good state of this site");

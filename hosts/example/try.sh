@@ -1,5 +1,6 @@
 #!/usr/bin/env bash
-# try.sh PROGRAM [OTHER]: three sites of the example host live through a commit, a restart, damage and a lost file.
+# try.sh PROGRAM [OTHER]: three sites of the example host live through a commit, a restart, damage, a lost file and a file of
+# an older core.
 #
 # PROGRAM is the example in C or in Rust, built over any core; OTHER, if given, takes every second turn on the same files.
 set -u
@@ -12,7 +13,7 @@ two=$(readlink -f "${2:-$1}")
 folder=$(mktemp -d) || exit 2
 trap 'rm -r "$folder"' EXIT
 cd "$folder" || exit 2
-mkdir 0 1 2 3
+mkdir 0 1 2 3 old
 passed=0
 failed=0
 
@@ -27,6 +28,21 @@ check() { # WORDS EXPECTED FOUND
 
 size() { stat -c %s "$1"; }
 says() { grep -c -- "$1" said; }
+
+# The bytes of a file from an offset on, so many.
+part() { tail -c +$(($2 + 1)) "$1" | head -c "$3"; }
+
+# A site's file with its digest made anew: FNV-1a over all that is behind it, in 64 bits, with the low byte first.
+with_digest() { # FILE
+    local byte place digest=$((0xcbf29ce484222325))
+    while read -r byte; do
+        digest=$(((digest ^ byte) * 0x100000001b3))
+    done < <(tail -c +9 "$1" | od -An -v -tu1 -w1)
+    for place in 0 8 16 24 32 40 48 56; do
+        printf '%b' "\\0$(printf %o $((digest >> place & 255)))"
+    done
+    tail -c +9 "$1"
+}
 
 # Kind 1 to all sites of group 0: send time 3, bound 2; command 77 of coordinator 9, request 1, for group 0.
 printf '\1\0\7\377\377\0\0\0\0\0\0\0\0\0\0\0\2\0\0\0\3\0\0\0\0\0\0\0\2\0\0\0\0\0\0\0\1\0\0\0' >transaction
@@ -91,6 +107,25 @@ for program in "$one" "$two"; do
     check "a replica is a number" 1 $?
     "$program" >sent 2>said
     check "usage is told" "1 1" "$? $(says usage)"
+done
+# Two early entries, of coordinators 8 and 9, stand from byte 6,239 on; the other way round, as an older core may have left them.
+(head -c 60 transaction && printf '\10' && tail -c 3 transaction) >other
+cat transaction other | "$one" old 0 1 first >sent 2>said
+check "a site with two early entries" "0 0 8 9" "$? $(says refused) $(part old/site 6259 1 | od -An -tu1 | tr -d ' ') $(part old/site 6283 1 | od -An -tu1 | tr -d ' ')"
+with_digest old/site | cmp -s - old/site
+check "its digest is that of the core" 0 $?
+cp old/site new
+(head -c 6239 new && part new 6263 24 && part new 6239 24 && tail -c +6288 new) >turned
+with_digest turned >older
+for program in "$one" "$two"; do
+    cp turned old/site
+    "$program" old 0 1 again </dev/null >sent 2>said
+    check "a file with its entries the other way round is damaged" "1 1" "$? $(says 'not what was written')"
+    cp older old/site
+    "$program" old 0 1 again 5 </dev/null >sent 2>said
+    check "an older core's file is put in order, and both entries are released" "0 36 152" "$? $(size sent) $(size old/replies)"
+    check "in their order" "8 9" "$(part old/site 111 1 | od -An -tu1 | tr -d ' ') $(part old/site 135 1 | od -An -tu1 | tr -d ' ')"
+    : >old/replies
 done
 echo "$passed passed, $failed failed"
 [ "$failed" = 0 ]

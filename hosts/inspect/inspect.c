@@ -1,9 +1,11 @@
 /* A state's bytes as a report for people; and, where the state is not good, why not. Or a message's: see message.c.
  *
- * Whether a state is good is decided by the core (jallumere_good). The reasons are the model's; where the two
- * disagree, the report says so.
+ * Whether a state is good is decided by the core (jallumere_good), and whether only the order of its early entries is
+ * missing (jallumere_order), as in one that a core before interface 2.1 has left. The reasons are the model's; where
+ * the two disagree, the report says so.
  *
- * inspect STATE [--sites N --groups S --capacity C] [--all]: 0 good, 1 not good, 2 bad usage or no such shape.
+ * inspect STATE [--sites N --groups S --capacity C] [--all] [--order NEW]: 0 good, 1 not good, 2 bad usage or no such
+ * shape. With --order, 0 where the file NEW has the state in order, 1 where it cannot have.
  * inspect --message MESSAGE [--sites N --groups S] [--all]: 0 well formed, 1 not, 2 bad usage. */
 #include "report.h"
 
@@ -15,6 +17,12 @@ enum { SHOWN_REASONS = 12, SHAPES_MOST = 64 };
 
 uint64_t asked_n, asked_s;
 bool show_all;
+
+/* What a state that is not good becomes by its order; the core's answer is JALLUMERE_DONE where it is good then. */
+typedef struct {
+    uint8_t *bytes;
+    uint64_t answer;
+} mending;
 
 static uint64_t asked_c;
 static const uint8_t *state;
@@ -143,21 +151,62 @@ static void print_reason(void *told, size_t byte, const char *rule) {
         printf("  - %s (byte %zu, %s)\n", rule, byte, describe_place(&at, state, byte, room));
 }
 
-static void print_verdict(bool good) {
+/* Of any bytes that are as long as a state of this shape. */
+static mending put_in_order(const layout *shape, __typeof__(jallumere_order) *order) {
+    uint8_t *copied = memory(shape->length);
+    memcpy(copied, state, shape->length);
+    return (mending){copied, order(SIZES(shape), copied, shape->length)};
+}
+
+static bool is_mended(mending by) { return by.answer == JALLUMERE_DONE; }
+
+static bool can_be_mended(const layout *shape) {
+    mending by = put_in_order(shape, jallumere_order);
+    free(by.bytes);
+    return is_mended(by);
+}
+
+/* Gives the state in order; what is good stays as it is. */
+static mending print_verdict(bool good) {
     uint64_t told = 0;
+    const mending core = put_in_order(&at, jallumere_order), model = put_in_order(&at, model_order);
     printf("\n%s\n", good ? "The state is good." : "The state is NOT good. What fails of the rules:");
     uint64_t reasons = model_why_not_good(SIZES(&at), state, at.length, print_reason, &told);
     if (reasons > SHOWN_REASONS && !show_all)
         printf("  ... and %ju more (--all shows them)\n", reasons - SHOWN_REASONS);
+    if (!good && is_mended(core))
+        printf("Nothing is wrong but the order of its early entries, as a core before interface 2.1 has left it:\n"
+               "jallumere_order mends it, and --order FILE writes it in order.\n");
     if (good != (reasons == 0))
         printf("DISAGREEMENT: the core says that the state is %s, and the model finds %s.\n"
                "The core decides; one of the two is wrong and should be reported.\n",
                good ? "good" : "not good", good ? "the reasons above" : "no reason");
+    if (core.answer != model.answer || memcmp(core.bytes, model.bytes, at.length) != 0)
+        printf("DISAGREEMENT: the core puts the state in order with answer %ju, the model with %ju, or otherwise.\n",
+               core.answer, model.answer);
+    return core;
+}
+
+/* The state in order, to a file that was not there: what it is made of stays. */
+static bool write_ordered(const char *path, mending by) {
+    if (!is_mended(by)) {
+        printf("'%s' is not written: the order of its early entries does not make the state good.\n", path);
+        return false;
+    }
+    FILE *file = fopen(path, "wbx");
+    if (file == NULL)
+        stop("'%s' is there already, or cannot be written", path);
+    if (fwrite(by.bytes, 1, at.length, file) != at.length || fflush(file) != 0 || fsync(fileno(file)) != 0 ||
+        fclose(file) != 0)
+        stop("'%s' cannot be written", path);
+    printf("'%s' has the state with its early entries in order; it is good.\n", path);
+    return true;
 }
 
 /* ---- the shape --------------------------------------------------------------------------------------- */
 
-/* Takes the first shape of this length in which the state is good, or else the first, and tells of the others. */
+/* Takes the first shape of this length in which the state is good, or good once it is in order, or else the first, and
+ * tells of the others. */
 static bool take_shape(size_t length) {
     static layout shapes[SHAPES_MOST];
     const layout asked = lay_out(asked_n, asked_s, asked_c);
@@ -177,24 +226,29 @@ static bool take_shape(size_t length) {
         stop("a state of this shape has %zu bytes, this file has %zu", asked.length, length);
     while (taken < found && jallumere_good(SIZES(&shapes[taken]), state, length) != JALLUMERE_DONE)
         taken++;
+    bool good = taken < found;
+    for (taken = good ? taken : 0; taken < found && !good && !can_be_mended(&shapes[taken]);)
+        taken++;
     at = shapes[taken < found ? taken : 0];
     if (found > 1 && taken < found)
-        printf("%zu shapes have this length; the first that makes it a good state is taken\n", found);
+        printf("%zu shapes have this length; the first that makes it a good state%s is taken\n", found,
+               good ? "" : ", once it is in order,");
     else if (found > 1) {
         printf("%zu shapes have this length, and the state is good in none; the first is shown. The others:", found);
         for (size_t i = 1; i < found; i++)
             printf(" %ju/%ju/%ju", SIZES(&shapes[i]));
         printf(" (sites/groups/capacity)\n");
     }
-    return taken < found;
+    return good;
 }
 
 int main(int count, char **words) {
-    const char *path = NULL, *told = NULL;
+    const char *path = NULL, *told = NULL, *ordered = NULL;
     const option options[] = {{"--sites", .number = &asked_n, .least = 3, .most = REPLICAS_MOST},
                               {"--groups", .number = &asked_s, .least = 1, .most = GROUPS_MOST},
                               {"--capacity", .number = &asked_c, .least = CAPACITY_LEAST, .most = CAPACITY_MOST},
                               {"--message", .word = &told},
+                              {"--order", .word = &ordered},
                               {"--all", .flag = &show_all},
                               {NULL, .flag = NULL}};
     size_t length;
@@ -205,12 +259,16 @@ int main(int count, char **words) {
         stop("--sites, --groups and, for a state, --capacity go together: give all or none");
     if (asked_n != 0 && asked_n % 2 == 0)
         stop("sites are 3, 5 or 7");
+    if (told != NULL && ordered != NULL)
+        stop("--order is for a state alone");
     const uint8_t *bytes = read_file(told != NULL ? told : path, &length);
     if (told != NULL)
         return report_message(bytes, length) ? 0 : 1;
     state = bytes;
     bool good = take_shape(length);
     print_report();
-    print_verdict(good);
+    mending by = print_verdict(good);
+    if (ordered != NULL)
+        return write_ordered(ordered, by) ? 0 : 1;
     return good ? 0 : 1;
 }

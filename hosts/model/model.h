@@ -15,6 +15,7 @@ __typeof__(jallumere_state_length) MODEL(state_length);
 __typeof__(jallumere_start) MODEL(start);
 __typeof__(jallumere_step) MODEL(step);
 __typeof__(jallumere_good) MODEL(good);
+__typeof__(jallumere_order) MODEL(order);
 __typeof__(jallumere_field) MODEL(field);
 __typeof__(jallumere_group_view) MODEL(group_view);
 __typeof__(jallumere_entry) MODEL(entry);

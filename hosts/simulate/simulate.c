@@ -97,7 +97,7 @@ static site sites[SITES_MOST], *sites_end = sites;
 static event *events; /* the next one last */
 static letter *asked; /* the last transaction */
 static size_t letter_count, event_count, event_room, outgoing_room;
-static uint8_t *before, *outgoing, *outgoing_before;
+static uint8_t *before, *ordered, *outgoing, *outgoing_before;
 static unsigned now, step_count, lost_count, again_count, sent_counts[KINDS], answers[ANSWERS];
 
 /* How far the plot has come, and what the view manager has planned last. */
@@ -292,15 +292,35 @@ static bool has_key(const uint8_t *entries, uint64_t count, key wanted) {
     return found != NULL && load(found, 8) == wanted.timestamp;
 }
 
-/* Logs rise strictly by timestamp, coordinator, request, and early entries lie after the last. */
+/* Logs rise strictly by timestamp, coordinator, request, and so does early, which lies after the log's last. */
 static void check_order(const site *own) {
-    const uint8_t *log = own->state + at.log + 4, *early = own->state + at.early;
+    const uint8_t *log = own->state + at.log + 4, *early = own->state + at.early + 4;
     for (uint64_t i = 1; i <= own->is.logged; i++)
         PROMISE(later(last_key(log, i), last_key(log, i - 1)), own,
                 "its entry %ju is not after the one before it, by timestamp, coordinator, request", i);
-    for (uint64_t i = 0; i < load(early, 4); i++)
-        PROMISE(later(key_of(early + entry_place(i)), last_key(log, own->is.logged)), own,
-                "its early entry %ju does not lie after its log's last", i + 1);
+    for (uint64_t i = 1; i <= load(early - 4, 4); i++) {
+        PROMISE(later(last_key(early, i), last_key(log, own->is.logged)), own,
+                "its early entry %ju does not lie after its log's last", i);
+        PROMISE(later(last_key(early, i), last_key(early, i - 1)), own,
+                "its early entry %ju is not after the one before it, by timestamp, coordinator, request", i);
+    }
+}
+
+static bool is_ordered(const site *own) {
+    return jallumere_order(SIZES(&at), ordered, at.length) == JALLUMERE_DONE &&
+           memcmp(ordered, own->state, at.length) == 0;
+}
+
+/* What orders a state leaves it as it is; with early the other way round the state is not good, and comes back. */
+static void check_ordering(const site *own) {
+    const uint64_t early = load(own->state + at.early, 4);
+    memcpy(ordered, own->state, at.length);
+    PROMISE(is_ordered(own), own, "its state does not stay as it is when it is ordered");
+    for (uint64_t i = 0; i < early; i++)
+        memcpy(ordered + at.early + entry_place(i), own->state + at.early + entry_place(early - 1 - i), ENTRY_LENGTH);
+    PROMISE(early < 2 || jallumere_good(SIZES(&at), ordered, at.length) == JALLUMERE_WRONG_STATE, own,
+            "its state is good with its early entries the other way round");
+    PROMISE(is_ordered(own), own, "its state does not come back when its early entries are ordered");
 }
 
 /* A transaction that is due after the log's last is early at its time. What is not is late at a follower, and a leader
@@ -577,6 +597,7 @@ static void check_done(site *own, const message *told) {
     }
     own->leads = own->is.leader == own->is.replica;
     check_order(own);
+    check_ordering(own);
     check_points(own, told);
     if (told->kind == JALLUMERE_TRANSACTION)
         check_placed(own, told);
@@ -851,6 +872,7 @@ static void start_all(void) {
             "the core says %ju bytes for a state, the documents %zu", jallumere_state_length(SIZES(&at)), at.length);
     outgoing_room = ample_room(&at);
     before = memory(at.length);
+    ordered = memory(at.length);
     outgoing = memory(outgoing_room);
     outgoing_before = memset(memory(outgoing_room), 0xa5, outgoing_room);
     for (; sites_end < site_of(at.s, 0); sites_end++) {

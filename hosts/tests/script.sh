@@ -183,6 +183,11 @@ test_bad_words() {
     refused 'inspect --message calls --sites 3 --groups 1 --capacity 16' 'go together'
     refused 'inspect --message calls calls' 'one state at a time'
     refused 'inspect calls --message calls' 'one at a time'
+    refused 'inspect --order new' 'which state, or which message'
+    refused 'inspect calls --order' '--order takes a FILE behind it'
+    refused 'inspect calls --order calls' 'is there already'
+    refused 'inspect calls --order nowhere/new' 'cannot be written'
+    refused 'inspect --message calls --order new' 'for a state alone'
     refused 'compare --traces nowhere.bin' 'cannot be read'
     refused 'compare 5' "takes no '5'"
     refused 'bench --svg' '--svg takes a FILE behind it'
@@ -334,30 +339,69 @@ test_message() {
     check "a core that says otherwise is told" printed '^DISAGREEMENT: this report finds nothing wrong.$'
 }
 
-# A follower's state with a log of two entries, requests REQUEST and REQUEST of coordinator 9, both at 9.
-make_state() { # REQUEST REQUEST
-    local request
+# A follower's state with a log, or early (TABLE), of two entries, requests REQUEST and REQUEST of coordinator 9, both at 9.
+make_state() { # TABLE REQUEST REQUEST
+    local request before=76
+    [ "$1" = log ] || before=$((76 + 388))
     printf '\0\1\1'
-    head -c 76 /dev/zero
+    head -c "$before" /dev/zero
     printf '\2\0\0\0'
-    for request in "$@"; do
+    for request in "${@:2}"; do
         printf '\11\0\0\0\0\0\0\0\115\0\0\0\0\0\0\0'
         printf '%b\0\0\0\11\0\1\0' "\\0$request"
     done
-    head -c 3336 /dev/zero
+    head -c $((3412 - before)) /dev/zero
 }
+
+inspect_state() { JALLUMERE_CORE=${core:-model} jallumere inspect "$@" --sites 3 --groups 1 --capacity 16; }
 
 test_state() {
     fresh_tree
-    make_state 1 2 >state
-    JALLUMERE_CORE=model jallumere inspect state --sites 3 --groups 1 --capacity 16
+    make_state log 1 2 >state
+    inspect_state state
     check "a state whose log rises by request is good" is_status 0
     check "a good state is told" printed '^The state is good.$'
-    make_state 2 1 >state
-    JALLUMERE_CORE=model jallumere inspect state --sites 3 --groups 1 --capacity 16
+    make_state log 2 1 >state
+    inspect_state state
     check "a state whose log has equal timestamps against the order is not good" is_status 1
     check "and it is told why and where" printed '^  - a log rises strictly by timestamp, coordinator, request (byte 107, log entry 2: transaction 9.1 at 9, mask 0x1)$'
     check "and nothing else is wrong with it" [ "$(grep -c '^  - ' "$room/out")" -eq 1 ]
+    check "and its order does not mend it" not printed 'jallumere_order'
+    inspect_state state --order ordered
+    check "so it is not written in order" is_status 1
+    check "and that is told" printed "^'ordered' is not written: "
+    check "and there is no file" [ ! -e ordered ]
+    test_early
+}
+
+test_early() {
+    local core wrong='^  - early rises strictly by timestamp, coordinator, request (byte 495, early entry 2: transaction 9.1 at 9, mask 0x1)$'
+    make_state early 1 2 >good
+    inspect_state good --order same
+    check "a state whose early rises by request is good" printed '^The state is good.$'
+    check "a good state stays as it is when it is ordered" cmp -s good same
+    make_state early 2 1 >state
+    inspect_state state
+    check "a state from before 2.1 is not good" is_status 1
+    check "and it is told which entry stands against the order" printed "$wrong"
+    check "and nothing else is wrong with early" [ "$(grep -c '^  - ' "$room/out")" -eq 1 ]
+    check "and what mends it is told" printed '^jallumere_order mends it, and --order FILE writes it in order.$'
+    check "core and model agree on it" not printed DISAGREEMENT
+    JALLUMERE_CORE=model jallumere inspect state
+    check "its shape is found without the sizes" printed '^shape  *3 sites in a group, 1 group, capacity 16, '
+    inspect_state state --order ordered
+    check "it is ordered into another file" is_status 0
+    check "and that is told" printed "^'ordered' has the state with its early entries in order; it is good.$"
+    check "and no other byte is changed" cmp -s good ordered
+    check "and the first file stays" eval 'make_state early 2 1 | cmp -s - state'
+    inspect_state state --order ordered
+    check "a state is not written over" is_status 2
+    check "and that is told" said "'ordered' is there already"
+    gcc -O0 -I "$tree/include" -I "$tree/hosts/common" -Djallumere_order=of_the_model -c -o one.o "$tree/hosts/model/core.c"
+    echo 'unsigned long jallumere_order(void) { return 1; }' | gcc -x c -c -o two.o - && ar rcs other.a one.o two.o
+    core=other.a inspect_state state
+    check "what mends a state is the core's to say" not printed 'jallumere_order mends it'
+    check "a core that orders otherwise is told" printed '^DISAGREEMENT: the core puts the state in order with answer 1, the model with 0, or otherwise.$'
 }
 
 # A tick as it is and one byte short, each with what is expected of the reader; and a tick that is cut, as a step of a site.

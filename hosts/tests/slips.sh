@@ -57,7 +57,7 @@ by_simulate() {
 
 told() { # NAME BY WHETHER
     if [ "$3" -eq 0 ]; then found=$((found + 1)); else missed=$((missed + 1)); fi
-    printf '%-33s %-9s ' "$1" "$2"
+    printf '%-35s %-9s ' "$1" "$2"
     if [ "$3" -eq 0 ]; then grep -h -m 1 -e '^DIFFERENCE' -e PROMISE "$room/out" "$room/said"; else echo MISSED; fi
 }
 
@@ -103,15 +103,69 @@ slip early_tie_is_good model/model.c \
 slip tie_kept_early model/model.c \
     'early = own->leads || follows' 'early = own->leads || due >= own->last.timestamp' compare simulate
 slip sync_leaves_tie_early model/model.c \
-    '(last != NULL && !later(key_of(place), *last))' '(last != NULL && timestamp_of(place) < last->timestamp)' compare simulate
+    '!later(key_of(early_entry(now, lost)), last)' 'timestamp_of(early_entry(now, lost)) < last.timestamp' compare simulate
 slip sync_loses_tie model/model.c \
-    'i < own->late || !later(key_of(bytes), last)' 'i < own->late || timestamp_of(bytes) < last.timestamp' compare
+    'gather_late(own, lost);' 'gather_late(own, lost - (lost != 0 && timestamp_of(early_entry(now, lost - 1)) == last.timestamp));' compare
 slip rebuilt_by_time model/model.c \
     'if (later(entry.key, last) &&' 'if (entry.key.timestamp > last.timestamp &&' compare simulate
 slip rebuilt_from_boundary model/model.c \
     'if (later(entry.key, last) &&' 'if (entry.key.timestamp >= last.timestamp &&' compare simulate
 slip told_past_the_boundary model/model.c \
     'timestamp_of(bytes) >= now->told.numbers[0]' 'timestamp_of(bytes) > now->told.numbers[0]' compare simulate
+
+# ---- early in this order
+
+slip put_behind_a_greater_coordinator model/model.c \
+    'early_before(&now->own, 0, key_of(bytes))' 'early_before(&now->own, 0, (key){timestamp_of(bytes), UINT64_MAX})' compare simulate
+slip put_before_a_smaller_coordinator model/model.c \
+    'early_before(&now->own, 0, key_of(bytes))' 'early_before(&now->own, 0, (key){timestamp_of(bytes), 0})' compare simulate
+slip put_at_the_end model/model.c \
+    'place = early_before(&now->own, 0, key_of(bytes))' 'place = count' compare simulate
+slip put_before_it_is_lifted model/model.c \
+    'if (agreed != 0)
+        store(bytes, agreed, 8);
+    if (early)
+        insert_early(now, bytes);' \
+    'if (early) {
+        insert_early(now, bytes);
+        store(early_entry(now, early_before(own, 0, key_of(bytes))), agreed != 0 ? agreed : stamp, 8);
+    }' compare simulate
+slip lifted_in_place model/model.c \
+    'ENTRY_LENGTH * (size_t)early_before(&now->own, place + 1, key_of(moved))' '0' compare simulate
+slip lifted_behind_a_greater_coordinator model/model.c \
+    'early_before(&now->own, place + 1, key_of(moved))' 'early_before(&now->own, place + 1, (key){timestamp, UINT64_MAX})' compare simulate
+slip synced_to_late_in_reverse model/model.c \
+    'own->at.early + entry_place(i - own->late)' 'own->at.early + entry_place(lost - 1 - (i - own->late))' compare
+slip order_not_asked_by_a_step model/model.c \
+    'good_state(&now.own, state, EARLY_RISES, NULL)' 'good_state(&now.own, state, NULL, NULL)' compare
+slip order_not_asked model/model.c \
+    'bool good = sizes_fit(n, s, c, state_length, &own.at) && good_state(&own, state, EARLY_RISES, NULL)' \
+    'bool good = sizes_fit(n, s, c, state_length, &own.at) && good_state(&own, state, NULL, NULL)' compare simulate
+slip order_asked_in_status_1_alone model/model.c \
+    '.rising = early_rises' '.rising = own->status == JALLUMERE_STATUS_NORMAL ? early_rises : NULL' compare
+slip order_asked_of_timestamps_alone model/model.c \
+    'last = rising ? own : last' 'last = rising ? (key){own.timestamp, first == 0 ? own.transaction : 0} : last' compare
+slip ordered_by_timestamps_alone model/model.c \
+    'work.items[i] = item_of(early + ENTRY_LENGTH * i)' \
+    'work.items[i] = (item){{timestamp_of(early + ENTRY_LENGTH * i), 0}, early + ENTRY_LENGTH * i}' compare simulate
+slip ordered_without_the_last model/model.c \
+    'copy(early, room, ENTRY_LENGTH * (size_t)own.early);' \
+    'copy(early, room, ENTRY_LENGTH * (size_t)own.early);
+    if (own.early != 0 && work.items[0].bytes != early)
+        shorten(early - 4, ENTRY_LENGTH, own.early - 1);' compare simulate
+slip ordered_with_late model/model.c \
+    'copy(early, room, ENTRY_LENGTH * (size_t)own.early);' \
+    'copy(early, room, ENTRY_LENGTH * (size_t)own.early);
+    uint8_t *late = state + own.at.late + 4;
+    for (uint64_t i = 0; i < own.late; i++)
+        work.items[i] = item_of(late + ENTRY_LENGTH * i);
+    order_items(work.items, own.late);
+    put_items(room, own.late);
+    copy(late, room, ENTRY_LENGTH * (size_t)own.late);' compare simulate
+slip ordered_where_not_good model/model.c \
+    '!good_state(&own, state, NULL, NULL)' '(good_state(&own, state, NULL, NULL), false)' compare
+slip ordered_where_good_alone model/model.c \
+    '!good_state(&own, state, NULL, NULL)' '!good_state(&own, state, EARLY_RISES, NULL)' compare simulate
 
 echo "$found found, $missed missed"
 [ "$missed" -eq 0 ]

@@ -1,4 +1,4 @@
-/* How many bytes of stack a step of the core needs, for each row of bench at each capacity, by painting: the call is
+/* How many bytes of stack a call of the core needs, for each row of bench at each capacity, by painting: the call is
  * made on a stack of its own that is all one byte, and what it has changed is counted from the far end.
  *
  *     gcc -std=c11 -O3 -I include -I hosts/common -I hosts/model -o target/stack hosts/tests/stack.c hosts/common/places.c \
@@ -18,8 +18,7 @@ static const cell *stepped; /* NULL: the call of nothing, which takes what the s
 
 static void call(void) {
     if (stepped != NULL)
-        steps[0](SIZES(&stepped->at), copies[0], stepped->at.length - stepped->of->state_cut, letter, letter_length,
-                 out[0], stepped->of->no_room ? 0 : ample_room(&stepped->at));
+        make_call(stepped, 0, copies[0]);
 }
 
 static size_t painted_over(const cell *now) {

@@ -12,7 +12,7 @@ use std::io::{self, Read, Write};
 use std::path::PathBuf;
 
 use jallumere::{
-    core, digest, entry, field, is_good, message_length, messages, start, step, version, write, Core, Field, Kind, Message,
+    core, digest, entry, field, message_length, messages, order, start, step, version, write, Core, Field, Kind, Message,
     Refusal, Sizes, DIGEST_START, OUTSIDE, VERSION,
 };
 
@@ -64,7 +64,8 @@ impl Site {
         self.persist()
     }
 
-    /// A good state need not be the one that was stored, so the digest decides, and then the core.
+    /// A good state need not be the one that was stored, so the digest decides, and then the core. One of a core before
+    /// interface 2.1 is put in order here; a good one stays as it is.
     fn load(&mut self) -> Outcome {
         let kept = std::fs::read(self.folder.join("site")).map_err(|error| {
             format!("the site's file: {error}; a site that has lost its state stays out and is never started afresh")
@@ -78,8 +79,9 @@ impl Site {
         if rest != self.sent || told != self.digest() {
             return Err("the site's file is not what was written".into());
         }
+        let good = order(SIZES, &mut self.state).is_ok();
         let own = |named| field(SIZES, named, &self.state);
-        if !is_good(SIZES, &self.state) || own(Field::Group) != Some(self.group) || own(Field::Replica) != Some(self.replica) {
+        if !good || own(Field::Group) != Some(self.group) || own(Field::Replica) != Some(self.replica) {
             return Err("the file is no good state of this site".into());
         }
         Ok(())

@@ -36,7 +36,7 @@ mod raw;
 pub use names::{Answer, Core, Field, Kind, Refusal, Status};
 
 /// The version of the interface that this crate is written for: major * 10000 + minor * 100 + patch.
-pub const VERSION: u64 = 20_000;
+pub const VERSION: u64 = 20_100;
 
 /// Group and replica of whatever stands outside every group: coordinators, clocks, the view manager.
 pub const OUTSIDE: u64 = 255;
@@ -180,6 +180,16 @@ pub fn step(sizes: Sizes, state: &mut [u8], message: &[u8], out: &mut [u8]) -> R
 pub fn is_good(sizes: Sizes, state: &[u8]) -> bool {
     // SAFETY: pointer and length are those of one slice, which is read alone.
     unsafe { raw::jallumere_good(sizes.sites, sizes.groups, sizes.capacity, state.as_ptr(), state.len()) == 0 }
+}
+
+/// Puts the early entries of a state into the order of timestamp, coordinator, request, and keeps every one of them; no other
+/// byte changes. It is for a state that a core before interface 2.1 has left, once, before the first step. After `Ok` the
+/// state is good, and one that was good is as it was, byte for byte. [`Refusal::WrongState`] leaves it as it came: a size or
+/// the length is wrong, or the state is not good for another reason than that order.
+pub fn order(sizes: Sizes, state: &mut [u8]) -> Result<(), Refusal> {
+    // SAFETY: pointer and length are those of one slice, lent for the call alone.
+    let answer = unsafe { raw::jallumere_order(sizes.sites, sizes.groups, sizes.capacity, state.as_mut_ptr(), state.len()) };
+    Answer::from_code(answer).result().map(|_| ())
 }
 
 /// What a field of a state says; none where a size or the state's length is wrong. It looks at those alone: of bytes that

@@ -31,6 +31,7 @@ functions! {
         state: *mut u8, state_length: usize, message: *const u8, message_length: usize, out: *mut u8, out_length: usize
     );
     fn jallumere_good(n: u64, s: u64, c: u64, state: *const u8, state_length: usize);
+    fn jallumere_order(n: u64, s: u64, c: u64, state: *mut u8, state_length: usize);
     fn jallumere_field(n: u64, s: u64, c: u64, field: u64, state: *const u8, state_length: usize);
     fn jallumere_group_view(n: u64, s: u64, c: u64, group: u64, state: *const u8, state_length: usize);
     fn jallumere_entry(n: u64, s: u64, c: u64, position: u64, field: u64, state: *const u8, state_length: usize);

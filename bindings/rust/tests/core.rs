@@ -1,8 +1,8 @@
 //! The core through its safe functions.
 
 use jallumere::{
-    core, digest, entry, field, group_view, is_good, message_length, messages, read, start, status, step, version, write, Answer,
-    Core, Entry, Field, Kind, Message, Refusal, Sizes, Status, DIGEST_START, VERSION,
+    core, digest, entry, field, group_view, is_good, message_length, messages, order, read, start, status, step, version, write,
+    Answer, Core, Entry, Field, Kind, Message, Refusal, Sizes, Status, DIGEST_START, VERSION,
 };
 
 const SIZES: Sizes = Sizes { sites: 3, groups: 1, capacity: 16 };
@@ -206,6 +206,86 @@ fn equal_timestamps_are_ordered_by_coordinator() {
     assert_eq!(given(30), Ok(vec![30, 30, 31]));
     assert_eq!(given((1 << 63) - 2), Ok(vec![(1 << 63) - 2, (1 << 63) - 2, (1 << 63) - 1]));
     assert_eq!(given((1 << 63) - 1), Err(Refusal::Full));
+}
+
+/// Where early's entries stand in a state of these sizes, behind their count.
+const EARLY: usize = 471;
+
+/// A follower with so many early entries, which came with falling coordinators and are all due at one time.
+fn with_early(count: u64) -> Vec<u8> {
+    let mut state = fresh(1);
+    let mut out = [0; 512];
+    for coordinator in (1..=count).rev() {
+        assert_eq!(step(SIZES, &mut state, &transaction_at(30, coordinator, 7, 2), &mut out), Ok(0));
+    }
+    state
+}
+
+/// The same state as a core before 2.1 would have left it, with early as it came.
+fn as_it_came(state: &[u8], count: usize) -> Vec<u8> {
+    let mut old = state.to_vec();
+    for (place, bytes) in state[EARLY..].chunks(24).take(count).rev().enumerate() {
+        old[EARLY + 24 * place..][..24].copy_from_slice(bytes);
+    }
+    old
+}
+
+#[test]
+fn early_is_kept_in_order() {
+    let state = with_early(16);
+    let coordinators: Vec<u8> = state[EARLY..].chunks(24).take(16).map(|entry| entry[20]).collect();
+    assert_eq!(coordinators, (1..=16).collect::<Vec<_>>());
+    assert!(is_good(SIZES, &state));
+}
+
+#[test]
+fn an_older_state_is_put_in_order() {
+    let mut out = [0xa5; 512];
+    for count in [2, 5, 16] {
+        let state = with_early(count as u64);
+        let mut old = as_it_came(&state, count);
+        let before = old.clone();
+        assert!(!is_good(SIZES, &old));
+        assert_eq!(step(SIZES, &mut old, &TICK, &mut out), Err(Refusal::WrongState));
+        assert_eq!(old, before);
+        assert_eq!(order(SIZES, &mut old), Ok(()));
+        assert_eq!(old, state);
+    }
+}
+
+#[test]
+fn a_good_state_stays_when_it_is_ordered() {
+    for count in [0, 1, 16] {
+        let state = with_early(count);
+        let mut ordered = state.clone();
+        assert_eq!(order(SIZES, &mut ordered), Ok(()));
+        assert_eq!(ordered, state);
+    }
+}
+
+#[test]
+fn what_is_wrong_otherwise_is_not_ordered() {
+    let mut state = as_it_came(&with_early(5), 5);
+    let length = state.len();
+    let damaged = |place: usize, value: u8| {
+        let mut damaged = state.clone();
+        damaged[place] = value;
+        damaged
+    };
+    for mut wrong in
+        [damaged(3, 1), damaged(EARLY + 16, 0), damaged(EARLY + 22, 2), damaged(EARLY + 44, 5), damaged(length - 1, 1)]
+    {
+        let before = wrong.clone();
+        assert_eq!(order(SIZES, &mut wrong), Err(Refusal::WrongState));
+        assert_eq!(wrong, before);
+    }
+    let before = state.clone();
+    assert_eq!(order(SIZES, &mut state[..length - 1]), Err(Refusal::WrongState));
+    assert_eq!(order(SIZES, &mut []), Err(Refusal::WrongState));
+    for wrong in [Sizes { sites: 4, ..SIZES }, Sizes { groups: 2, ..SIZES }, Sizes { capacity: 17, ..SIZES }] {
+        assert_eq!(order(wrong, &mut state), Err(Refusal::WrongState));
+    }
+    assert_eq!(state, before);
 }
 
 #[test]

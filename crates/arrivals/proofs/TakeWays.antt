@@ -13,6 +13,7 @@ use Rattle.octets.proofs.Sections.{splice-whole}
 use Rattle.rules.specs.Kind.{rowOf}
 use Rattle.rules.specs.Choice.{pick}
 use Rattle.rules.specs.Group.{holds}
+use Rattle.rules.specs.Entry.{place}
 use Rattle.rules.specs.Log.{followsLast}
 use Rattle.rules.specs.Wire.{entryBytes, wireBytes}
 use Rattle.rules.specs.Read.{lengthFor}
@@ -44,7 +45,7 @@ module _ (sh : Shape) (st : State) (e : Entry) where
     unfolding followerTakes pick
     no-early h = rw (f, lt-leb (suc (length (st .waiting .early))) (sh .c) (omega arith))
 
-    to-early : length (st .waiting .early) < sh .c → followerTakes sh st e ≡ done (withWaiting (st .waiting .early ++ (e ∷ [])) (st .waiting .late) (st .waiting .notes) st) []
+    to-early : length (st .waiting .early) < sh .c → followerTakes sh st e ≡ done (withWaiting (place e (st .waiting .early)) (st .waiting .late) (st .waiting .notes) st) []
     unfolding followerTakes pick
     to-early h = rw (f, le-leb (suc (length (st .waiting .early))) (sh .c) (omega arith))
 
@@ -80,7 +81,7 @@ module _ (sh : Shape) (b out : List ℕ) (e : Entry) (t : Bool) (q : t ≡ follo
     pub early-full : sh .c ≤ n → leaves 8 b out ≡ closes sh b out (followerTakes sh st e)
     early-full h = sym (ap (closes sh b out) (no-early sh st e (sym q ∙ z) (rw k at h)) ∙ closes-refused sh b out 8)
 
-    pub early-taken : n < sh .c → (b′ : List ℕ) → Midway sh (withWaiting (st .waiting .early ++ (e ∷ [])) (st .waiting .late) (st .waiting .notes) st) b′ → quiet b′ out ≡ closes sh b out (followerTakes sh st e)
+    pub early-taken : n < sh .c → (b′ : List ℕ) → Midway sh (withWaiting (place e (st .waiting .early)) (st .waiting .late) (st .waiting .notes) st) b′ → quiet b′ out ≡ closes sh b out (followerTakes sh st e)
     early-taken h b′ m = sym (ap (closes sh b out) (to-early sh st e (sym q ∙ z) (rw k at h)) ∙ closes-quiet sh b out _ ∙ ap (λ (y : List ℕ). quiet y out) (sym (m .bytes)))
 
   module _ (z : t ≡ false) (n : ℕ) (k : n ≡ length (st .waiting .late)) where
@@ -120,13 +121,13 @@ module _ {sh : Shape} {st : State} {b : List ℕ} (s : Stands sh st b) (e : Entr
 
 -- ---- what a leader keeps
 
-pub taken-is : {sh : Shape} {b : List ℕ} (st : State) (e : Entry) (own : ℕ) (b′ : List ℕ) → Midway sh (withWaiting (st .waiting .early ++ (e ∷ [])) (st .waiting .late) (st .waiting .notes) st) b → own ≡ st .site .group
+pub taken-is : {sh : Shape} {b : List ℕ} (st : State) (e : Entry) (own : ℕ) (b′ : List ℕ) → Midway sh (withWaiting (place e (st .waiting .early)) (st .waiting .late) (st .waiting .notes) st) b → own ≡ st .site .group
     → b′ ≡ image sh (withWaiting (lifted sh (keepNote sh e own (e .stamp) (stateOf sh b .waiting .notes)) e (stateOf sh b .waiting .early)) (stateOf sh b .waiting .late) (keepNote sh e own (e .stamp) (stateOf sh b .waiting .notes)) (stateOf sh b))
     → b′ ≡ image sh (takenEarly sh st e)
 taken-is {sh} {b} st e own b′ m g w =
     w
     ∙ ap (λ (x : State). image sh (withWaiting (lifted sh (keepNote sh e own (e .stamp) (x .waiting .notes)) e (x .waiting .early)) (x .waiting .late) (keepNote sh e own (e .stamp) (x .waiting .notes)) x)) (midway-is m)
-    ∙ ap (λ (k : ℕ). image sh (withWaiting (lifted sh (keepNote sh e k (e .stamp) (st .waiting .notes)) e (st .waiting .early ++ (e ∷ []))) (st .waiting .late) (keepNote sh e k (e .stamp) (st .waiting .notes)) st)) g
+    ∙ ap (λ (k : ℕ). image sh (withWaiting (lifted sh (keepNote sh e k (e .stamp) (st .waiting .notes)) e (place e (st .waiting .early))) (st .waiting .late) (keepNote sh e k (e .stamp) (st .waiting .notes)) st)) g
 
 -- ---- a leader's ways
 

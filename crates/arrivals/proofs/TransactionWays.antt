@@ -1,17 +1,18 @@
 -- The ways through the handler of kind 1. Assumes nothing.
 use Prim.Native.Nat.{ℕ, _+_, _≤_, _<_}
-use mathlib.Core.Path.{_≡_, refl, sym, ap, ap₂, _∙_}
+use mathlib.Core.Path.{_≡_, refl, sym, ap, ap₂, subst, _∙_}
 use mathlib.Core.Bool.{Bool, true, false}
 use mathlib.Core.List.{List}
 use native.Mathlib.Omega.{arith}
-use lib.ListN.{getD}
-use lib.Dec.{leb}
-use borrow.Author.Tests.{leb-true, le-leb, lt-leb}
+use lib.ListN.{length, getD}
+use lib.Dec.{eqb, leb}
+use borrow.Author.Tests.{eqb-true, leb-true, le-leb, lt-leb}
 use Rattle.rules.specs.Choice.{pick, any}
+use Rattle.rules.specs.Group.{holds}
 use Rattle.rules.specs.Entry.{latest, stamped, among}
 use Rattle.rules.specs.Log.{raised}
 use Rattle.rules.specs.Wire.{Wire, firstEntry, tagOf, numbersOf}
-use Rattle.rules.specs.Kind.{known, rowOf}
+use Rattle.rules.specs.Kind.{known, rowOf, withOne}
 use Rattle.rules.specs.Wire as wires
 use Rattle.rules.specs.Read.{wireIn}
 use Rattle.rules.specs.State.{State, leads}
@@ -23,10 +24,10 @@ use Rattle.rules.specs.declared.Header.{Header}
 use Rattle.rules.specs.declared.Shape.{Shape}
 use Rattle.rules.specs.declared.Message.{Message}
 use Rattle.rules.specs.declared.Message.the-variants as cases
-use Rattle.rules.proofs.Choice.{and-right, or-left, or-right}
-use Rattle.rules.proofs.Tests.{split}
+use Rattle.rules.proofs.Choice.{and-left, and-right, or-left, or-right}
+use Rattle.rules.proofs.Tests.{split, so-when}
 use Rattle.handler.specs.Handler.{Ready, handled}
-use Rattle.handler.proofs.Told.{told-right}
+use Rattle.handler.proofs.Told.{told-right, told-one}
 use Rattle.handler.proofs.Ways.{by-rule, refuses, said, said-number}
 
 -- ---- the rule, by its tests
@@ -81,6 +82,15 @@ module _ (sh : Shape) (b msg out : List ℕ) (m : Message) (h : Header) (time bo
       let f = split _ (told-right (sh .n) (sh .s) m msg (said r 1 own kind-known) 1 own .number 1 (omega arith)) 0 in
       omega (arith, due-is, leb-true (due w) latest (and-right (leb 1 (due w)) (leb (due w) latest) f))
 
+  -- its entry is the own group's too
+  entry-ours : holds (firstEntry w .mask) (st .site .group) ≡ true
+  unfolding rowOf
+  entry-ours =
+      let t = said r 1 own kind-known in
+      let n : length (w .entries) ≡ 1 = told-one (sh .n) (sh .s) m msg t (ap withOne own) in
+      let f = split _ (told-right (sh .n) (sh .s) m msg t 1 own .entry 0 (omega arith) 4) 1 in
+      subst (λ (k : ℕ). holds (firstEntry w .mask) k ≡ true) (eqb-true _ _ (and-left (eqb (w .toGroup) (st .site .group)) _ (r .here))) (so-when _ _ f refl)
+
   module _ (x : Entry) (q : x ≡ firstEntry w) (t : Bool) (a : t ≡ knownTo st x) where
     pub known-way : t ≡ true → leaves 7 b out ≡ handled 1 onTransaction sh m b msg out
     known-way z = refuses 1 onTransaction sh b msg out m own 7 (again sh st w x q (sym a ∙ z))
@@ -90,6 +100,9 @@ module _ (sh : Shape) (b msg out : List ℕ) (m : Message) (h : Header) (time bo
         -- it is not among the early ones
         pub not-early : (z′ : Entry) → z′ ≡ raised (st .logged .log) y → among (st .waiting .early) z′ ≡ false
         not-early z′ v′ = ap (λ (d : Entry). among (st .waiting .early) d) (v′ ∙ ap (raised (st .logged .log)) u) ∙ or-left (among (st .waiting .early) x) (among (st .waiting .late) x) (or-right (among (st .logged .log) x) _ (sym a ∙ z))
+
+        pub ours : (z′ : Entry) → z′ ≡ raised (st .logged .log) y → holds (z′ .mask) (st .site .group) ≡ true
+        ours z′ v′ = ap (λ (d : Entry). holds (d .mask) (st .site .group)) (v′ ∙ ap (raised (st .logged .log)) u) ∙ ap (λ (d : Entry). holds (d .mask) (st .site .group)) q ∙ entry-ours
 
         module _ (k : l ≡ true) (z′ : Entry) (g : z′ ≡ raised (st .logged .log) y) where
           lifted-is : z′ ≡ raised (st .logged .log) (stamped (due w) x)

@@ -13,19 +13,20 @@ ghost use Prim.Native.Nat.{_<_, _≤_};
 ghost use lib.Dec.{ltb};
 ghost use lib.ListN.{length};
 ghost use Rattle.octets.specs.Bytes.{splice, flat};
+ghost use Rattle.rules.specs.Group.{holds};
 ghost use Rattle.rules.specs.Entry.{among};
-ghost use Rattle.rules.specs.Log.{distinct};
 ghost use Rattle.rules.specs.State.{withWaiting};
 ghost use Rattle.rules.specs.Image.{tableAt, image, stateOf};
 ghost use Rattle.rules.specs.Wire.{wireBytes};
-ghost use Rattle.rules.specs.Early.{keepNote, lifted};
+ghost use Rattle.rules.specs.Early.{keepNote, putEarly, lifted};
 ghost use Rattle.rules.specs.Step.{knownTo, leaderTakes, followerTakes, onTransaction, onNote};
 ghost use Rattle.rules.specs.Bytes.{left, closes};
+ghost use Rattle.rules.proofs.Order.{Sorted};
 ghost use Rattle.entries.specs.Table.{Table};
 ghost use Rattle.notes.specs.Notes.{row};
 ghost use Rattle.places.specs.Layout.{Midway, Stands};
 ghost use Rattle.handler.specs.Handler.{Ready, handled};
-ghost use Rattle.arrivals.specs.Taken.{noteSends, takenEarly};
+ghost use Rattle.arrivals.specs.Taken.{noteSends, takenEarly, Lifting};
 
 // ---- what stands in the tables
 
@@ -59,8 +60,7 @@ fn keep_note(shape: Shape, state: &mut [u8], e: Entry, j: u64, stamp: u64)
 // Keeps a note, and lifts the early entry where it was the last that was missing.
 fn keep_and_lift(shape: Shape, state: &mut [u8], e: Entry, j: u64, stamp: u64)
     requires { ⌜ (let st = stateOf shape (now state) in
-        Midway shape st (now state) × (distinct (st .waiting .early) ≡ true)
-        × (row (e .request) (e .coordinator) (st .waiting .notes) < shape .c) × (j < shape .s)) ⌝ }
+        Midway shape st (now state) × Lifting shape e j stamp (st .waiting .early) (st .waiting .notes)) ⌝ }
     ensures { λ _. ⌜ (let st = stateOf shape (now (state .entry)) in
         let notes = keepNote shape e j stamp (st .waiting .notes) in
         now (state .exit) ≡ image shape (withWaiting (lifted shape notes e (st .waiting .early)) (st .waiting .late) notes st)) ⌝ }
@@ -95,11 +95,12 @@ fn room_for_note(shape: Shape, state: &[u8], e: Entry) -> bool
 
 // ---- taking an entry
 
-// Puts e into early.
+// Puts e into early, in its place.
 fn add_early(shape: Shape, state: &mut [u8], e: Entry)
-    requires { ⌜ Midway shape (stateOf shape (now state)) (now state) × (length (stateOf shape (now state) .waiting .early) < shape .c) ⌝ }
+    requires { ⌜ (let st = stateOf shape (now state) in
+        Midway shape st (now state) × (length (st .waiting .early) < shape .c) × Sorted (st .waiting .early)) ⌝ }
     ensures { λ _. ⌜ (let st = stateOf shape (now (state .entry)) in
-        Midway shape (withWaiting (st .waiting .early ++ (e ∷ [])) (st .waiting .late) (st .waiting .notes) st) (now (state .exit))) ⌝ }
+        Midway shape (withWaiting (putEarly e (st .waiting .early)) (st .waiting .late) (st .waiting .notes) st) (now (state .exit))) ⌝ }
 {
     let layout = places::places_of(shape);
     let start = layout.early;
@@ -168,7 +169,7 @@ fn tell_notes(shape: Shape, state: &[u8], e: Entry, out: &mut [u8]) -> usize
 fn take_early(shape: Shape, state: &mut [u8], e: Entry)
     requires { ⌜ (let st = stateOf shape (now state) in
         Stands shape st (now state) × (among (st .waiting .early) e ≡ false) × (length (st .waiting .early) < shape .c)
-        × (row (e .request) (e .coordinator) (st .waiting .notes) < shape .c)) ⌝ }
+        × (row (e .request) (e .coordinator) (st .waiting .notes) < shape .c) × (holds (e .mask) (st .site .group) ≡ true)) ⌝ }
     ensures { λ _. ⌜ now (state .exit) ≡ image shape (takenEarly shape (stateOf shape (now (state .entry))) e) ⌝ }
 {
     let own = places::get_group(state);
@@ -178,7 +179,8 @@ fn take_early(shape: Shape, state: &mut [u8], e: Entry)
 
 // A leader puts e in early, keeps its own note, and tells the other masked groups' leaders.
 fn leader_takes(shape: Shape, state: &mut [u8], e: Entry, out: &mut [u8]) -> Answer
-    requires { ⌜ Stands shape (stateOf shape (now state)) (now state) × (among (stateOf shape (now state) .waiting .early) e ≡ false) ⌝ }
+    requires { ⌜ (let st = stateOf shape (now state) in
+        Stands shape st (now state) × (among (st .waiting .early) e ≡ false) × (holds (e .mask) (st .site .group) ≡ true)) ⌝ }
     ensures { λ r. ⌜ left r (now (state .exit)) (now (out .exit))
         ≡ closes shape (now (state .entry)) (now (out .entry)) (leaderTakes shape (stateOf shape (now (state .entry))) e) ⌝ }
 {

@@ -180,15 +180,15 @@ p 190 3 0 4 3
 e 190 3 4 10 1 2
 e 190 3 28 20 2 3
 e 190 3 52 20 3 7
-# Two early entries: one that all three groups have noted, and one that only the own group has, as early as the log's last.
+# Two early entries: one that only the own group has noted, as early as the log's last, and one that all three groups have.
 p 94 4 0 4 2
-e 94 4 4 30 4 7
-e 94 4 28 20 5 3
+e 94 4 4 20 5 3
+e 94 4 28 30 4 7
 # Two late ones.
 p 254 5 0 4 2
 e 254 5 4 5 6 2
 e 254 5 28 7 7 6
-# The notes: of the first early entry 30, 25 and 28, of the second 20 by the own group; and 40 by group 2 for a transaction to come.
+# The notes: of the second early entry 30, 25 and 28, of the first 20 by the own group; and 40 by group 2 for a transaction to come.
 p 254 6 0 4 3
 p 254 6 4 4 4
 p 254 6 8 2 7

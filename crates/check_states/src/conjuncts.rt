@@ -74,15 +74,15 @@ g 1 6 95 8 0|0|leader, broken: note, timestamp 0
 g 1 6 95 8 x8000000000000000|0|leader, broken: note, timestamp 2^63
 g 1 6 95 8 x7fffffffffffffff|1|leader, good: note, timestamp 2^63 - 1
 g 1 6 70 4 4|0|leader, broken: two notes for one transaction
-# A leader's early entries in status 1: the first agreed, at the greatest of 30, 25 and 28, the second at the own note.
+# A leader's early entries in status 1: the second agreed, at the greatest of 30, 25 and 28, the first at the own note.
 g 1 6 37 4 9|0|leader, broken: early without a note
 g 1 6 19 2 0|0|leader, broken: early without its own note
-g 1 4 4 8 25|0|leader, broken: agreed, at the own note
-g 1 4 4 8 31|0|leader, broken: agreed, above the greatest
-g 1 4 28 8 21|0|leader, broken: not agreed, off its note
-g 2 4 28 8 21|1|follower, good: not agreed, off its note
-g 3 4 28 8 21|1|view change, good: not agreed, off its note
-# One note more for the second, of mask 3: group 0 is in the mask, and group 2 is not.
+g 1 4 28 8 25|0|leader, broken: agreed, at the own note
+g 1 4 28 8 31|0|leader, broken: agreed, above the greatest
+g 1 4 4 8 21|0|leader, broken: not agreed, off its note
+g 2 4 4 8 21|1|follower, good: not agreed, off its note
+g 3 4 4 8 21|1|view change, good: not agreed, off its note
+# One note more for the first, of mask 3: group 0 is in the mask, and group 2 is not.
 g 1 6 43 2 4865|1|leader, good: agreed by a lower note
 g 1 6 43 2 8705|0|leader, broken: agreed by a greater note
 g 1 6 61 2 8705|1|leader, good: noted past its mask
@@ -164,8 +164,8 @@ g 6 4 24 2 65534|1|no log, early: coordinator 65534, good
 g 6 4 26 2 11|0|no log, early: mask past S
 g 6 4 26 2 5|0|no log, early: mask lacks the own group
 g 6 4 26 2 0|0|no log, early: mask empty
-g 6 4 4 8 x7fffffffffffffff|1|no log, early: last timestamp, good
-g 6 4 4 8 x8000000000000000|0|no log, early: timestamp 2^63
+g 6 4 28 8 x7fffffffffffffff|1|no log, early: last timestamp, good
+g 6 4 28 8 x8000000000000000|0|no log, early: timestamp 2^63
 # Late ones.
 g 6 5 4 8 0|0|no log, late: timestamp 0
 g 6 5 20 4 0|0|no log, late: request 0
@@ -177,13 +177,17 @@ g 6 5 26 2 0|0|no log, late: mask empty
 g 6 5 4 8 x7fffffffffffffff|1|no log, late: last timestamp, good
 g 6 5 4 8 x8000000000000000|0|no log, late: timestamp 2^63
 # A transaction twice over log, early and late; and a timestamp below the log's last. Request 1 of coordinator 8 is another.
-g 2 4 20 4 1|0|follower, broken: twice, log and early
+g 2 4 44 4 1|0|follower, broken: twice, log and early
 g 2 5 20 4 1|0|follower, broken: twice, log and late
 g 2 5 20 4 4|0|follower, broken: twice, early and late
-g 2 4 20 4 5|0|follower, broken: twice in early
+g 2 4 44 4 5|0|follower, broken: twice in early
 g 2 5 20 4 7|0|follower, broken: twice in late
-g 2 4 20 8 x7000800000001|1|follower, good: another coordinator
-g 2 4 28 8 19|0|follower, broken: early below the log
+g 2 4 44 8 x7000800000001|1|follower, good: another coordinator
+g 2 4 4 8 19|0|follower, broken: early below the log
+g 2 4 4 8 31|0|follower, broken: early not in order
+g 3 4 4 8 31|0|view change, broken: early not in order
+g 2 4 4 8 30|0|follower, broken: early, requests of one timestamp fall
+g 2 4 28 8 21|1|follower, good: early at a lower timestamp, still in order
 g 2 5 4 8 21|1|follower, good: late above the log
 ",
         memory,

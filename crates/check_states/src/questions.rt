@@ -2,7 +2,7 @@
 pub fn check(memory: &mut [u8], out: &mut [u8]) -> u64 {
     crate::run(
         b"\
-i|20000|version
+i|20100|version
 m|0|is the model
 # Replica 1 of group 1 at n = 3, S = 2, C = 16, fresh: the own numbers and status 1, all else 0, and replica 0 leads.
 s 3 2 16 1 1 4004|0|start of replica 1 of group 1

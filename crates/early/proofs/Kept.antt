@@ -1,17 +1,16 @@
--- What stays of a list, and those due. Assumes nothing.
+-- What stays of a list. Assumes nothing.
 use Prim.Native.Nat.{ℕ}
-use mathlib.Core.Path.{_≡_, refl, ap, _∙_}
-use mathlib.Core.Bool.{Bool, true, not}
-use mathlib.Core.List.{List, [], _∷_}
-use lib.Dec.{leb}
+use mathlib.Core.Path.{_≡_, refl, sym, ap, ap₂, subst, _∙_}
+use mathlib.Core.Bool.{Bool, true, false, not}
+use mathlib.Core.List.{List, [], _∷_, _++_}
+use lib.ListN.{take, drop, take-append-drop}
 use Rattle.octets.proofs.Codecs.{All}
 use Rattle.rules.specs.Choice.{any, keep}
-use Rattle.rules.specs.Entry.{noEntry, among, without}
+use Rattle.rules.specs.Entry.{noEntry, entryOf, sameTxn, among, without}
 use Rattle.rules.specs.Log.{distinct}
-use Rattle.rules.specs.Early.{dueOf}
 use Rattle.rules.specs.declared.Entry.{Entry}
-use Rattle.rules.proofs.Choice.{pick-true, Pairs, at-all, pairs-keep}
-use Rattle.rules.proofs.Order.{perm-pairs, ordered-perm}
+use Rattle.rules.proofs.Choice.{pick-true, pick-false, Pairs, all-map, all-cross, at-all, at-any, none-any, keep-append, pairs-keep, pairs-across}
+use Rattle.rules.proofs.Order.{txn-same}
 use Rattle.rules.proofs.Logs.{Apart, apart-turns, distinct-pairs, pairs-distinct}
 
 module _ {A : Type 0} where
@@ -20,6 +19,12 @@ module _ {A : Type 0} where
   unfolding keep
   keep-all p [] a = refl
   keep-all p (x ∷ xs) a = pick-true (p x) (x ∷ keep p xs) (keep p xs) (a .0) ∙ ap (λ (l : List A). x ∷ l) (keep-all p xs (a .1))
+
+  -- none passes
+  keep-nothing : (p : A → Bool) (xs : List A) → All (λ x. p x ≡ false) xs → keep p xs ≡ []
+  unfolding keep
+  keep-nothing p [] a = refl
+  keep-nothing p (x ∷ xs) a = pick-false (p x) (x ∷ keep p xs) (keep p xs) (a .0) ∙ keep-nothing p xs (a .1)
 
 -- no transaction stands twice in what stays
 pub keep-distinct : (p : Entry → Bool) (es : List Entry) → distinct es ≡ true → distinct (keep p es) ≡ true
@@ -30,7 +35,17 @@ pub without-none : (es : List Entry) → without [] es ≡ es
 unfolding any
 without-none es = keep-all (λ e. not (among [] e)) es (at-all (λ e. not (among [] e) ≡ true) noEntry es (λ i l. refl))
 
--- no transaction stands twice among those due
-pub due-apart : (time : ℕ) (es : List Entry) → distinct es ≡ true → Pairs Apart (dueOf time es)
-due-apart time es h =
-    perm-pairs Apart apart-turns (ordered-perm (keep (λ e. leb (e .stamp) time) es)) (pairs-keep (λ e. leb (e .stamp) time) Apart es (distinct-pairs es h))
+-- where no transaction stands twice, those of the first k leave these alone
+pub without-first : (k : ℕ) (es : List Entry) → distinct es ≡ true → without (take k es) es ≡ drop k es
+without-first k es h =
+    ap (without (take k es)) (sym (take-append-drop k es))
+    ∙ keep-append stays (take k es) (drop k es)
+    ∙ ap₂ (λ (xs ys : List Entry). xs ++ ys)
+    (keep-nothing stays (take k es) (at-all (λ e. stays e ≡ false) noEntry (take k es) (λ i l. ap not (at-any (sameTxn (entryOf (take k es) i)) noEntry (take k es) i l (txn-same (entryOf (take k es) i))))))
+    (keep-all stays (drop k es) (all-map (λ e a. ap not (none-any (sameTxn e) (take k es) a)) (drop k es) others))
+  where
+    stays : Entry → Bool
+    stays e = not (among (take k es) e)
+
+    others : All (λ e. All (λ d. sameTxn e d ≡ false) (take k es)) (drop k es)
+    others = all-cross Apart (drop k es) (take k es) (all-map (λ d a. all-map (λ e q. apart-turns d e q) (drop k es) a) (take k es) (pairs-across Apart (take k es) (drop k es) (subst (Pairs Apart) (sym (take-append-drop k es)) (distinct-pairs es h))))

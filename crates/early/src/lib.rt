@@ -5,30 +5,21 @@ ghost use mathlib.Core.Path.{_≡_};
 ghost use mathlib.Core.Bool.{true, false};
 ghost use mathlib.Core.List.{[], _∷_, _++_};
 ghost use Prim.Native.Nat.{_+_, _*_, _<_, _≤_};
-ghost use lib.ListN.{length, take, set};
+ghost use lib.ListN.{length, take, drop, set};
 ghost use Rattle.rules.specs.Choice.{pick, any, keep};
-ghost use Rattle.rules.specs.Entry.{noEntry, entryOf};
-ghost use Rattle.rules.specs.Log.{distinct};
+ghost use Rattle.rules.specs.Entry.{noEntry, entryOf, before, place};
 ghost use Rattle.rules.specs.State.{noteOf};
 ghost use Rattle.rules.specs.Early.{dueOf, notesWithout};
 ghost use Rattle.rules.specs.Image.{noteLength, tableAt};
+ghost use Rattle.rules.proofs.Order.{Sorted};
 ghost use Rattle.entries.specs.First.{isOf};
 ghost use Rattle.entries.specs.Table.{Holds, Table};
 ghost use Rattle.notes.specs.Notes.{notesAt, noNote, noteIn, NotesHold, Notes};
-ghost use Rattle.early.specs.Due.{isNext, Reached, DueAt};
-ghost use Rattle.early.specs.Due as search;
 ghost use Rattle.early.specs.Listed as listing;
 ghost use Rattle.early.specs.Listed.{listedIn, Lookup, placed, stays};
 ghost use Rattle.early.specs.declared.Which.the-variants.{Any, After, NotAfter};
 ghost use Rattle.early.specs.Moved.{moved, movedTo};
 ghost use Rattle.early.specs.Buffers.{BothHold, earlyIn, lateIn, Both};
-
-// What is looked for among the entries due by a time: the one after the last of the i that were found.
-struct Next {
-    time: u64,
-    i: usize,
-    last: Entry,
-}
 
 // A turn of a pass that moves what stays to the front: what is looked at next, and how many stayed so far.
 struct Turn {
@@ -51,82 +42,40 @@ pub struct Listed {
 
 // ---- an entry comes
 
-// Puts e into the buffer.
+// Puts e into the buffer, in its place.
 pub fn put(t: &mut [u8], c: usize, e: Entry)
-    requires { ⌜ Table c (now t) × (length (tableAt c (now t) 0) < c) ⌝ }
-    ensures { λ _. ⌜ Holds c (tableAt c (now (t .entry)) 0 ++ (e ∷ [])) (now (t .exit)) ⌝ }
+    requires { ⌜ Table c (now t) × (length (tableAt c (now t) 0) < c) × Sorted (tableAt c (now t) 0) ⌝ }
+    ensures { λ _. ⌜ Holds c (place e (tableAt c (now (t .entry)) 0)) (now (t .exit)) ⌝ }
 {
-    entries::append(t, c, e);
+    entries::insert_in_order(t, c, e);
 }
 
-// Puts e, which is entry i at another timestamp, in its place.
+// Puts e, which is entry i at a timestamp that is not below its own, in its place.
 pub fn lift(t: &mut [u8], c: usize, i: usize, e: Entry)
-    requires { ⌜ Table c (now t) × (i < length (tableAt c (now t) 0)) ⌝ }
-    ensures { λ _. ⌜ Holds c (set (tableAt c (now (t .entry)) 0) i e) (now (t .exit)) ⌝ }
+    requires { ⌜ (let es = tableAt c (now t) 0 in
+        Table c (now t) × (i < length es) × Sorted es × (before e (entryOf es i) ≡ false)) ⌝ }
+    ensures { λ _. ⌜ (let es = tableAt c (now (t .entry)) 0 in Holds c (place e (take i es ++ drop (i + 1) es)) (now (t .exit))) ⌝ }
 {
-    entries::replace_at(t, c, i, e);
+    entries::move_on(t, c, i, e);
 }
 
 // ---- those that are due
 
-// How many entries are due by a time.
+// How many entries are due by a time: they come first.
 pub fn count_due(t: &[u8], c: usize, time: u64) -> usize
     requires { ⌜ Table c (now t) ⌝ }
     ensures { λ r. ⌜ r ≡ length (dueOf time (tableAt c (now (t .entry)) 0)) ⌝ }
 {
     let n = entries::count(t);
-    let mut due = 0;
     let mut k = 0;
     while k < n {
         let e = entries::entry_of(t, c, k);
-        if e.stamp <= time {
-            due += 1;
+        if time < e.stamp {
+            return k;
         }
         k += 1;
     }
-    due
-}
-
-// Whether e is due by the time and comes after the last that was found; where none was, all come after it.
-fn is_next(next: Next, e: Entry) -> bool
-    ensures { λ r. ⌜ r ≡ isNext (next .time) (next .i) (next .last) e ⌝ }
-{
-    let last = next.last;
-    (e.stamp <= next.time) & ((next.i == 0) | entries::before(last, e))
-}
-
-// Of place k and the best so far, the one whose entry comes first by the order, where entry k is next at all; n is the best where there is none.
-fn nearer(t: &[u8], c: usize, next: Next, n: usize, best: usize, k: usize) -> usize
-    requires { ⌜ Table c (now t) × (n ≡ length (tableAt c (now t) 0)) × (best ≤ n) × (k < n) ⌝ }
-    ensures { λ r. ⌜ r ≡ search.nearer (isNext (next .time) (next .i) (next .last)) (entryOf (tableAt c (now (t .entry)) 0)) n best k ⌝ }
-{
-    let e = entries::entry_of(t, c, k);
-    if !is_next(next, e) {
-        return best;
-    }
-    if best == n {
-        return k;
-    }
-    if entries::before(e, entries::entry_of(t, c, best)) {
-        return k;
-    }
-    best
-}
-
-// The place of entry i of those due by a time, given the one before it, or the count of entries where only i are due.
-pub fn due_at(t: &[u8], c: usize, time: u64, i: usize, last: Entry) -> usize
-    requires { ⌜ Table c (now t) × (distinct (tableAt c (now t) 0) ≡ true) × Reached time (tableAt c (now t) 0) i last ⌝ }
-    ensures { λ r. ⌜ DueAt time (tableAt c (now (t .entry)) 0) i r ⌝ }
-{
-    let n = entries::count(t);
-    let next = Next { time, i, last };
-    let mut best = n;
-    let mut k = 0;
-    while k < n {
-        best = nearer(t, c, next, n, best, k);
-        k += 1;
-    }
-    best
+    n
 }
 
 // ---- those that are listed

@@ -1,6 +1,6 @@
 -- The buffers and the notes: no transaction twice, and what the notes say of early entries. Assumes nothing.
 use Prim.Native.Nat.{ℕ, _+_, _*_, _≤_, _<_}
-use mathlib.Core.Path.{_≡_, refl, sym, ap, _∙_}
+use mathlib.Core.Path.{_≡_, refl, sym, ap, ap₂, _∙_}
 use mathlib.Core.Bool.{Bool, true, false, _&&_, not, and-false}
 use mathlib.Core.Option.{Option, none, some}
 use mathlib.Core.List.{List, [], _∷_, _++_}
@@ -10,27 +10,27 @@ use lib.Dec.{eqb}
 use borrow.Author.Tests.{eq-eqb, ne-eqb, not-true, not-false}
 use Rattle.octets.specs.Bytes.{num, part}
 use Rattle.octets.proofs.Logic.{and-cross}
-use Rattle.rules.specs.Choice.{pick, every}
+use Rattle.rules.specs.Choice.{pick, allOf, every}
 use Rattle.rules.specs.Group.{holds}
 use Rattle.rules.specs.Entry.{noEntry, sameTxn, among, entryFits, before}
-use Rattle.rules.specs.Log.{followsLast, lastOf, goodLog, allHold, distinct}
+use Rattle.rules.specs.Log.{followsLast, lastOf, riseFrom, goodLog, allHold, distinct}
 use Rattle.rules.specs.State.{Note, State, leads, noted, notedTo, greatestTo, buffersGood, earlyGood, notesDistinct}
 use Rattle.rules.specs.State as rule
 use Rattle.rules.specs.Image.{noteLength, stateLength, tableAt, stateOf, atEarly, atLate, atLog, atNotes}
 use Rattle.rules.specs.declared.Entry.{Entry}
 use Rattle.rules.specs.declared.Shape.{Shape}
-use Rattle.rules.proofs.Choice.{or-left, any-append, all-map}
+use Rattle.rules.proofs.Choice.{or-left, any-append, all-map, truth}
+use Rattle.rules.proofs.InOrder.{buffers-ordered, fits-ordered}
 use Rattle.rules.proofs.Logs.{after-nothing}
 use Rattle.rules.proofs.Tests.{and-l, and-r, and-both, split, join, _also_, each, each-of, each-front, each-back, each-append}
-use Rattle.logs.specs.Place.{fits, Within}
+use Rattle.logs.specs.Place.{fits, fitFrom, Within}
 use Rattle.notes.specs.Notes.{noteIn, notesAt, row, said, sized, Notes}
 use Rattle.notes.specs.declared.Point.{Point}
 use Rattle.notes.specs.declared.Point.the-variants.{Unheard, Heard}
 use Rattle.notes.proofs.Row.{ask-found, ask-none}
 use Rattle.places.specs.Layout.{startOf}
-use Rattle.good.specs.Known.{notedRight, entriesGood, earlyRight, notesRight, Lent}
+use Rattle.good.specs.Known.{notedRight, entriesGood, earlyRight, notesRight, Lent, asked}
 use Rattle.places.proofs.Fields.{fields}
-use Rattle.good.proofs.Tables.{truth}
 
 -- ---- what the notes say of an entry
 
@@ -90,10 +90,14 @@ module _ (s k : ℕ) where
   every-and p q [] = refl
   every-and p q (x ∷ xs) = ap (λ (t : Bool). (p x && q x) && t) (every-and p q xs) ∙ and-cross (p x) (q x) (every p xs) (every q xs)
 
+  -- they lie after an entry and, where it is asked, each after the one before it
+  abbrev follow : Bool → Entry → List Entry → Bool
+  follow ordered last xs = pick ordered (riseFrom last xs) (every (before last) xs)
+
   -- entries that fit: in range, after an entry, their masks with k
-  record Fit (last : Entry) (xs : List Entry) : Type 0 where
+  record Fit (ordered : Bool) (last : Entry) (xs : List Entry) : Type 0 where
     ranges : every (entryFits s) xs ≡ true
-    after : every (before last) xs ≡ true
+    after : follow ordered last xs ≡ true
     masks : allHold k xs ≡ true
 
   fits-all : (last : Entry) (xs : List Entry) → every (fits s k k last) xs ≡ (every (entryFits s) xs && (every (before last) xs && (allHold k xs && allHold k xs)))
@@ -104,20 +108,42 @@ module _ (s k : ℕ) where
       (every-and (before last) (λ e. holds (e .mask) k && holds (e .mask) k) xs
       ∙ ap (λ (t : Bool). every (before last) xs && t) (every-and (λ e. holds (e .mask) k) (λ e. holds (e .mask) k) xs))
 
-  module _ (last : Entry) (xs : List Entry) where
-    fit : every (fits s k k last) xs ≡ true → Fit last xs
+  fits-from : (last : Entry) (xs : List Entry) → fitFrom s k last xs ≡ (every (entryFits s) xs && (riseFrom last xs && (allHold k xs && allHold k xs)))
+  unfolding fits fitFrom riseFrom every
+  fits-from last [] = refl
+  fits-from last (x ∷ xs) =
+      let m : Bool = holds (x .mask) k in
+      let r : Bool = riseFrom x xs in
+      let h : Bool = allHold k xs in
+      ap (λ (t : Bool). fits s k k last x && t) (fits-from x xs)
+      ∙ and-cross (entryFits s x) (before last x && (m && m)) (every (entryFits s) xs) (r && (h && h))
+      ∙ ap (λ (t : Bool). (entryFits s x && every (entryFits s) xs) && t)
+      (and-cross (before last x) (m && m) r (h && h) ∙ ap (λ (t : Bool). (before last x && r) && t) (and-cross m m h h))
+
+  -- what is found of them, with the order asked or not
+  abbrev found : Bool → Entry → List Entry → Bool
+  found ordered last xs = pick ordered (fitFrom s k last xs) (every (fits s k k last) xs)
+
+  found-all : (ordered : Bool) (last : Entry) (xs : List Entry) → found ordered last xs ≡ (every (entryFits s) xs && (follow ordered last xs && (allHold k xs && allHold k xs)))
+  unfolding pick
+  found-all true last xs = fits-from last xs
+  found-all false last xs = fits-all last xs
+
+  module _ (ordered : Bool) (last : Entry) (xs : List Entry) where
+    fit : found ordered last xs ≡ true → Fit ordered last xs
     fit h =
         let a : Bool = every (entryFits s) xs in
-        let b : Bool = every (before last) xs in
+        let b : Bool = follow ordered last xs in
         let m : Bool = allHold k xs in
-        let q : (a && (b && (m && m))) ≡ true = sym (fits-all last xs) ∙ h in
+        let q : (a && (b && (m && m))) ≡ true = sym (found-all ordered last xs) ∙ h in
         let r : (b && (m && m)) ≡ true = and-r a (b && (m && m)) q in
         record { ranges = and-l a (b && (m && m)) q; after = and-l b (m && m) r; masks = and-l m m (and-r b (m && m) r) }
 
-    fit-so : Fit last xs → every (fits s k k last) xs ≡ true
-    fit-so w = fits-all last xs ∙ and-both _ _ (w .ranges) (and-both _ _ (w .after) (and-both _ _ (w .masks) (w .masks)))
+    fit-so : Fit ordered last xs → found ordered last xs ≡ true
+    fit-so w = found-all ordered last xs ∙ and-both _ _ (w .ranges) (and-both _ _ (w .after) (and-both _ _ (w .masks) (w .masks)))
 
-  from-none : (xs : List Entry) → every (entryFits s) xs ≡ true → every (before noEntry) xs ≡ true
+  from-none : (xs : List Entry) → every (entryFits s) xs ≡ true → follow false noEntry xs ≡ true
+  unfolding pick
   from-none xs h = each-of (before noEntry) xs (all-map (after-nothing s) xs (each (entryFits s) xs h))
 
 -- a list's front has no transaction twice where the list has none
@@ -129,56 +155,72 @@ distinct-front (x ∷ xs) ys h =
     let m : among xs x ≡ false = or-left (among xs x) (among ys x) (sym (any-append (sameTxn x) xs ys) ∙ n) in
     and-both _ _ (ap not m) (distinct-front xs ys (and-r (not (among (xs ++ ys) x)) (distinct (xs ++ ys)) h))
 
--- log and buffers: one pass over each and a test for repeats say what the rules ask
-module _ (sh : Shape) (st : State) (last empty : Entry) (log early late apart : Bool) (e0 : (log && distinct (st .logged .log)) ≡ goodLog (sh .s) (st .site .group) (st .logged .log)) (e1 : last ≡ lastOf (st .logged .log)) (n1 : empty ≡ noEntry)
-    (e2 : early ≡ every (fits (sh .s) (st .site .group) (st .site .group) last) (st .waiting .early)) (e3 : late ≡ every (fits (sh .s) (st .site .group) (st .site .group) empty) (st .waiting .late)) (e4 : apart ≡ distinct (st .logged .log ++ (st .waiting .early ++ st .waiting .late))) where
-  follows-is : every (before last) (st .waiting .early) ≡ every (followsLast (st .logged .log)) (st .waiting .early)
-  follows-is = ap (λ (x : Entry). every (before x) (st .waiting .early)) e1
+-- what is asked of log and buffers, the order of early or not
+module _ (sh : Shape) (st : State) where
+  abbrev buffersWanted : Bool → Bool
+  buffersWanted ordered =
+      allOf
+      (distinct (st .logged .log ++ (st .waiting .early ++ st .waiting .late))
+      ∷ follow (sh .s) (st .site .group) ordered (lastOf (st .logged .log)) (st .waiting .early)
+      ∷ allHold (st .site .group) (st .waiting .early ++ st .waiting .late)
+      ∷ [])
 
-  to-entries : (log && (early && (late && apart))) ≡ true → entriesGood sh st ≡ true
-  unfolding entriesGood buffersGood
+  abbrev wanted : Bool → Bool
+  wanted ordered = goodLog (sh .s) (st .site .group) (st .logged .log) && (buffersWanted ordered && every (entryFits (sh .s)) (st .waiting .early ++ st .waiting .late))
+
+  wanted-is : (ordered : Bool) → wanted ordered ≡ entriesGood sh (asked ordered st)
+  unfolding entriesGood buffersGood pick
+  wanted-is true = refl
+  wanted-is false = ap₂ (λ (x y : Bool). goodLog (sh .s) (st .site .group) (st .logged .log) && (x && y)) (sym (buffers-ordered st)) (sym (fits-ordered st sh))
+
+-- log and buffers: one pass over each and a test for repeats say what the rules ask
+module _ (sh : Shape) (st : State) (ordered : Bool) (last empty : Entry) (log early late apart : Bool) (e0 : (log && distinct (st .logged .log)) ≡ goodLog (sh .s) (st .site .group) (st .logged .log)) (e1 : last ≡ lastOf (st .logged .log)) (n1 : empty ≡ noEntry)
+    (e2 : early ≡ found (sh .s) (st .site .group) ordered last (st .waiting .early)) (e3 : late ≡ found (sh .s) (st .site .group) false empty (st .waiting .late)) (e4 : apart ≡ distinct (st .logged .log ++ (st .waiting .early ++ st .waiting .late))) where
+  follows-is : follow (sh .s) (st .site .group) ordered last (st .waiting .early) ≡ follow (sh .s) (st .site .group) ordered (lastOf (st .logged .log)) (st .waiting .early)
+  follows-is = ap (λ (x : Entry). follow (sh .s) (st .site .group) ordered x (st .waiting .early)) e1
+
+  to-entries : (log && (early && (late && apart))) ≡ true → wanted sh st ordered ≡ true
   to-entries h =
       let k = st .site .group in
       let h1 : (early && (late && apart)) ≡ true = and-r log (early && (late && apart)) h in
       let h2 : (late && apart) ≡ true = and-r early (late && apart) h1 in
       let d : distinct (st .logged .log ++ (st .waiting .early ++ st .waiting .late)) ≡ true = sym e4 ∙ and-r late apart h2 in
-      let f : Fit (sh .s) k last (st .waiting .early) = fit (sh .s) k last (st .waiting .early) (sym e2 ∙ and-l early (late && apart) h1) in
-      let g : Fit (sh .s) k empty (st .waiting .late) = fit (sh .s) k empty (st .waiting .late) (sym e3 ∙ and-l late apart h2) in
+      let f : Fit (sh .s) k ordered last (st .waiting .early) = fit (sh .s) k ordered last (st .waiting .early) (sym e2 ∙ and-l early (late && apart) h1) in
+      let g : Fit (sh .s) k false empty (st .waiting .late) = fit (sh .s) k false empty (st .waiting .late) (sym e3 ∙ and-l late apart h2) in
       and-both _ _ (sym e0 ∙ and-both _ _ (and-l log (early && (late && apart)) h) (distinct-front (st .logged .log) (st .waiting .early ++ st .waiting .late) d))
       (and-both _ _ (join _ (d also sym follows-is ∙ f .after also each-append (λ (e : Entry). holds (e .mask) k) (st .waiting .early) (st .waiting .late) (f .masks) (g .masks) also tt))
       (each-append (entryFits (sh .s)) (st .waiting .early) (st .waiting .late) (f .ranges) (g .ranges)))
 
-  from-entries : entriesGood sh st ≡ true → (log && (early && (late && apart))) ≡ true
-  unfolding entriesGood buffersGood
+  from-entries : wanted sh st ordered ≡ true → (log && (early && (late && apart))) ≡ true
   from-entries h =
       let k = st .site .group in
       let fit-ones : Bool = every (entryFits (sh .s)) (st .waiting .early ++ st .waiting .late) in
-      let h1 : (buffersGood st && fit-ones) ≡ true = and-r (goodLog (sh .s) k (st .logged .log)) (buffersGood st && fit-ones) h in
-      let u = split _ (and-l (buffersGood st) fit-ones h1) in
-      let r : fit-ones ≡ true = and-r (buffersGood st) fit-ones h1 in
+      let h1 : (buffersWanted sh st ordered && fit-ones) ≡ true = and-r (goodLog (sh .s) k (st .logged .log)) (buffersWanted sh st ordered && fit-ones) h in
+      let r : fit-ones ≡ true = and-r (buffersWanted sh st ordered) fit-ones h1 in
+      let u = split _ (and-l (buffersWanted sh st ordered) fit-ones h1) in
       let m : allHold k (st .waiting .early) ≡ true = each-front (λ (e : Entry). holds (e .mask) k) (st .waiting .early) (st .waiting .late) (u 2) in
       let n : allHold k (st .waiting .late) ≡ true = each-back (λ (e : Entry). holds (e .mask) k) (st .waiting .early) (st .waiting .late) (u 2) in
-      let f : Fit (sh .s) k last (st .waiting .early) = record { ranges = each-front (entryFits (sh .s)) (st .waiting .early) (st .waiting .late) r; after = follows-is ∙ u 1; masks = m } in
+      let f : Fit (sh .s) k ordered last (st .waiting .early) = record { ranges = each-front (entryFits (sh .s)) (st .waiting .early) (st .waiting .late) r; after = follows-is ∙ u 1; masks = m } in
       let z : every (entryFits (sh .s)) (st .waiting .late) ≡ true = each-back (entryFits (sh .s)) (st .waiting .early) (st .waiting .late) r in
-      let g : Fit (sh .s) k empty (st .waiting .late) = record { ranges = z; after = rw n1 (from-none (sh .s) k (st .waiting .late) z); masks = n } in
-      and-both _ _ (and-l log (distinct (st .logged .log)) (e0 ∙ and-l (goodLog (sh .s) k (st .logged .log)) (buffersGood st && fit-ones) h))
-      (and-both _ _ (e2 ∙ fit-so (sh .s) k last (st .waiting .early) f) (and-both _ _ (e3 ∙ fit-so (sh .s) k empty (st .waiting .late) g) (e4 ∙ u 0)))
+      let g : Fit (sh .s) k false empty (st .waiting .late) = record { ranges = z; after = rw n1 (from-none (sh .s) k (st .waiting .late) z); masks = n } in
+      and-both _ _ (and-l log (distinct (st .logged .log)) (e0 ∙ and-l (goodLog (sh .s) k (st .logged .log)) (buffersWanted sh st ordered && fit-ones) h))
+      (and-both _ _ (e2 ∙ fit-so (sh .s) k ordered last (st .waiting .early) f) (and-both _ _ (e3 ∙ fit-so (sh .s) k false empty (st .waiting .late) g) (e4 ∙ u 0)))
 
-  entries-test : (log && (early && (late && apart))) ≡ entriesGood sh st
-  entries-test = truth _ _ to-entries from-entries
+  entries-test : (log && (early && (late && apart))) ≡ entriesGood sh (asked ordered st)
+  entries-test = truth _ _ to-entries from-entries ∙ wanted-is sh st ordered
 
 module _ (sh : Shape) (b : List ℕ) (z : length b ≡ stateLength sh) where
-  pub entries-are : (l3 l4 l5 group : ℕ) (last empty : Entry) (log early late apart : Bool) → l3 ≡ startOf sh atLog → l4 ≡ startOf sh atEarly → l5 ≡ startOf sh atLate → group ≡ num b 0 1 → last ≡ lastOf (tableAt (sh .c) b l3) → empty ≡ noEntry
-      → (log && distinct (tableAt (sh .c) b l3)) ≡ goodLog (sh .s) group (tableAt (sh .c) b l3) → early ≡ every (fits (sh .s) group group last) (tableAt (sh .c) b l4) → late ≡ every (fits (sh .s) group group empty) (tableAt (sh .c) b l5)
-      → apart ≡ distinct (tableAt (sh .c) b l3 ++ (tableAt (sh .c) b l4 ++ tableAt (sh .c) b l5)) → (log && (early && (late && apart))) ≡ entriesGood sh (stateOf sh b)
-  entries-are l3 l4 l5 group last empty log early late apart p3 p4 p5 g e1 n1 a1 a2 a3 a4 =
+  pub entries-are : (l3 l4 l5 group : ℕ) (ordered : Bool) (last empty : Entry) (log early late apart : Bool) → l3 ≡ startOf sh atLog → l4 ≡ startOf sh atEarly → l5 ≡ startOf sh atLate → group ≡ num b 0 1 → last ≡ lastOf (tableAt (sh .c) b l3) → empty ≡ noEntry
+      → (log && distinct (tableAt (sh .c) b l3)) ≡ goodLog (sh .s) group (tableAt (sh .c) b l3) → early ≡ found (sh .s) group ordered last (tableAt (sh .c) b l4) → late ≡ found (sh .s) group false empty (tableAt (sh .c) b l5)
+      → apart ≡ distinct (tableAt (sh .c) b l3 ++ (tableAt (sh .c) b l4 ++ tableAt (sh .c) b l5)) → (log && (early && (late && apart))) ≡ entriesGood sh (asked ordered (stateOf sh b))
+  entries-are l3 l4 l5 group ordered last empty log early late apart p3 p4 p5 g e1 n1 a1 a2 a3 a4 =
       let f = fields sh b z in
       let st = stateOf sh b in
       let t3 : tableAt (sh .c) b l3 ≡ st .logged .log = ap (tableAt (sh .c) b) p3 ∙ sym (f .log) in
       let t4 : tableAt (sh .c) b l4 ≡ st .waiting .early = ap (tableAt (sh .c) b) p4 ∙ sym (f .early) in
       let t5 : tableAt (sh .c) b l5 ≡ st .waiting .late = ap (tableAt (sh .c) b) p5 ∙ sym (f .late) in
       let k : group ≡ st .site .group = g ∙ sym (f .group) in
-      entries-test sh st last empty log early late apart (rw (t3, k) at a1) (rw t3 at e1) n1 (rw (t4, k) at a2) (rw (t5, k) at a3) (rw (t3, t4, t5) at a4)
+      entries-test sh st ordered last empty log early late apart (rw (t3, k) at a1) (rw t3 at e1) n1 (rw (t4, k) at a2) (rw (t5, k) at a3) (rw (t3, t4, t5) at a4)
 
   module _ (t : List ℕ) (u : t ≡ part b (startOf sh atNotes) (4 + noteLength (sh .s) * sh .c)) where
     pub notes-are : notesAt (sh .c) (sh .s) t ≡ stateOf sh b .waiting .notes

@@ -9,7 +9,7 @@ use lib.ListN.{length, getD}
 use lib.Dec.{eqb}
 use Rattle.octets.specs.Bytes.{num, items}
 use Rattle.octets.proofs.Codecs.{length-items, getD-items}
-use Rattle.rules.specs.Choice.{every, below}
+use Rattle.rules.specs.Choice.{pick, every, below}
 use Rattle.rules.specs.Entry.{noEntry, entryOf, lastBefore}
 use Rattle.rules.specs.Log.{lastOf}
 use Rattle.rules.specs.Log.{goodTo, goodLog, distinct}
@@ -18,16 +18,11 @@ use Rattle.rules.specs.Image.{tableAt}
 use Rattle.rules.specs.declared.Entry.{Entry}
 use Rattle.rules.proofs.Choice.{every-more}
 use Rattle.repeats.specs.Repeat.{firstTo}
-use Rattle.logs.specs.Place.{rowAt, unfitAt}
+use Rattle.logs.specs.Place.{rowAt, fits, fitFrom, unfitAt}
 use Rattle.logs.proofs.Tables.{good-items}
 use Rattle.logs.proofs.Apart.{good-two}
 
 -- ---- one turn more
-
-pub truth : (a b : Bool) → (a ≡ true → b ≡ true) → (b ≡ true → a ≡ true) → a ≡ b
-truth true b f g = sym (f refl)
-truth false true f g = g refl
-truth false false f g = refl
 
 module _ {A : Type 0} (p : A → Bool) where
   pub every-turn : (f : ℕ → A) (k o i : ℕ) → every p (items f k o (i + 1)) ≡ (every p (items f k o i) && p (f (o + k * i)))
@@ -80,6 +75,17 @@ module _ (c : ℕ) (b : List ℕ) (at n : ℕ) (q : n ≡ min (num b at 4) c) wh
 
   pub each-is : (p : Entry → Bool) (r : Bool) → r ≡ every p (items (entryAt b) 24 (at + 4) n) → r ≡ every p (tableAt c b at)
   each-is p r e = e ∙ ap (every p) table-is
+
+  -- each fits after an entry and, where `ordered`, after the one before it
+  pub in-order : (s k : ℕ) (last : Entry) (ordered r : Bool) → ordered ≡ true → r ≡ fitFrom s k last (items (entryAt b) 24 (at + 4) n)
+      → r ≡ pick ordered (fitFrom s k last (tableAt c b at)) (every (fits s k k last) (tableAt c b at))
+  unfolding pick
+  in-order s k last ordered r o e = rw o (e ∙ ap (fitFrom s k last) table-is)
+
+  pub in-any-order : (s k : ℕ) (last : Entry) (ordered r : Bool) → ordered ≡ false → r ≡ every (fits s k k last) (items (entryAt b) 24 (at + 4) n)
+      → r ≡ pick ordered (fitFrom s k last (tableAt c b at)) (every (fits s k k last) (tableAt c b at))
+  unfolding pick
+  in-any-order s k last ordered r o e = rw o (e ∙ ap (every (fits s k k last)) table-is)
 
   pub last-none : n ≡ 0 → (r : Entry) → r ≡ noEntry → r ≡ lastOf (tableAt c b at)
   unfolding lastBefore

@@ -2,20 +2,22 @@
 use Prim.Native.Nat.{ℕ, _+_, _-_, _*_, _≤_, _<_}
 use mathlib.Core.Path.{_≡_, refl, sym, ap, ap₂, subst, _∙_}
 use mathlib.Core.Bool.{Bool, true, false, _&&_, not, and-assoc, and-true, and-false}
-use mathlib.Core.List.{List, _++_}
+use mathlib.Core.List.{List, [], _∷_, _++_}
 use native.Mathlib.Omega.{arith}
 use lib.ListN.{length, take, drop}
 use lib.Dec.{eqb, leb}
 use borrow.Author.Tests.{eq-eqb, ltb-true, not-true, not-false}
 use Rattle.octets.specs.Bytes.{num, part}
 use Rattle.octets.proofs.Laws.{Bytes, bytes-part, length-part, num-part}
-use Rattle.rules.specs.Choice.{allOf, every, same}
+use Rattle.rules.specs.Choice.{pick, allOf, when, every, same}
 use Rattle.rules.specs.Group.{shapeFits}
 use Rattle.rules.specs.Entry.{entryFits}
 use Rattle.rules.specs.Log.{goodLog}
-use Rattle.rules.specs.State.{State, viewGood, heardGood, keptGood, countsGood, buffersGood, noteFits, notesDistinct, rangesGood, placesGood, good}
-use Rattle.rules.specs.Image.{tableLength, noteLength, stateLength, tableBytes, notesSection, image, tableAt, stateIn, stateOf, goodBytes, atDraft, atEarly, atLate, atLog, atNotes, atVotes}
+use Rattle.rules.specs.State.{State, inOrder, leads, viewGood, heardGood, keptGood, countsGood, buffersGood, noteFits, notesDistinct, rangesGood, placesGood, good}
+use Rattle.rules.specs.Image.{tableLength, noteLength, stateLength, tableBytes, notesSection, image, tableAt, stateIn, stateOf, goodBytes, orderable, atDraft, atEarly, atLate, atLog, atNotes, atVotes}
 use Rattle.rules.specs.declared.Shape.{Shape}
+use Rattle.rules.proofs.Choice.{truth}
+use Rattle.rules.proofs.InOrder.{view-ordered, heard-ordered, kept-ordered, counts-ordered, early-ordered, places-ordered}
 use Rattle.rules.proofs.Tests.{and-l, and-r, and-both, split, join, _also_, same-true}
 use Rattle.entries.proofs.Table.{count-table}
 use Rattle.logs.specs.Place.{Within}
@@ -24,9 +26,8 @@ use Rattle.notes.proofs.Notes.{section-of, hold-section}
 use Rattle.places.specs.Layout.{startOf, Sized}
 use Rattle.form.specs.Sections.{sectionForm, tablesForm}
 use Rattle.form.proofs.Whole.{all-form}
-use Rattle.good.specs.Known.{headFits, pointsGood, entriesGood, earlyRight, notesRight, Lent, Formed, restGood}
+use Rattle.good.specs.Known.{headFits, pointsGood, entriesGood, earlyRight, notesRight, Lent, Formed, restGood, asked, judged}
 use Rattle.places.proofs.Fields.{fields}
-use Rattle.good.proofs.Tables.{truth}
 use Rattle.good.proofs.Apart.{notes-are}
 use Rattle.good.proofs.Counts.{table-within, notes-within, notes-fit, counts-good, places-good}
 
@@ -135,47 +136,110 @@ module _ (sh : Shape) (st : State) (counts : countsGood sh st ≡ true) (places 
   good-is : good sh st ≡ (headFits sh st && (every noteFits (st .waiting .notes) && restGood sh st))
   good-is = truth _ _ from-good to-good
 
+-- ---- the state of which it is asked: what its order of early does not touch
+
+module _ (sh : Shape) (ordered : Bool) (st : State) where
+  asked-same : {A : Type 0} (f : State → A) → f (inOrder st) ≡ f st → f (asked ordered st) ≡ f st
+  unfolding pick
+  asked-same f e = go ordered
+    where
+      go : (t : Bool) → f (pick t st (inOrder st)) ≡ f st
+      go true = refl
+      go false = e
+
+  head-asked : headFits sh (asked ordered st) ≡ headFits sh st
+  unfolding headFits
+  head-asked = asked-same (headFits sh) refl
+
+  notes-asked : notesRight sh (inOrder st) ≡ notesRight sh st
+  unfolding notesRight earlyRight
+  notes-asked = ap (λ (t : Bool). notesDistinct (st .waiting .notes) && when (eqb (st .view .status) 1 && leads sh st) t) (early-ordered st sh)
+
+  points-asked : pointsGood (inOrder st) ≡ pointsGood st
+  unfolding pointsGood
+  points-asked = refl
+
+  -- the tests as they are made
+  abbrev restAsked : Bool
+  restAsked =
+      allOf
+      (heardGood sh st
+      ∷ goodLog (sh .s) (st .site .group) (st .change .draft)
+      ∷ pointsGood st
+      ∷ viewGood sh st
+      ∷ keptGood sh st
+      ∷ entriesGood sh (asked ordered st)
+      ∷ notesRight sh st
+      ∷ [])
+
+  rest-asked : restGood sh (asked ordered st) ≡ restAsked
+  unfolding restGood
+  rest-asked =
+      rw
+      (asked-same (heardGood sh) (heard-ordered st sh), asked-same (λ (x : State). goodLog (sh .s) (x .site .group) (x .change .draft)) refl, asked-same pointsGood points-asked, asked-same (viewGood sh) (view-ordered st sh), asked-same (keptGood sh) (kept-ordered st sh), asked-same (notesRight sh) notes-asked)
+
 -- ---- each way through the check
 
-module _ (sh : Shape) (b : List ℕ) where
-  pub notes-formed : (f : Bool) → f ≡ (sectionForm sh b 6 && every noteFits (stateOf sh b .waiting .notes)) → not f ≡ false → sectionForm sh b 6 ≡ true
-  notes-formed f e h = and-l (sectionForm sh b 6) (every noteFits (stateOf sh b .waiting .notes)) (sym e ∙ not-false f h)
+pub judged-good : (sh : Shape) (b : List ℕ) → judged true sh b ≡ goodBytes sh b
+unfolding judged goodBytes pick
+judged-good sh b = refl
+
+pub judged-orderable : (sh : Shape) (b : List ℕ) → judged false sh b ≡ orderable sh b
+unfolding judged orderable pick
+judged-orderable sh b = refl
+
+pub notes-formed : (sh : Shape) (b : List ℕ) (f : Bool) → f ≡ (sectionForm sh b 6 && every noteFits (stateOf sh b .waiting .notes)) → not f ≡ false → sectionForm sh b 6 ≡ true
+notes-formed sh b f e h = and-l (sectionForm sh b 6) (every noteFits (stateOf sh b .waiting .notes)) (sym e ∙ not-false f h)
+
+module _ (sh : Shape) (ordered : Bool) (b : List ℕ) where
+  pub sizes-wrong : shapeFits sh ≡ false → false ≡ judged ordered sh b
+  unfolding judged
+  sizes-wrong e = rw e
+
+  pub length-wrong : eqb (length b) (stateLength sh) ≡ false → false ≡ judged ordered sh b
+  unfolding judged
+  length-wrong e = simp (e, and-false)
 
   module _ (z : length b ≡ stateLength sh) where
-    pub not-formed : (f : Bool) → f ≡ tablesForm sh b → not f ≡ true → false ≡ goodBytes sh b
-    unfolding goodBytes
+    pub not-formed : (f : Bool) → f ≡ tablesForm sh b → not f ≡ true → false ≡ judged ordered sh b
+    unfolding judged
     not-formed f e h =
         let g : tablesForm sh b ≡ false = sym e ∙ not-true f h in
         let k : same (image sh (stateOf sh b)) b ≡ false = all-form sh b z ∙ ap (λ (t : Bool). t && (sectionForm sh b 2 && sectionForm sh b 6)) g in
         simp (k, and-false)
 
     module _ (bs : Bytes b) where
-      parts : good sh (stateOf sh b) ≡ (headFits sh (stateOf sh b) && (every noteFits (stateOf sh b .waiting .notes) && restGood sh (stateOf sh b)))
-      parts = good-is sh (stateOf sh b) (counts-good sh b z) (places-good sh b z bs)
+      parts : good sh (asked ordered (stateOf sh b)) ≡ (headFits sh (stateOf sh b) && (every noteFits (stateOf sh b .waiting .notes) && restGood sh (asked ordered (stateOf sh b))))
+      parts =
+          let st = stateOf sh b in
+          let counts : countsGood sh (asked ordered st) ≡ true = asked-same sh ordered st (countsGood sh) (counts-ordered st sh) ∙ counts-good sh b z in
+          let places : placesGood sh (asked ordered st) ≡ true = asked-same sh ordered st (placesGood sh) (places-ordered st sh) ∙ places-good sh b z bs in
+          good-is sh (asked ordered st) counts places
+          ∙ ap₂ (λ (x y : Bool). x && (y && restGood sh (asked ordered st))) (head-asked sh ordered st) (asked-same sh ordered st (λ (x : State). every noteFits (x .waiting .notes)) refl)
 
-      pub head-unfit : (f : Bool) → f ≡ headFits sh (stateOf sh b) → not f ≡ true → false ≡ goodBytes sh b
-      unfolding goodBytes
+      pub head-unfit : (f : Bool) → f ≡ headFits sh (stateOf sh b) → not f ≡ true → false ≡ judged ordered sh b
+      unfolding judged
       head-unfit f e h =
           let g : headFits sh (stateOf sh b) ≡ false = sym e ∙ not-true f h in
-          let k : good sh (stateOf sh b) ≡ false = parts ∙ rw g in
+          let k : good sh (asked ordered (stateOf sh b)) ≡ false = parts ∙ rw g in
           simp (k, and-false)
 
       -- form and range of the notes are asked together
-      pub notes-unfit : (f : Bool) → f ≡ (sectionForm sh b 6 && every noteFits (stateOf sh b .waiting .notes)) → not f ≡ true → false ≡ goodBytes sh b
-      unfolding goodBytes
+      pub notes-unfit : (f : Bool) → f ≡ (sectionForm sh b 6 && every noteFits (stateOf sh b .waiting .notes)) → not f ≡ true → false ≡ judged ordered sh b
+      unfolding judged
       notes-unfit f e h = go (sectionForm sh b 6) refl
         where
-          go : (t : Bool) → sectionForm sh b 6 ≡ t → false ≡ (shapeFits sh && ((eqb (length b) (stateLength sh) && same (image sh (stateOf sh b)) b) && good sh (stateOf sh b)))
+          go : (t : Bool) → sectionForm sh b 6 ≡ t → false ≡ (shapeFits sh && ((eqb (length b) (stateLength sh) && same (image sh (stateOf sh b)) b) && good sh (asked ordered (stateOf sh b))))
           go false q =
               let k : same (image sh (stateOf sh b)) b ≡ false = all-form sh b z ∙ simp (q, and-false) in
               simp (k, and-false)
           go true q =
               let g : every noteFits (stateOf sh b .waiting .notes) ≡ false = ap (λ (t : Bool). t && every noteFits (stateOf sh b .waiting .notes)) (sym q) ∙ sym e ∙ not-true f h in
-              let k : good sh (stateOf sh b) ≡ false = parts ∙ simp (g, and-false) in
+              let k : good sh (asked ordered (stateOf sh b)) ≡ false = parts ∙ simp (g, and-false) in
               simp (k, and-false)
 
-      pub all-good : (f d h n r : Bool) → f ≡ shapeFits sh → not f ≡ false → d ≡ tablesForm sh b → not d ≡ false → h ≡ headFits sh (stateOf sh b) → not h ≡ false → n ≡ (sectionForm sh b 6 && every noteFits (stateOf sh b .waiting .notes)) → not n ≡ false → r ≡ (sectionForm sh b 2 && restGood sh (stateOf sh b)) → r ≡ goodBytes sh b
-      unfolding goodBytes
+      pub all-good : (f d h n r : Bool) → f ≡ shapeFits sh → not f ≡ false → d ≡ tablesForm sh b → not d ≡ false → h ≡ headFits sh (stateOf sh b) → not h ≡ false → n ≡ (sectionForm sh b 6 && every noteFits (stateOf sh b .waiting .notes)) → not n ≡ false → r ≡ (sectionForm sh b 2 && restGood sh (asked ordered (stateOf sh b))) → r ≡ judged ordered sh b
+      unfolding judged
       all-good f d h n r e1 t1 e2 t2 e3 t3 e4 t4 e5 =
           let g1 : shapeFits sh ≡ true = sym e1 ∙ not-false f t1 in
           let g2 : tablesForm sh b ≡ true = sym e2 ∙ not-false d t2 in
@@ -184,18 +248,19 @@ module _ (sh : Shape) (b : List ℕ) where
           let g5 : sectionForm sh b 6 ≡ true = and-l (sectionForm sh b 6) (every noteFits (stateOf sh b .waiting .notes)) g4 in
           let g6 : every noteFits (stateOf sh b .waiting .notes) ≡ true = and-r (sectionForm sh b 6) (every noteFits (stateOf sh b .waiting .notes)) g4 in
           let k : same (image sh (stateOf sh b)) b ≡ sectionForm sh b 2 = all-form sh b z ∙ rw (g2, g5, and-true) in
-          let m : good sh (stateOf sh b) ≡ restGood sh (stateOf sh b) = parts ∙ rw (g3, g6) in
+          let m : good sh (asked ordered (stateOf sh b)) ≡ restGood sh (asked ordered (stateOf sh b)) = parts ∙ rw (g3, g6) in
           simp (g1, eq-eqb (length b) (stateLength sh) z, k, m) e5
 
     -- what the tests after those say, taken together
     pub rest-is : (k l8 : ℕ) (heard draft points view kept entries noting : Bool) → k ≡ num b 0 1 → l8 ≡ startOf sh atDraft
-        → heard ≡ (sectionForm sh b 2 && heardGood sh (stateOf sh b)) → draft ≡ goodLog (sh .s) k (tableAt (sh .c) b l8) → points ≡ pointsGood (stateOf sh b) → view ≡ viewGood sh (stateOf sh b) → kept ≡ keptGood sh (stateOf sh b) → entries ≡ entriesGood sh (stateOf sh b) → noting ≡ notesRight sh (stateOf sh b)
-        → (heard && (draft && (points && (view && (kept && (entries && noting)))))) ≡ (sectionForm sh b 2 && restGood sh (stateOf sh b))
-    unfolding restGood allOf
+        → heard ≡ (sectionForm sh b 2 && heardGood sh (stateOf sh b)) → draft ≡ goodLog (sh .s) k (tableAt (sh .c) b l8) → points ≡ pointsGood (stateOf sh b) → view ≡ viewGood sh (stateOf sh b) → kept ≡ keptGood sh (stateOf sh b) → entries ≡ entriesGood sh (asked ordered (stateOf sh b)) → noting ≡ notesRight sh (stateOf sh b)
+        → (heard && (draft && (points && (view && (kept && (entries && noting)))))) ≡ (sectionForm sh b 2 && restGood sh (asked ordered (stateOf sh b)))
+    unfolding allOf
     rest-is k l8 heard draft points view kept entries noting ek p8 e1 e2 e3 e4 e5 e6 e7 =
         let f = fields sh b z in
         let st = stateOf sh b in
         let d : draft ≡ goodLog (sh .s) (st .site .group) (st .change .draft) = e2 ∙ ap₂ (goodLog (sh .s)) (ek ∙ sym (f .group)) (ap (tableAt (sh .c) b) p8 ∙ sym (f .draft)) in
+        let made : (heardGood sh st && (draft && (points && (view && (kept && (entries && noting)))))) ≡ restAsked sh ordered st = rw (d, e3, e4, e5, e6, e7, and-true) in
         ap (λ (t : Bool). t && (draft && (points && (view && (kept && (entries && noting)))))) e1
         ∙ and-assoc (sectionForm sh b 2) (heardGood sh st) (draft && (points && (view && (kept && (entries && noting)))))
-        ∙ rw (d, e3, e4, e5, e6, e7, and-true)
+        ∙ ap (λ (t : Bool). sectionForm sh b 2 && t) (made ∙ sym (rest-asked sh ordered st))

@@ -7,10 +7,11 @@ use lib.ListN.{length}
 use lib.Dec.{eqb, ltb, leb}
 use Rattle.octets.specs.Bytes.{num, part}
 use Rattle.rules.specs.Choice.{pick, when, allOf, every, isSome}
+use Rattle.rules.specs.Group.{shapeFits}
 use Rattle.rules.specs.Entry.{latest, entryFits}
 use Rattle.rules.specs.Log.{goodLog}
-use Rattle.rules.specs.State.{Note, State, leads, noted, stampsOf, notedTo, greatestTo, valueOf, viewGood, heardGood, keptGood, buffersGood, earlyGood, notesDistinct}
-use Rattle.rules.specs.Image.{noteLength, atEarly, atLate, atLog, atNotes}
+use Rattle.rules.specs.State.{Note, State, inOrder, leads, noted, stampsOf, notedTo, greatestTo, valueOf, viewGood, heardGood, keptGood, buffersGood, earlyGood, notesDistinct, good}
+use Rattle.rules.specs.Image.{noteLength, stateOf, canonical, atEarly, atLate, atLog, atNotes}
 use Rattle.rules.specs.declared.Entry.{Entry}
 use Rattle.rules.specs.declared.Shape.{Shape}
 use Rattle.logs.specs.Place.{Within}
@@ -81,3 +82,11 @@ restGood sh st =
     ∷ entriesGood sh st
     ∷ notesRight sh st
     ∷ [])
+
+-- the state of which it is asked that it is good: as it is or, where the order of early is not asked, with early in order
+abbrev pub asked : Bool → State → State
+asked ordered st = pick ordered st (inOrder st)
+
+-- the bytes are those of such a state
+unfoldable pub judged : Bool → Shape → List ℕ → Bool
+judged ordered sh b = shapeFits sh && (canonical sh b && good sh (asked ordered (stateOf sh b)))

@@ -15,13 +15,13 @@ ghost use Rattle.rules.specs.Log.{goodLog, distinct};
 ghost use Rattle.rules.specs.State.{viewGood, heardGood, voteGood, replyGood, keptGood, noteFits};
 ghost use Rattle.rules.specs.State as rule;
 ghost use Rattle.rules.specs.Image.{tableLength, voteLength, replyLength, pointBytes, pointAt, tableAt, voteAt, replyAt, stateOf, atHeard, atReplies, atVotes};
-ghost use Rattle.logs.specs.Place.{fits};
+ghost use Rattle.logs.specs.Place.{fits, fitFrom};
 ghost use Rattle.notes.specs.Notes.{sized, notesAt, row, Notes};
 ghost use Rattle.lookups.specs.Rows.{NoteRows};
 ghost use Rattle.places.specs.Layout.{startOf, Sized};
 ghost use Rattle.form.specs.Sections.{sectionForm};
-ghost use Rattle.good.specs.Known.{headFits, pointsGood, notedRight, entriesGood, earlyRight, notesRight, Known, Lent, Formed, restGood};
-ghost use Rattle.good.specs.Statements.{Judges};
+ghost use Rattle.good.specs.Known.{headFits, pointsGood, notedRight, entriesGood, earlyRight, notesRight, Known, Lent, Formed, restGood, asked, judged};
+ghost use Rattle.good.specs.Statements.{Judges, Orders};
 
 // ---- a table anywhere in bytes
 
@@ -55,12 +55,15 @@ fn rows_fit(b: &[u8], at: usize, c: usize, s: u64, k: u64) -> bool
     logs::rows_fit(b, at + 4, n, s, k, k)
 }
 
-// Whether each entry of the table at `at` fits after timestamp `last` at a replica of group k.
-fn all_fit(b: &[u8], at: usize, c: usize, last: Entry, s: u64, k: u64) -> bool
+// Whether each entry of the table at `at` fits after the entry `last` at a replica of group k and, where `ordered`, after the one before it.
+fn table_fits(b: &[u8], at: usize, c: usize, last: Entry, s: u64, k: u64, ordered: bool) -> bool
     requires { ⌜ at + tableLength c ≤ length (now b) ⌝ }
-    ensures { λ r. ⌜ r ≡ every (fits s k k last) (tableAt c (now (b .entry)) at) ⌝ }
+    ensures { λ r. ⌜ (let es = tableAt c (now (b .entry)) at in r ≡ pick ordered (fitFrom s k last es) (every (fits s k k last) es)) ⌝ }
 {
     let n = count_at(b, at, c);
+    if ordered {
+        return logs::rise_from(b, at + 4, n, last, s, k);
+    }
     logs::all_fit(b, at + 4, n, last, s, k)
 }
 
@@ -252,19 +255,27 @@ fn kept_good(shape: Shape, state: &[u8], slots: &mut [u16]) -> bool
 
 // ---- log and buffers
 
-// Whether the log is good, early entries come after it, those of both buffers are in range and hold the own group, and no transaction
-// stands twice in the three: one pass over each, and one test for repeats.
-fn entries_good(shape: Shape, state: &[u8], slots: &mut [u16]) -> bool
+// Whether the log is good, early entries come after it and, where `ordered`, each after the one before it, those of both buffers are in
+// range and hold the own group, and no transaction stands twice in the three: one pass over each, and one test for repeats.
+fn entries_good(shape: Shape, state: &[u8], ordered: bool, slots: &mut [u16]) -> bool
     requires { ⌜ Formed shape (now state) ⌝ }
-    ensures { λ r. ⌜ r ≡ entriesGood shape (stateOf shape (now (state .entry))) ⌝ }
+    ensures { λ r. ⌜ r ≡ entriesGood shape (asked ordered (stateOf shape (now (state .entry)))) ⌝ }
 {
     let layout = places::places_of(shape);
     let c = shape.c as usize;
     let group = places::get_group(state);
     let last = last_entry(state, layout.log, c);
     let log = rows_fit(state, layout.log, c, shape.s, group);
-    let early = all_fit(state, layout.early, c, last, shape.s, group);
-    let late = all_fit(state, layout.late, c, entries::no_entry(), shape.s, group);
+    let early = table_fits(state, layout.early, c, last, shape.s, group, ordered);
+    let late = table_fits(
+        state,
+        layout.late,
+        c,
+        entries::no_entry(),
+        shape.s,
+        group,
+        false,
+    );
     let apart = logs::distinct3(state, layout.log, layout.early, layout.late, c, slots);
     log & (early & (late & apart))
 }
@@ -359,9 +370,9 @@ fn notes_fit(shape: Shape, state: &[u8]) -> bool
 // ---- all of it
 
 // Whether the points heard have their form, and all holds that is left of a good state once its head and its notes are in range.
-fn rest_good(shape: Shape, state: &[u8], slots: &mut [u16]) -> bool
+fn rest_good(shape: Shape, state: &[u8], ordered: bool, slots: &mut [u16]) -> bool
     requires { ⌜ Formed shape (now state) ⌝ }
-    ensures { λ r. ⌜ r ≡ (sectionForm shape (now (state .entry)) 2 && restGood shape (stateOf shape (now (state .entry)))) ⌝ }
+    ensures { λ r. ⌜ r ≡ (sectionForm shape (now (state .entry)) 2 && restGood shape (asked ordered (stateOf shape (now (state .entry))))) ⌝ }
 {
     let layout = places::places_of(shape);
     let group = places::get_group(state);
@@ -372,14 +383,15 @@ fn rest_good(shape: Shape, state: &[u8], slots: &mut [u16]) -> bool
     let points = points_good(shape, state);
     let view = view_good(shape, state);
     let kept = kept_good(shape, state, slots);
-    let entries = entries_good(shape, state, slots);
+    let entries = entries_good(shape, state, ordered, slots);
     let noting = notes_right(shape, state, &state[from..upto], slots);
     heard & (draft & (points & (view & (kept & (entries & noting)))))
 }
 
-// Whether the bytes are those of a good state: this is asked of whatever comes, and nothing is taken for granted.
-pub fn good(shape: Shape, state: &[u8], slots: &mut [u16]) -> bool
-    ensures { λ r. ⌜ Judges shape (now (state .entry)) r ⌝ }
+// Whether the bytes are those of a state that is good, its early in order or, where that is not asked, once it is put in order. This is
+// asked of whatever comes, and nothing is taken for granted.
+fn judge(shape: Shape, state: &[u8], ordered: bool, slots: &mut [u16]) -> bool
+    ensures { λ r. ⌜ r ≡ judged ordered shape (now (state .entry)) ⌝ }
 {
     if !group::shape_fits(shape) {
         return false;
@@ -396,5 +408,19 @@ pub fn good(shape: Shape, state: &[u8], slots: &mut [u16]) -> bool
     if !notes_fit(shape, state) {
         return false;
     }
-    rest_good(shape, state, slots)
+    rest_good(shape, state, ordered, slots)
+}
+
+// Whether the bytes are those of a good state.
+pub fn good(shape: Shape, state: &[u8], slots: &mut [u16]) -> bool
+    ensures { λ r. ⌜ Judges shape (now (state .entry)) r ⌝ }
+{
+    judge(shape, state, true, slots)
+}
+
+// Whether the bytes are those of a state that is good but for the order of early.
+pub fn orderable(shape: Shape, state: &[u8], slots: &mut [u16]) -> bool
+    ensures { λ r. ⌜ Orders shape (now (state .entry)) r ⌝ }
+{
+    judge(shape, state, false, slots)
 }

@@ -56,7 +56,7 @@ module _ {A : Type 0} (p : A → Bool) (f : ℕ → A) (k o : ℕ) where
 
 module _ (p : ℕ → Bool) where
   -- none of the first suc n passes where none of the first n does, nor the next
-  none-next : (n : ℕ) → eqb (firstTo p (suc n)) (suc n) ≡ (eqb (firstTo p n) n && not (p n))
+  pub none-next : (n : ℕ) → eqb (firstTo p (suc n)) (suc n) ≡ (eqb (firstTo p n) n && not (p n))
   unfolding firstTo pick
   none-next n = go (eqb (firstTo p n) n && not (p n)) refl
     where

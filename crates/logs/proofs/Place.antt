@@ -4,6 +4,7 @@ use mathlib.Core.Path.{_≡_, refl, sym, ap, _∙_}
 use mathlib.Core.Bool.{Bool, true, false, _&&_, _||_, not, and-true, or-true}
 use mathlib.Core.List.{List, [], _∷_}
 use native.Mathlib.Decide.{decLt}
+use native.Mathlib.Numerals.{add-one}
 use native.Mathlib.Omega.{arith}
 use lib.ListN.{length, getD}
 use lib.Dec.{ltb}
@@ -21,7 +22,7 @@ use Rattle.repeats.specs.Rows.{countOf, keyOf, spotOf, Inside}
 use Rattle.repeats.specs.declared.Spots.{Spots}
 use Rattle.repeats.proofs.Laws.{First, first-to, first-is, first-agree, again, repeat-first}
 use Rattle.repeats.proofs.Places.{spot-first}
-use Rattle.logs.specs.Place.{rowAt, fits, unfitAt}
+use Rattle.logs.specs.Place.{rowAt, fits, lastFrom, unfitFrom, unfitAt}
 use Rattle.entries.proofs.Keys.{Keyed, keyed-at, seen-is}
 use Rattle.entries.specs.Rows.{entrySpots}
 
@@ -38,14 +39,30 @@ all-by s k j last e u t v w p o q r = rw (p, o, q, r)
 
 -- ---- a turn of the pass over the entries
 
-module _ (s k j : ℕ) (f : ℕ → Entry) where
+module _ (s k j : ℕ) (d : Entry) (f : ℕ → Entry) where
   -- what was found of the entry read after the last, said of entry i
-  pub unfit-row : (i : ℕ) (last e : Entry) (r t : Bool) → e ≡ f i → last ≡ lastBefore f i → r ≡ fits s k j last e → not r ≡ t → unfitAt s k j f i ≡ t
+  pub unfit-row : (i : ℕ) (last e : Entry) (r t : Bool) → e ≡ f i → last ≡ lastFrom d f i → r ≡ fits s k j last e → not r ≡ t → unfitFrom s k j d f i ≡ t
   unfit-row i last e r t q l u v = cc
 
-pub last-start : (f : ℕ → Entry) (e : Entry) → e ≡ noEntry → e ≡ lastBefore f 0
-unfolding lastBefore
-last-start f e h = h
+pub from-start : (d : Entry) (f : ℕ → Entry) → d ≡ lastFrom d f 0
+unfolding lastFrom
+from-start d f = refl
+
+pub from-next : (d : Entry) (f : ℕ → Entry) (i : ℕ) (e : Entry) → e ≡ f i → e ≡ lastFrom d f (i + 1)
+unfolding lastFrom
+from-next d f i e h = rw (add-one i) h
+
+-- after nothing
+from-none : (f : ℕ → Entry) (i : ℕ) → lastFrom noEntry f i ≡ lastBefore f i
+unfolding lastFrom lastBefore
+from-none f zero = refl
+from-none f (suc i) = refl
+
+pub first-none : (s k j : ℕ) (f : ℕ → Entry) (n r : ℕ) (d : Entry) → d ≡ noEntry → r ≡ firstTo (unfitFrom s k j d f) n → r ≡ firstTo (unfitAt s k j f) n
+first-none s k j f n r d z e =
+    e
+    ∙ ap (λ (x : Entry). firstTo (unfitFrom s k j x f) n) z
+    ∙ first-agree (unfitFrom s k j noEntry f) (unfitAt s k j f) n (λ i l. ap (λ (x : Entry). not (fits s k j x (f i))) (from-none f i))
 
 -- ---- a good log, entry by entry
 

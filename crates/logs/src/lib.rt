@@ -15,7 +15,7 @@ ghost use Rattle.rules.specs.Read.{entryAt};
 ghost use Rattle.rules.specs.Image.{tableAt};
 ghost use Rattle.repeats.specs.Repeat.{firstTo};
 ghost use Rattle.entries.specs.Rows.{entrySpots};
-ghost use Rattle.logs.specs.Place.{rowAt, fits, unfitAt, Within};
+ghost use Rattle.logs.specs.Place.{rowAt, fits, fitFrom, unfitFrom, unfitAt, Within};
 
 // Whether every field of an entry is in range, where there are s groups.
 pub fn entry_fits(e: Entry, s: u64) -> bool
@@ -33,20 +33,20 @@ fn fits_after(e: Entry, last: Entry, s: u64, k: u64, j: u64) -> bool
     entry_fits(e, s) & (entries::before(last, e) & masked)
 }
 
-// The first of `count` entries from `at` on that does not fit after the one before it, or `count`. Whether its transaction repeats an
-// earlier one is not asked.
-fn first_unfit(b: &[u8], at: usize, count: usize, s: u64, k: u64, j: u64) -> usize
+// The first of `count` entries from `at` on that does not fit after the one before it, or `count`; the first is to fit after the entry
+// `last`. Whether its transaction repeats an earlier one is not asked.
+fn first_unfit(b: &[u8], at: usize, count: usize, last: Entry, s: u64, k: u64, j: u64) -> usize
     requires { ⌜ at + 24 * count ≤ length (now b) ⌝ }
-    ensures { λ r. ⌜ r ≡ firstTo (unfitAt s k j (rowAt (now (b .entry)) at)) count ⌝ }
+    ensures { λ r. ⌜ r ≡ firstTo (unfitFrom s k j last (rowAt (now (b .entry)) at)) count ⌝ }
 {
-    let mut last = entries::no_entry();
+    let mut lower = last;
     let mut i = 0;
     while i < count {
         let e = entries::entry_at(b, at + 24 * i);
-        if !fits_after(e, last, s, k, j) {
+        if !fits_after(e, lower, s, k, j) {
             return i;
         }
-        last = e;
+        lower = e;
         i += 1;
     }
     count
@@ -57,7 +57,15 @@ pub fn rows_fit(b: &[u8], at: usize, count: usize, s: u64, k: u64, j: u64) -> bo
     requires { ⌜ at + 24 * count ≤ length (now b) ⌝ }
     ensures { λ r. ⌜ r ≡ eqb (firstTo (unfitAt s k j (rowAt (now (b .entry)) at)) count) count ⌝ }
 {
-    first_unfit(b, at, count, s, k, j) == count
+    first_unfit(b, at, count, entries::no_entry(), s, k, j) == count
+}
+
+// Whether each of `count` entries from `at` on fits after the one before it, and the first after the entry `last`.
+pub fn rise_from(b: &[u8], at: usize, count: usize, last: Entry, s: u64, k: u64) -> bool
+    requires { ⌜ at + 24 * count ≤ length (now b) ⌝ }
+    ensures { λ r. ⌜ r ≡ fitFrom s k last (items (entryAt (now (b .entry))) 24 at count) ⌝ }
+{
+    first_unfit(b, at, count, last, s, k, k) == count
 }
 
 // Whether each of `count` entries from `at` on fits after the entry `last`.
@@ -97,7 +105,7 @@ pub fn good_place(b: &[u8], at: usize, count: usize, s: u64, k: u64, slots: &mut
     requires { ⌜ at + 24 * count ≤ length (now b) ⌝ }
     ensures { λ r. ⌜ r ≡ goodTo s k (rowAt (now (b .entry)) at) count ⌝ }
 {
-    let fit = first_unfit(b, at, count, s, k, k);
+    let fit = first_unfit(b, at, count, entries::no_entry(), s, k, k);
     rows::index(b, run_of(at, fit), fit, slots)
 }
 

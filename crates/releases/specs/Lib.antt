@@ -1,3 +1,3 @@
--- What the functions of a release cite: a state while entries are released, and entries that wait.
+-- What the functions of a release cite: a state while entries are released, and the run of those that are agreed.
 pub mod Releasing
 pub mod Waiting

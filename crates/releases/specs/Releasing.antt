@@ -36,6 +36,10 @@ earlyLeft st gone = withWaiting (without gone (st .waiting .early)) (st .waiting
 abbrev pub notesLeft : State → List Entry → State
 notesLeft st gone = withWaiting (st .waiting .early) (st .waiting .late) (notesWithout gone (st .waiting .notes)) st
 
+-- from the state in b, once the notes of the entries of its log from place n on went
+abbrev pub Noted : Shape → List ℕ → ℕ → List ℕ → Type 0
+Noted sh b n b′ = Reaches sh (notesLeft (stateOf sh b) (drop n (stateOf sh b .logged .log))) b′
+
 -- from the state in b, once the entries of its log from place n on left early, and their notes went
 abbrev pub Cleared : Shape → List ℕ → ℕ → List ℕ → Type 0
 Cleared sh b n b′ = Reaches sh (notesLeft (earlyLeft (stateOf sh b) (drop n (stateOf sh b .logged .log))) (drop n (stateOf sh b .logged .log))) b′

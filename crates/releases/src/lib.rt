@@ -1,7 +1,6 @@
 // The release of early entries that are due: how many there are and how many are agreed, one after the other to the log with the log's digest run on over
 // it, and all of them out of early and the notes.
 use early::Listed;
-use early::Which;
 use rules::Entry;
 use rules::Shape;
 ghost use mathlib.Core.Path.{_≡_};
@@ -11,18 +10,18 @@ ghost use lib.ListN.{length, take, drop};
 ghost use Rattle.octets.specs.Bytes.{items};
 ghost use Rattle.rules.specs.Choice.{leading};
 ghost use Rattle.rules.specs.State.{agreed};
-ghost use Rattle.rules.specs.Image.{stateLength, stateOf, atEarly};
+ghost use Rattle.rules.specs.Image.{stateLength, tableAt, stateOf, atEarly};
 ghost use Rattle.rules.specs.Digest.{digest};
 ghost use Rattle.rules.specs.Early.{dueOf};
 ghost use Rattle.rules.specs.Entry.{entryOf};
 ghost use Rattle.rules.specs.Read.{entryAt};
+ghost use Rattle.entries.specs.Table.{Table};
 ghost use Rattle.notes.specs.Notes.{Notes};
-ghost use Rattle.early.specs.Due.{Reached};
 ghost use Rattle.early.specs.Listed.{listedIn, Lookup};
 ghost use Rattle.lookups.specs.Rows.{NoteRows};
 ghost use Rattle.places.specs.Layout.{longest, startOf, Fits};
-ghost use Rattle.releases.specs.Waiting.{Waiting, runIn};
-ghost use Rattle.releases.specs.Releasing.{Releasing, Reaches, logging, earlyLeft, notesLeft, Cleared};
+ghost use Rattle.releases.specs.Waiting.{runIn};
+ghost use Rattle.releases.specs.Releasing.{Releasing, Reaches, logging, earlyLeft, notesLeft, Noted, Cleared};
 
 // ---- the run of a leader
 
@@ -46,31 +45,16 @@ fn index_notes(notes: &[u8], c: usize, s: usize, due: usize, slots: &mut [u16])
     lookups::index_notes(notes, c, s, slots);
 }
 
-// Of the `due` entries that are due by a time, how many come before the first that is not agreed.
-fn run_of(
-    early: &[u8],
-    notes: &[u8],
-    c: usize,
-    s: usize,
-    time: u64,
-    due: usize,
-    slots: &[u16],
-) -> usize
-    requires { ⌜ Waiting c s (now early) (now notes) time due × NoteRows c s (now notes) (now slots) ⌝ }
-    ensures { λ r. ⌜ r ≡ runIn c s (now (early .entry)) (now (notes .entry)) time ⌝ }
+// Of the first `due` entries, which are due by a time, how many come before the first that is not agreed.
+fn run_of(early: &[u8], notes: &[u8], c: usize, s: usize, due: usize, slots: &[u16]) -> usize
+    requires { ⌜ Table c (now early) × (due ≤ length (tableAt c (now early) 0)) × Notes c s (now notes) × NoteRows c s (now notes) (now slots) ⌝ }
+    ensures { λ r. ⌜ r ≡ runIn c s (now (early .entry)) (now (notes .entry)) due ⌝ }
 {
-    let mut last = Entry {
-        stamp: 0,
-        command: 0,
-        request: 0,
-        coordinator: 0,
-        mask: 0,
-    };
     let mut i = 0;
     while i < due {
-        last = entries::entry_of(early, c, early::due_at(early, c, time, i, last));
-        let row = lookups::note_row(notes, c, s, slots, last.request, last.coordinator);
-        if !notes::agreed_from(notes, c, s, last, row) {
+        let e = entries::entry_of(early, c, i);
+        let row = lookups::note_row(notes, c, s, slots, e.request, e.coordinator);
+        if !notes::agreed_from(notes, c, s, e, row) {
             return i;
         }
         i += 1;
@@ -88,7 +72,7 @@ pub fn run_length(shape: Shape, state: &[u8], time: u64, due: usize, slots: &mut
     let s = shape.s as usize;
     let notes = places::notes(shape, state);
     index_notes(notes, c, s, due, slots);
-    run_of(places::early(shape, state), notes, c, s, time, due, slots)
+    run_of(places::early(shape, state), notes, c, s, due, slots)
 }
 
 // ---- one release
@@ -104,32 +88,6 @@ fn log_takes(shape: Shape, state: &mut [u8], e: Entry)
     entries::append(&mut state[start..end], shape.c as usize, e);
 }
 
-// The place in early of entry i of those due by a time, given the one before it.
-fn due_place(shape: Shape, state: &[u8], time: u64, i: usize, last: Entry) -> usize
-    requires { ⌜ (let early = stateOf shape (now state) .waiting .early in
-        Releasing shape (now state) × Reached time early i last × (i < length (dueOf time early))) ⌝ }
-    ensures { λ r. ⌜ (let early = stateOf shape (now (state .entry)) .waiting .early in
-        (r < length early) × (entryOf early r ≡ entryOf (dueOf time early) i)) ⌝ }
-{
-    early::due_at(places::early(shape, state), shape.c as usize, time, i, last)
-}
-
-// The place in early of the first entry due by a time.
-pub fn first_due(shape: Shape, state: &[u8], time: u64) -> usize
-    requires { ⌜ Releasing shape (now state) × (0 < length (dueOf time (stateOf shape (now state) .waiting .early))) ⌝ }
-    ensures { λ r. ⌜ (let early = stateOf shape (now (state .entry)) .waiting .early in
-        (r < length early) × (entryOf early r ≡ entryOf (dueOf time early) 0)) ⌝ }
-{
-    let none = Entry {
-        stamp: 0,
-        command: 0,
-        request: 0,
-        coordinator: 0,
-        mask: 0,
-    };
-    due_place(shape, state, time, 0, none)
-}
-
 // Early entry i.
 fn early_entry(shape: Shape, state: &[u8], i: usize) -> Entry
     requires { ⌜ Releasing shape (now state) × (i < length (stateOf shape (now state) .waiting .early)) ⌝ }
@@ -138,34 +96,15 @@ fn early_entry(shape: Shape, state: &[u8], i: usize) -> Entry
     entries::entry_of(places::early(shape, state), shape.c as usize, i)
 }
 
-// The last of the i entries that went to the log from place n on; any entry where none did.
-fn last_released(shape: Shape, state: &[u8], n: usize, i: usize) -> Entry
-    requires { ⌜ Releasing shape (now state) × (n + i ≡ length (stateOf shape (now state) .logged .log)) ⌝ }
-    ensures { λ r. ⌜ (0 < i → r ≡ entryOf (stateOf shape (now (state .entry)) .logged .log) (n + i - 1)) ⌝ }
-{
-    if i == 0 {
-        return Entry {
-            stamp: 0,
-            command: 0,
-            request: 0,
-            coordinator: 0,
-            mask: 0,
-        };
-    }
-    places::log_entry(shape, state, n + i - 1)
-}
-
-// Entry i of those due by a time goes to place n + i, the end of the log, after those before it, and the log's digest runs on over it. Early and the notes stay.
-pub fn release_one(shape: Shape, state: &mut [u8], time: u64, n: usize, i: usize, sum: u64) -> u64
+// Early entry i goes to place n + i, the end of the log, and the log's digest runs on over it. Early and the notes stay.
+pub fn release_one(shape: Shape, state: &mut [u8], n: usize, i: usize, sum: u64) -> u64
     requires { ⌜ (let st = stateOf shape (now state) in
-        Releasing shape (now state) × (n + i ≡ length (st .logged .log)) × (n + i < shape .c) × (i < length (dueOf time (st .waiting .early)))
-        × (drop n (st .logged .log) ≡ take i (dueOf time (st .waiting .early))) × (sum ≡ digest (st .logged .log))) ⌝ }
+        Releasing shape (now state) × (n + i ≡ length (st .logged .log)) × (n + i < shape .c) × (i < length (st .waiting .early)) × (sum ≡ digest (st .logged .log))) ⌝ }
     ensures { λ r. ⌜ (let st = stateOf shape (now (state .entry)) in
-        let e = entryOf (dueOf time (st .waiting .early)) i in
+        let e = entryOf (st .waiting .early) i in
         Reaches shape (logging st e) (now (state .exit)) × (r ≡ digest (st .logged .log ++ (e ∷ [])))) ⌝ }
 {
-    let last = last_released(shape, state, n, i);
-    let e = early_entry(shape, state, due_place(shape, state, time, i, last));
+    let e = early_entry(shape, state, i);
     log_takes(shape, state, e);
     let at = places::log_place(shape, n + i);
     let end = at + 24;
@@ -174,22 +113,15 @@ pub fn release_one(shape: Shape, state: &mut [u8], time: u64, n: usize, i: usize
 
 // ---- all that were released leave
 
-// Entries of listed transactions leave early.
-fn early_leaves(shape: Shape, state: &mut [u8], b: &[u8], listed: Listed, slots: &[u16])
-    requires { ⌜ Releasing shape (now state) × Lookup (now b) listed (now slots) ⌝ }
-    ensures { λ _. ⌜ Reaches shape (earlyLeft (stateOf shape (now (state .entry))) (listedIn (now (b .entry)) listed)) (now (state .exit)) ⌝ }
+// The first k entries leave early.
+fn early_leaves(shape: Shape, state: &mut [u8], k: usize)
+    requires { ⌜ Releasing shape (now state) × (k ≤ length (stateOf shape (now state) .waiting .early)) ⌝ }
+    ensures { λ _. ⌜ Reaches shape (earlyLeft (stateOf shape (now (state .entry))) (take k (stateOf shape (now (state .entry)) .waiting .early))) (now (state .exit)) ⌝ }
 {
     let layout = places::places_of(shape);
     let start = layout.early;
     let end = layout.late;
-    early::leave(
-        &mut state[start..end],
-        shape.c as usize,
-        b,
-        listed,
-        slots,
-        Which::Any,
-    );
+    entries::leave_first(&mut state[start..end], shape.c as usize, k);
 }
 
 // The notes of listed transactions leave.
@@ -220,22 +152,21 @@ fn copy_released(shape: Shape, state: &[u8], n: usize, k: usize, gone: &mut [u8]
     octets::copy_in(gone, 0, &state[start..end]);
 }
 
-// The last k entries of the log leave early, and their notes go. They are copied first: the log and the tables that change are parts of one slice.
+// The notes of the last k entries of the log leave. The entries are copied first: the log and the notes are parts of one slice.
 fn leave_by(shape: Shape, state: &mut [u8], n: usize, k: usize, gone: &mut [u8], slots: &mut [u16])
     requires { ⌜ Releasing shape (now state) × (n + k ≡ length (stateOf shape (now state) .logged .log)) × (24 * k ≤ length (now gone)) ⌝ }
-    ensures { λ _. ⌜ Cleared shape (now (state .entry)) n (now (state .exit)) ⌝ }
+    ensures { λ _. ⌜ Noted shape (now (state .entry)) n (now (state .exit)) ⌝ }
 {
     copy_released(shape, state, n, k, gone);
     let listed = Listed { at: 0, count: k };
     early::list(gone, listed, slots);
-    early_leaves(shape, state, gone, listed, slots);
     notes_leave(shape, state, gone, listed, slots);
 }
 
 // The same for at most 256 entries.
 fn leave_few(shape: Shape, state: &mut [u8], n: usize, k: usize, slots: &mut [u16])
     requires { ⌜ Releasing shape (now state) × (n + k ≡ length (stateOf shape (now state) .logged .log)) × (k ≤ 256) ⌝ }
-    ensures { λ _. ⌜ Cleared shape (now (state .entry)) n (now (state .exit)) ⌝ }
+    ensures { λ _. ⌜ Noted shape (now (state .entry)) n (now (state .exit)) ⌝ }
 {
     let mut gone = [0u8; 6144];
     leave_by(shape, state, n, k, &mut gone, slots);
@@ -244,22 +175,36 @@ fn leave_few(shape: Shape, state: &mut [u8], n: usize, k: usize, slots: &mut [u1
 // The same for as many as the largest log holds.
 fn leave_many(shape: Shape, state: &mut [u8], n: usize, k: usize, slots: &mut [u16])
     requires { ⌜ Releasing shape (now state) × (n + k ≡ length (stateOf shape (now state) .logged .log)) × (k ≤ 4096) ⌝ }
-    ensures { λ _. ⌜ Cleared shape (now (state .entry)) n (now (state .exit)) ⌝ }
+    ensures { λ _. ⌜ Noted shape (now (state .entry)) n (now (state .exit)) ⌝ }
 {
     let mut gone = [0u8; 98304];
     leave_by(shape, state, n, k, &mut gone, slots);
 }
 
-// The last k entries of the log, those from place n on, leave early, and their notes go: one pass over each.
-pub fn leave_released(shape: Shape, state: &mut [u8], n: usize, k: usize, slots: &mut [u16])
+// The notes of the last k entries of the log, those from place n on, leave, where there are notes: a follower has none.
+fn leave_notes(shape: Shape, state: &mut [u8], n: usize, k: usize, slots: &mut [u16])
     requires { ⌜ Releasing shape (now state) × (n + k ≡ length (stateOf shape (now state) .logged .log)) ⌝ }
-    ensures { λ _. ⌜ Cleared shape (now (state .entry)) n (now (state .exit)) ⌝ }
+    ensures { λ _. ⌜ Noted shape (now (state .entry)) n (now (state .exit)) ⌝ }
 {
+    if notes::count(places::notes(shape, state)) == 0 {
+        return;
+    }
     if k <= 256 {
         leave_few(shape, state, n, k, slots);
         return;
     }
     leave_many(shape, state, n, k, slots);
+}
+
+// The last k entries of the log, those from place n on, leave early, whose first they are, and their notes go.
+pub fn leave_released(shape: Shape, state: &mut [u8], n: usize, k: usize, slots: &mut [u16])
+    requires { ⌜ (let st = stateOf shape (now state) in
+        Releasing shape (now state) × (n + k ≡ length (st .logged .log)) × (k ≤ length (st .waiting .early))
+        × (drop n (st .logged .log) ≡ take k (st .waiting .early))) ⌝ }
+    ensures { λ _. ⌜ Cleared shape (now (state .entry)) n (now (state .exit)) ⌝ }
+{
+    early_leaves(shape, state, k);
+    leave_notes(shape, state, n, k, slots);
 }
 
 // ---- the bytes of the log and of early

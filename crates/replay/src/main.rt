@@ -1,5 +1,5 @@
 // Traces of single replicas, answered by an independent reading of documents 01 and 02, run through the core: every answer must be theirs.
-// data/l04.bin holds records, one after the other, numbers little-endian, with how many bytes each has:
+// data/l08.bin holds records, one after the other, numbers little-endian, with how many bytes each has:
 // - 1 (1), n (1), S (1), C (2), own group (1), own replica (1): a start on a fresh state, which must not be refused.
 // - 2 (1), outgoing room (4), message length (4), the message, then what the step must answer: the refusal number or 0 (1), the offset of
 //   the first wrong field (4), 0 but for 2, the outgoing length (4), the FNV-1a digests of the outgoing bytes (8) and of the whole state after the step (8).
@@ -26,7 +26,7 @@ fn replay(name: &[u8], state: &mut [u8], counts: &mut [u64]) -> records::Run {
 fn main() {
     let mut state = [0u8; 36000];
     let mut counts = [0u64; 275];
-    let run = replay(b"l04.bin", &mut state, &mut counts);
+    let run = replay(b"l08.bin", &mut state, &mut counts);
     line::number(b"starts: ", run.starts, b"\n");
     table::print(&counts);
     line::number(b"", run.steps, b" steps, ");

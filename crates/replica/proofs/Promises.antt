@@ -5,7 +5,7 @@ use mathlib.Core.Path.{_≡_, sym, _∙_}
 use mathlib.Core.List.{List}
 use Rattle.rules.specs.declared.Shape.{Shape}
 use Rattle.replica.specs.Face.{Given}
-use Rattle.replica.specs.Statements.{StepsByNumber, Starts, Judges, Reads, Writes, IsVersion, IsCore}
+use Rattle.replica.specs.Statements.{StepsByNumber, Starts, Orders, Judges, Reads, Writes, IsVersion, IsCore}
 
 -- ---- the memory changes
 
@@ -14,6 +14,9 @@ step-number-one sh b msg out r q c d o u g h = (g .number ∙ sym (h .number), g
 
 pub start-one : (sh : Shape) (group replica : ℕ) (b : List ℕ) (r q : ℕ) (c d : List ℕ) → Starts sh group replica b r c → Starts sh group replica b q d → (r ≡ q) × (c ≡ d)
 start-one sh group replica b r q c d g h = (g .number ∙ sym (h .number), g .state ∙ sym (h .state))
+
+pub order-one : (sh : Shape) (b : List ℕ) (r q : ℕ) (c d : List ℕ) → Orders sh b r c → Orders sh b q d → (r ≡ q) × (c ≡ d)
+order-one sh b r q c d g h = (g .number ∙ sym (h .number), g .state ∙ sym (h .state))
 
 pub write-one : (n s : ℕ) (given : Given) (numbers views entries out : List ℕ) (r q : ℕ) (o u : List ℕ) → Writes n s given numbers views entries out r o → Writes n s given numbers views entries out q u → (r ≡ q) × (o ≡ u)
 write-one n s given numbers views entries out r q o u g h = (g .number ∙ sym (h .number), g .out ∙ sym (h .out))

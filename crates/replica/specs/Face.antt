@@ -17,9 +17,9 @@ use Rattle.rules.specs.declared.Verdict.{Verdict}
 use Rattle.rules.specs.declared.Answer.{Answer}
 use Rattle.rules.specs.declared.Answer.the-variants.{Done, Refused}
 
--- the version of the interface, 2.0.0: major * 10000 + minor * 100 + patch
+-- the version of the interface, 2.1.0: major * 10000 + minor * 100 + patch
 abbrev pub version : ℕ
-version = 20000
+version = 20100
 
 -- the number of the table, and in the bits above it 256 times the outgoing length or, with 2, the offset
 abbrev pub coded : ℕ → ℕ → ℕ

@@ -8,7 +8,7 @@ use Rattle.rules.specs.Choice.{pick}
 use Rattle.rules.specs.Read.{decoded}
 use Rattle.rules.specs.Wire.{answerOf, offsetIn}
 use Rattle.rules.specs.Image.{goodBytes}
-use Rattle.rules.specs.Bytes.{stepBytes, startBytes}
+use Rattle.rules.specs.Bytes.{stepBytes, startBytes, orderBytes}
 use Rattle.rules.specs.declared.Shape.{Shape}
 use Rattle.replica.specs.Face.{version, coded, Gives, Puts, Given, writesFrom}
 
@@ -19,6 +19,10 @@ StepsByNumber shape b message out r b′ out′ = Gives (stepBytes shape b messa
 -- jallumere_start: of the memory b are left the number r and the memory b′
 abbrev pub Starts : Shape → (group replica : ℕ) (b : List ℕ) → (r : ℕ) (b′ : List ℕ) → Type 0
 Starts shape group replica b r b′ = Gives (startBytes shape group replica b) r b′ []
+
+-- jallumere_order: of the state's bytes b are left the number r and the state's bytes b′
+abbrev pub Orders : Shape → (b : List ℕ) → (r : ℕ) (b′ : List ℕ) → Type 0
+Orders shape b r b′ = Gives (orderBytes shape b) r b′ []
 
 -- jallumere_good: 0 of a good state's bytes, 1 of others
 abbrev pub Judges : Shape → (b : List ℕ) → (r : ℕ) → Type 0

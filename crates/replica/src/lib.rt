@@ -18,7 +18,7 @@ ghost use Rattle.digest.specs.Statements.{DigestsOn};
 ghost use Rattle.fresh.specs.Statements.{Measures};
 ghost use Rattle.readers.specs.Statements.{MeasuresFirst, TellsField, TellsView, TellsEntry};
 ghost use Rattle.rooms.specs.Statements.{Steps};
-ghost use Rattle.replica.specs.Statements.{StepsByNumber, Starts, Judges, Reads, Writes, IsVersion, IsCore};
+ghost use Rattle.replica.specs.Statements.{StepsByNumber, Starts, Orders, Judges, Reads, Writes, IsVersion, IsCore};
 
 // One step: the next state's bytes and the outgoing messages, or the lowest number of the table that applies and all as it came.
 pub fn step(shape: Shape, state: &mut [u8], message: &[u8], out: &mut [u8]) -> Answer
@@ -54,7 +54,7 @@ const PROVED: u64 = 0;
 pub extern "C" fn jallumere_version() -> u64
     ensures { λ r. ⌜ IsVersion r ⌝ }
 {
-    20000
+    20100
 }
 
 // 0: this is the proved core, and not the implementation that it is compared with.
@@ -86,6 +86,14 @@ pub extern "C" fn jallumere_start(
     ensures { λ r. ⌜ Starts (record { n = n; s = s; c = c }) group replica (now (state .entry)) r (now (state .exit)) ⌝ }
 {
     code(fresh::start(Shape { n, s, c }, group, replica, state))
+}
+
+// 0 and the older state's bytes with early in order, or 1 and all as it came where they are not those of a state good but for that order.
+#[no_mangle]
+pub extern "C" fn jallumere_order(n: u64, s: u64, c: u64, state: &mut [u8]) -> u64
+    ensures { λ r. ⌜ Orders (record { n = n; s = s; c = c }) (now (state .entry)) r (now (state .exit)) ⌝ }
+{
+    code(rooms::order(Shape { n, s, c }, state))
 }
 
 // One step: the number of the table, and 256 times the outgoing length or, with 2, the offset of the first wrong field.

@@ -14,8 +14,9 @@ ghost use Rattle.rules.specs.Image.{stateOf, goodBytes};
 ghost use Rattle.places.specs.Layout.{lengthFor};
 ghost use Rattle.wire.specs.Statements.{Reads, Writes};
 ghost use Rattle.good.specs.Statements.{Judges};
+ghost use Rattle.good.specs.Statements as check;
 ghost use Rattle.admit.specs.Refusal.{refusalOf, wrongAt};
-ghost use Rattle.rooms.specs.Statements.{Steps};
+ghost use Rattle.rooms.specs.Statements.{Steps, Orders};
 
 // The longest message whose log the 512 slots serve, and the longest that the 2,400 serve: two slots for an entry, and a path's length.
 const SHORT_MESSAGE: usize = 4096;
@@ -69,6 +70,63 @@ pub fn good(shape: Shape, state: &[u8]) -> bool
         return good_more(shape, state);
     }
     good_many(shape, state)
+}
+
+// ---- an older state put in order
+
+// With room for a capacity of 16.
+fn orderable_few(shape: Shape, state: &[u8]) -> bool
+    ensures { λ r. ⌜ check.Orders shape (now (state .entry)) r ⌝ }
+{
+    let mut slots = [0u16; 512];
+    good::orderable(shape, state, &mut slots)
+}
+
+// With room for a capacity of 256.
+fn orderable_more(shape: Shape, state: &[u8]) -> bool
+    ensures { λ r. ⌜ check.Orders shape (now (state .entry)) r ⌝ }
+{
+    let mut slots = [0u16; 2400];
+    good::orderable(shape, state, &mut slots)
+}
+
+// With room for the largest capacity.
+fn orderable_many(shape: Shape, state: &[u8]) -> bool
+    ensures { λ r. ⌜ check.Orders shape (now (state .entry)) r ⌝ }
+{
+    let mut slots = [0u16; 33032];
+    good::orderable(shape, state, &mut slots)
+}
+
+// Whether the bytes are those of a state that is good but for the order of early.
+fn orderable(shape: Shape, state: &[u8]) -> bool
+    ensures { λ r. ⌜ check.Orders shape (now (state .entry)) r ⌝ }
+{
+    if !has_length(shape, state) {
+        return false;
+    }
+    if shape.c <= 16 {
+        return orderable_few(shape, state);
+    }
+    if shape.c <= 256 {
+        return orderable_more(shape, state);
+    }
+    orderable_many(shape, state)
+}
+
+// Puts early of an older state in order, or refuses and leaves all as it came. It is called once in a state's life, so one entry after
+// the other goes to its place.
+pub fn order(shape: Shape, state: &mut [u8]) -> Answer
+    ensures { λ r. ⌜ Orders shape (now (state .entry)) r (now (state .exit)) ⌝ }
+{
+    if !orderable(shape, state) {
+        return Answer::Refused(refusal::WRONG_STATE, 0);
+    }
+    let layout = places::places_of(shape);
+    let start = layout.early;
+    let end = layout.late;
+    entries::order(&mut state[start..end], shape.c as usize);
+    Answer::Done(0)
 }
 
 // ---- a message read

@@ -3,13 +3,13 @@ use Prim.Native.Nat.{ℕ, _+_, _*_, _≤_, _<_}
 use mathlib.Core.Path.{_≡_, sym, ap, subst, _∙_}
 use mathlib.Core.Bool.{Bool, true, false, not}
 use mathlib.Core.Option.{Option}
-use mathlib.Core.List.{List, [], _∷_, _++_}
+use mathlib.Core.List.{List, _++_}
 use native.Mathlib.Omega.{arith}
-use lib.ListN.{length, set}
+use lib.ListN.{length, take, drop}
 use borrow.Author.Tests.{le-ltb, not-true, not-false}
 use Rattle.octets.specs.Bytes.{num}
 use Rattle.rules.specs.Choice.{isSome}
-use Rattle.rules.specs.Entry.{entryOf, sameTxn, stamped, among}
+use Rattle.rules.specs.Entry.{noEntry, entryOf, sameTxn, stamped, among, before, place}
 use Rattle.rules.specs.Log.{distinct}
 use Rattle.rules.specs.State.{Note, State, withWaiting, noted, agreed, greatest}
 use Rattle.rules.specs.Read.{entryAt}
@@ -17,9 +17,9 @@ use Rattle.rules.specs.Image.{tableAt, image, stateOf}
 use Rattle.rules.specs.Early.{lifted}
 use Rattle.rules.specs.declared.Entry.{Entry}
 use Rattle.rules.specs.declared.Shape.{Shape}
-use Rattle.rules.proofs.Choice.{all-map, any-none, pairs-append}
-use Rattle.rules.proofs.Order.{txn-turns}
-use Rattle.rules.proofs.Logs.{Apart, distinct-pairs, pairs-distinct}
+use Rattle.rules.proofs.Choice.{all-at, any-none}
+use Rattle.rules.proofs.Order.{place-perm, perm-pairs}
+use Rattle.rules.proofs.Logs.{Apart, apart-turns, distinct-pairs, pairs-distinct}
 use Rattle.entries.specs.First.{findRow}
 use Rattle.entries.specs.Table.{Holds, Table}
 use Rattle.entries.proofs.First.{found-row}
@@ -29,7 +29,8 @@ use Rattle.notes.specs.declared.Point.{Point}
 use Rattle.notes.specs.declared.Point.the-variants.{Unheard, Heard}
 use Rattle.places.specs.Layout.{Midway}
 use Rattle.places.proofs.Sections.{midway-is}
-use Rattle.stamps.proofs.Lifted.{lifted-absent, lifted-waits, lifted-here}
+use Rattle.stamps.specs.Climbs.{Climbs}
+use Rattle.stamps.proofs.Lifted.{not-before, lifted-absent, lifted-waits, lifted-here}
 
 -- ---- what a note says
 
@@ -75,30 +76,37 @@ module _ {sh : Shape} {st : State} {b : List ℕ} (m : Midway sh st b) (o : dist
     pub lift-waits : (r : Bool) → r ≡ agreed sh xs d → not r ≡ true → Midway sh (earlyIn st (lifted sh (st .waiting .notes) x (st .waiting .early))) b
     lift-waits r a y = rw (lifted-waits sh (st .waiting .notes) x (st .waiting .early) o i low named (sym (rw (z, found) at a) ∙ not-true r y)) m
 
-    pub lift-here : (r : Bool) (v : ℕ) (b′ : List ℕ) → r ≡ agreed sh xs d → not r ≡ false → v ≡ greatest sh xs d → (y : Entry) → y ≡ stamped v d → Midway sh (earlyIn st (set (st .waiting .early) i y)) b′ → Midway sh (earlyIn st (lifted sh (st .waiting .notes) x (st .waiting .early))) b′
-    lift-here r v b′ a u w y k l =
-        let s : y ≡ stamped (greatest sh (st .waiting .notes) (entryOf (st .waiting .early) i)) (entryOf (st .waiting .early) i) = k ∙ rw (w, z) (ap (λ (c : Entry). stamped (greatest sh (st .waiting .notes) c) c) found) in
-        rw (lifted-here sh (st .waiting .notes) x (st .waiting .early) o i low named (sym (rw (z, found) at a) ∙ not-false r u)) (rw s at l)
+    module _ (r : Bool) (v : ℕ) (a : r ≡ agreed sh xs d) (u : not r ≡ false) (w : v ≡ greatest sh xs d) (y : Entry) (k : y ≡ stamped v d) where
+      abbrev to : ℕ
+      to = greatest sh (st .waiting .notes) (entryOf (st .waiting .early) i)
 
--- ---- an early entry added
+      agrees : agreed sh (st .waiting .notes) (entryOf (st .waiting .early) i) ≡ true
+      agrees = sym (rw (z, found) at a) ∙ not-false r u
 
-module _ {sh : Shape} {b : List ℕ} (st : State) (es : List Entry) (m : Midway sh (earlyIn st es) b) where
-  -- with a transaction that was not there
-  pub added-once : (ds : List Entry) (e : Entry) → es ≡ ds ++ (e ∷ []) → distinct ds ≡ true → among ds e ≡ false → distinct (stateOf sh b .waiting .early) ≡ true
-  added-once ds e q o a =
-      ap (λ (x : State). distinct (x .waiting .early)) (midway-is m)
-      ∙ ap distinct q
-      ∙ pairs-distinct (ds ++ (e ∷ []))
-      (pairs-append Apart ds (e ∷ []) (distinct-pairs ds o) (tt, tt) (all-map (λ d h. (txn-turns d e ∙ h, tt)) ds (any-none (sameTxn e) ds a)))
+      raised-is : y ≡ stamped to (entryOf (st .waiting .early) i)
+      raised-is = k ∙ rw (w, z) (ap (λ (c : Entry). stamped (greatest sh (st .waiting .notes) c) c) found)
 
-  pub added-row : (p : List Note → Type 0) → p (st .waiting .notes) → p (stateOf sh b .waiting .notes)
-  added-row p h = subst (λ (x : State). p (x .waiting .notes)) (sym (midway-is m)) h
+      -- it does not go down
+      pub lift-up : Climbs sh (st .waiting .notes) x (st .waiting .early) → before y (entryOf (st .waiting .early) i) ≡ false
+      lift-up l =
+          let m : entryOf (st .waiting .early) i .stamp ≤ to = all-at (λ (c : Entry). sameTxn x c ≡ true → agreed sh (st .waiting .notes) c ≡ true → c .stamp ≤ greatest sh (st .waiting .notes) c) noEntry (st .waiting .early) l i low named agrees in
+          ap (λ (c : Entry). before c (entryOf (st .waiting .early) i)) raised-is ∙ not-before (entryOf (st .waiting .early) i) to m
 
--- ---- a note kept, and the early entry lifted by it
+      pub lift-here : (b′ : List ℕ) → Midway sh (earlyIn st (place y (take i (st .waiting .early) ++ drop (i + 1) (st .waiting .early)))) b′ → Midway sh (earlyIn st (lifted sh (st .waiting .notes) x (st .waiting .early))) b′
+      lift-here b′ l =
+          rw (lifted-here sh (st .waiting .notes) x (st .waiting .early) o i low named agrees) (rw raised-is at l)
 
-module _ {sh : Shape} {b : List ℕ} (st : State) (xs : List Note) (m : Midway sh (withWaiting (st .waiting .early) (st .waiting .late) xs st) b) where
-  pub still-once : distinct (st .waiting .early) ≡ true → distinct (stateOf sh b .waiting .early) ≡ true
-  still-once o = ap (λ (x : State). distinct (x .waiting .early)) (midway-is m) ∙ o
+-- ---- what was written stands there
 
-  pub kept-lifted : (e : Entry) (b′ : List ℕ) → Midway sh (earlyIn (stateOf sh b) (lifted sh (stateOf sh b .waiting .notes) e (stateOf sh b .waiting .early))) b′ → b′ ≡ image sh (withWaiting (lifted sh xs e (st .waiting .early)) (st .waiting .late) xs st)
+module _ {sh : Shape} {b : List ℕ} (st : State) (es : List Entry) (xs : List Note) (m : Midway sh (withWaiting es (st .waiting .late) xs st) b) where
+  -- what holds of the early entries and the notes
+  pub standing : (p : List Entry → List Note → Type 0) → p es xs → p (stateOf sh b .waiting .early) (stateOf sh b .waiting .notes)
+  standing p h = subst (λ (x : State). p (x .waiting .early) (x .waiting .notes)) (sym (midway-is m)) h
+
+  -- a note was kept, and the early entry is lifted by it
+  pub kept-lifted : (e : Entry) (b′ : List ℕ) → Midway sh (earlyIn (stateOf sh b) (lifted sh (stateOf sh b .waiting .notes) e (stateOf sh b .waiting .early))) b′ → b′ ≡ image sh (withWaiting (lifted sh xs e es) (st .waiting .late) xs st)
   kept-lifted e b′ k = k .bytes ∙ ap (λ (x : State). image sh (earlyIn x (lifted sh (x .waiting .notes) e (x .waiting .early)))) (midway-is m)
+
+-- an entry put in, of a transaction that was not there
+pub placed-once : (e : Entry) (ds : List Entry) → distinct ds ≡ true → among ds e ≡ false → distinct (place e ds) ≡ true
+placed-once e ds o a = pairs-distinct (place e ds) (perm-pairs Apart apart-turns (place-perm e ds) (any-none (sameTxn e) ds a, distinct-pairs ds o))

@@ -3,9 +3,10 @@ use notes::Point;
 use rules::Entry;
 use rules::Shape;
 ghost use mathlib.Core.Path.{_≡_};
-ghost use mathlib.Core.Bool.{true};
-ghost use Prim.Native.Nat.{_<_};
-ghost use lib.ListN.{length, set};
+ghost use mathlib.Core.Bool.{true, false};
+ghost use mathlib.Core.List.{_++_};
+ghost use Prim.Native.Nat.{_+_, _<_};
+ghost use lib.ListN.{length, take, drop};
 ghost use Rattle.rules.specs.Entry as order;
 ghost use Rattle.rules.specs.Log as log;
 ghost use Rattle.rules.specs.Choice.{isSome};
@@ -13,7 +14,9 @@ ghost use Rattle.rules.specs.State as rule;
 ghost use Rattle.rules.specs.State.{withWaiting};
 ghost use Rattle.rules.specs.Image.{stateOf};
 ghost use Rattle.rules.specs.Early.{lifted};
+ghost use Rattle.rules.proofs.Order.{Sorted};
 ghost use Rattle.places.specs.Layout.{Sized, Midway, Stands};
+ghost use Rattle.stamps.specs.Climbs.{Climbs};
 
 // ---- the log's last
 
@@ -67,11 +70,13 @@ pub fn is_noted(shape: Shape, state: &[u8], e: Entry, j: u64) -> bool
 
 // ---- what they lift
 
-// Puts d in the place of early entry i.
+// Takes out early entry i and puts d, which does not come before it, in its place.
 fn put_early(shape: Shape, state: &mut [u8], i: usize, d: Entry)
-    requires { ⌜ Midway shape (stateOf shape (now state)) (now state) × (i < length (stateOf shape (now state) .waiting .early)) ⌝ }
+    requires { ⌜ (let st = stateOf shape (now state) in
+        Midway shape st (now state) × (i < length (st .waiting .early)) × Sorted (st .waiting .early)
+        × (order.before d (order.entryOf (st .waiting .early) i) ≡ false)) ⌝ }
     ensures { λ _. ⌜ (let st = stateOf shape (now (state .entry)) in
-        let early = set (st .waiting .early) i d in
+        let early = order.place d (take i (st .waiting .early) ++ drop (i + 1) (st .waiting .early)) in
         Midway shape (withWaiting early (st .waiting .late) (st .waiting .notes) st) (now (state .exit))) ⌝ }
 {
     let layout = places::places_of(shape);
@@ -80,9 +85,11 @@ fn put_early(shape: Shape, state: &mut [u8], i: usize, d: Entry)
     early::lift(&mut state[start..end], shape.c as usize, i, d);
 }
 
-// The early entry of e's transaction, once notes from every group of its mask are held, gets their greatest as its timestamp.
+// The early entry of e's transaction, once notes from every group of its mask are held, gets their greatest as its timestamp, and goes to its place.
 pub fn lift(shape: Shape, state: &mut [u8], e: Entry)
-    requires { ⌜ Midway shape (stateOf shape (now state)) (now state) × (log.distinct (stateOf shape (now state) .waiting .early) ≡ true) ⌝ }
+    requires { ⌜ (let st = stateOf shape (now state) in
+        Midway shape st (now state) × (log.distinct (st .waiting .early) ≡ true) × Sorted (st .waiting .early)
+        × Climbs shape (st .waiting .notes) e (st .waiting .early)) ⌝ }
     ensures { λ _. ⌜ (let st = stateOf shape (now (state .entry)) in
         let early = lifted shape (st .waiting .notes) e (st .waiting .early) in
         Midway shape (withWaiting early (st .waiting .late) (st .waiting .notes) st) (now (state .exit))) ⌝ }

@@ -94,7 +94,7 @@ module _ {sh : Shape} {b : List ℕ} (m : Releasing sh b) where
         said out out′ (take (end - from) (drop from b)) at r 5 255 1 (FastReply h 1 (n + 1) sum) (1 ∷ (n + 1) ∷ sum ∷ []) (e ∷ []) hh refl (placed-bytes ∙ one-flat e) (all-at EntryFits noEntry (stateOf sh b .logged .log) (m .midway .holds .log .each) n hn, tt) refl refl w
 
   -- ---- one that is not
-  module _ (from end i time : ℕ) (hf : from ≡ startOf sh atEarly + (4 + 24 * i)) (he : end ≡ from + 24) (hi : i < length (stateOf sh b .waiting .early)) where
+  module _ (from end i : ℕ) (hf : from ≡ startOf sh atEarly + (4 + 24 * i)) (he : end ≡ from + 24) (hi : i < length (stateOf sh b .waiting .early)) where
     unplaced-bytes : take (end - from) (drop from b) ≡ entryBytes (entryOf (stateOf sh b .waiting .early) i)
     unplaced-bytes = early-entry (m .midway) from end i hf he hi
 
@@ -102,14 +102,14 @@ module _ {sh : Shape} {b : List ℕ} (m : Releasing sh b) where
         → Sized sh b × (24 * (length (take (end - from) (drop from b)) / 24) ≡ length (take (end - from) (drop from b))) × (length (take (end - from) (drop from b)) ≤ 98304) × (0 + (24 + 4 * sh .s + 8 * 3 + length (take (end - from) (drop from b))) ≤ L)
     unplaced-room L h = room 0 3 1 L (take (end - from) (drop from b)) (ap length unplaced-bytes ∙ long-entry (entryOf (stateOf sh b .waiting .early) i)) (omega arith) (omega (arith, placed-long (sh .s)))
 
-    pub unplaced-told : (out out′ : List ℕ) (r sum : ℕ) (h : Header) → h ≡ headedIn b 5 255 1 → sum ≡ digest (stateOf sh b .logged .log) → entryOf (stateOf sh b .waiting .early) i ≡ entryOf (dueOf time (stateOf sh b .waiting .early)) 0
+    pub unplaced-told : (out out′ : List ℕ) (r sum : ℕ) (h : Header) → h ≡ headedIn b 5 255 1 → sum ≡ digest (stateOf sh b .logged .log)
         → (r ≡ 0 + length (messageBytes sh b (FastReply h 0 0 sum) (take (end - from) (drop from b)))) × (out′ ≡ splice out 0 (messageBytes sh b (FastReply h 0 0 sum) (take (end - from) (drop from b))))
-        → (r ≡ lengthFor (sh .s) 5 1) × (out′ ≡ splice out 0 (wireBytes (unplacedReply (stateOf sh b) (entryOf (dueOf time (stateOf sh b .waiting .early)) 0))))
+        → (r ≡ lengthFor (sh .s) 5 1) × (out′ ≡ splice out 0 (wireBytes (unplacedReply (stateOf sh b) (entryOf (stateOf sh b .waiting .early) i))))
     unfolding pick unplacedReply rowOf
-    unplaced-told out out′ r sum h hh hs hd w =
+    unplaced-told out out′ r sum h hh hs w =
         let e = entryOf (stateOf sh b .waiting .early) i in
         let s = said out out′ (take (end - from) (drop from b)) 0 r 5 255 1 (FastReply h 0 0 sum) (0 ∷ 0 ∷ sum ∷ []) (e ∷ []) hh refl (unplaced-bytes ∙ one-flat e) (all-at EntryFits noEntry (stateOf sh b .waiting .early) (m .midway .holds .early .each) i hi, tt) refl refl w in
-        (omega (arith, s .0), s .1 ∙ rw (hs, hd))
+        (omega (arith, s .0), s .1 ∙ rw hs)
 
   -- ---- the log, to all followers
   module _ (from end : ℕ) (hf : from ≡ startOf sh atLog + 4) (he : end ≡ from + 24 * length (stateOf sh b .logged .log)) where

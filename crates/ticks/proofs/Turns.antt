@@ -16,10 +16,10 @@ use Rattle.rules.specs.Digest.{digest}
 use Rattle.rules.specs.State.{State}
 use Rattle.rules.specs.Image.{stateOf}
 use Rattle.rules.specs.Step.{sends, sendOut, placedReplies}
-use Rattle.rules.specs.Early.{dueOf}
 use Rattle.rules.specs.declared.Entry.{Entry}
 use Rattle.rules.specs.declared.Shape.{Shape}
 use Rattle.places.proofs.Rows.{within}
+use Rattle.early.proofs.Leading.{due-take, due-at, due-within}
 use Rattle.releases.specs.Releasing.{Releasing, Reaches, logging, earlyLeft, notesLeft, Cleared}
 use Rattle.ticks.specs.Released.{Released}
 use Rattle.ticks.proofs.Many.{dues, longer, longer-start, longer-log, longer-next, longer-rest, longer-released, released-none, replies-more, replies-length, taken-at}
@@ -61,26 +61,31 @@ module _ {sh : Shape} {b₀ : List ℕ} (m : Releasing sh b₀) (out₀ : List �
     long-log j h = length-append (st .logged .log) (take j ds) ∙ ap (λ (x : ℕ). length (st .logged .log) + x) (length-take-le j ds h) ∙ ap (λ (x : ℕ). x + j) (sym hn)
 
     -- what the next release asks for
-    pub turn-asks : Releasing sh b × (n + i ≡ length (stateOf sh b .logged .log)) × (n + i < sh .c) × (i < length (dueOf time (stateOf sh b .waiting .early))) × (drop n (stateOf sh b .logged .log) ≡ take i (dueOf time (stateOf sh b .waiting .early))) × (sum ≡ digest (stateOf sh b .logged .log))
+    pub turn-asks : Releasing sh b × (n + i ≡ length (stateOf sh b .logged .log)) × (n + i < sh .c) × (i < length (stateOf sh b .waiting .early)) × (sum ≡ digest (stateOf sh b .logged .log))
     turn-asks =
         let e : stateOf sh b ≡ longer st time i = r .reached .is in
         let a : length (stateOf sh b .logged .log) ≡ n + i = ap (λ (x : State). length (x .logged .log)) e ∙ long-log i (omega (arith, less)) in
-        let d : length (dueOf time (stateOf sh b .waiting .early)) ≡ length ds = ap (λ (x : State). length (dueOf time (x .waiting .early))) e in
-        let g : drop n (stateOf sh b .logged .log) ≡ take i (dueOf time (stateOf sh b .waiting .early)) = ap (λ (x : State). drop n (x .logged .log)) e ∙ longer-rest st time n i hn ∙ ap (λ (x : State). take i (dueOf time (x .waiting .early))) (sym e) in
-        (r .reached .releasing, sym a, omega arith, omega (arith, less), g, hs ∙ ap (λ (x : State). digest (x .logged .log)) (sym e))
+        let d : length (stateOf sh b .waiting .early) ≡ length (st .waiting .early) = ap (λ (x : State). length (x .waiting .early)) e in
+        (r .reached .releasing, sym a, omega arith, omega (arith, less, due-within time (st .waiting .early)), hs ∙ ap (λ (x : State). digest (x .logged .log)) (sym e))
 
     module _ (sum₁ : ℕ) {b₁ : List ℕ}
-        (w : Reaches sh (logging (stateOf sh b) (entryOf (dueOf time (stateOf sh b .waiting .early)) i)) b₁)
-        (hs₁ : sum₁ ≡ digest (stateOf sh b .logged .log ++ (entryOf (dueOf time (stateOf sh b .waiting .early)) i ∷ []))) where
+        (w : Reaches sh (logging (stateOf sh b) (entryOf (stateOf sh b .waiting .early) i)) b₁)
+        (hs₁ : sum₁ ≡ digest (stateOf sh b .logged .log ++ (entryOf (stateOf sh b .waiting .early) i ∷ []))) where
+      -- it is the next of those due
+      next-due : entryOf (stateOf sh b .waiting .early) i ≡ entryOf ds i
+      next-due = ap (λ (x : State). entryOf (x .waiting .early) i) (r .reached .is) ∙ sym (due-at time (st .waiting .early) i less)
+
       -- the state once it is there
       next-is : stateOf sh b₁ ≡ longer st time (i + 1)
-      next-is = w .is ∙ ap (λ (x : State). logging x (entryOf (dueOf time (x .waiting .early)) i)) (r .reached .is) ∙ longer-next st time i less
+      next-is = w .is ∙ ap (logging (stateOf sh b)) next-due ∙ ap (λ (x : State). logging x (entryOf ds i)) (r .reached .is) ∙ longer-next st time i less
 
       next-log : stateOf sh b₁ .logged .log ≡ st .logged .log ++ take (i + 1) ds
       next-log = ap (λ (x : State). x .logged .log) next-is
 
       next-sum : sum₁ ≡ digest (st .logged .log ++ take (i + 1) ds)
-      next-sum = hs₁ ∙ ap (λ (x : State). digest (x .logged .log ++ (entryOf (dueOf time (x .waiting .early)) i ∷ []))) (r .reached .is) ∙ ap digest (longer-log st time i less)
+      next-sum =
+          hs₁ ∙ ap (λ (d : Entry). digest (stateOf sh b .logged .log ++ (d ∷ []))) next-due ∙ ap (λ (x : State). digest (x .logged .log ++ (entryOf ds i ∷ []))) (r .reached .is)
+          ∙ ap digest (longer-log st time i less)
 
       next-entry : entryOf (stateOf sh b₁ .logged .log) (n + i) ≡ entryOf ds i
       next-entry = ap (λ (es : List Entry). entryOf es (n + i)) next-log ∙ rw hn (getD-append-add (st .logged .log) (take (i + 1) ds) i noEntry) ∙ taken-at ds i
@@ -117,11 +122,17 @@ module _ {sh : Shape} {b₀ : List ℕ} (m : Releasing sh b₀) (out₀ : List �
 
   -- all are there: what is asked for them to leave, and all are released
   module _ (n k i at : ℕ) {b out : List ℕ} (hn : n ≡ length (st .logged .log)) (hk : k ≤ length ds) (l : i ≤ k) (h : k ≤ i) (r : Appended sh b₀ out₀ time i at b out) where
-    pub leave-asks : Releasing sh b × (n + k ≡ length (stateOf sh b .logged .log))
+    pub leave-asks : Releasing sh b × (n + k ≡ length (stateOf sh b .logged .log)) × (k ≤ length (stateOf sh b .waiting .early)) × (drop n (stateOf sh b .logged .log) ≡ take k (stateOf sh b .waiting .early))
     leave-asks =
         let e : i ≡ k = omega arith in
-        let a : length (stateOf sh b .logged .log) ≡ length (st .logged .log) + i = ap (λ (x : State). length (x .logged .log)) (r .reached .is) ∙ length-append (st .logged .log) (take i ds) ∙ ap (λ (x : ℕ). length (st .logged .log) + x) (length-take-le i ds (omega arith)) in
-        (r .reached .releasing, omega arith)
+        let q : stateOf sh b ≡ longer st time i = r .reached .is in
+        let a : length (stateOf sh b .logged .log) ≡ length (st .logged .log) + i = ap (λ (x : State). length (x .logged .log)) q ∙ length-append (st .logged .log) (take i ds) ∙ ap (λ (x : ℕ). length (st .logged .log) + x) (length-take-le i ds (omega arith)) in
+        let d : length (stateOf sh b .waiting .early) ≡ length (st .waiting .early) = ap (λ (x : State). length (x .waiting .early)) q in (
+          r .reached .releasing,
+          omega arith,
+          omega (arith, due-within time (st .waiting .early)),
+          ap (λ (x : State). drop n (x .logged .log)) q ∙ longer-rest st time n i hn ∙ rw e (due-take time (st .waiting .early) k hk) ∙ ap (λ (x : State). take k (x .waiting .early)) (sym q),
+        )
 
     pub turn-end : (b₁ : List ℕ) → Cleared sh b n b₁ → Released sh b₀ out₀ time k at b₁ out
     turn-end b₁ w =

@@ -26,7 +26,7 @@ use Rattle.rules.specs.declared.Shape.{Shape}
 use Rattle.rules.specs.declared.Answer.the-variants.{Done}
 use Rattle.rules.proofs.Choice.{pick-true, pick-false}
 use Rattle.early.proofs.Kept.{without-none}
-use Rattle.early.proofs.Leading.{leading-take, leading-length}
+use Rattle.early.proofs.Leading.{leading-take, leading-length, due-at, due-within}
 use Rattle.notes.proofs.Leaving as notes
 use Rattle.ticks.specs.Released.{settledAt}
 use Rattle.handler.proofs.Rows.{flat-snoc}
@@ -194,21 +194,25 @@ module _ {sh : Shape} {b₀ : List ℕ} (m : Releasing sh b₀) (out₀ : List �
     told-first : leaderReleases sh old time ds [] ≡ done (released old time n []) (unplacedReply old (entryOf ds 0) ∷ [])
     told-first = leader-first sh old time ds (λ z. f (e ∙ z)) n hn
 
-    pub waits-due : 0 < length ds
-    waits-due = some-due due f e
+    some-waits : 0 < length ds
+    some-waits = some-due due f e
       where
         some-due : (d : ℕ) → (d ≡ 0 → ⊥) → d ≡ length ds → 0 < length ds
         some-due zero g h = absurd (g refl)
         some-due (suc d) g h = omega arith
 
+    pub waits-due : 0 < length (old .waiting .early)
+    waits-due = omega (arith, some-waits, due-within time (old .waiting .early))
+
     pub waits-tight : (a : ℕ) → a ≡ lengthFor (sh .s) 5 1 → length out₀ < a → leaves 9 b₀ out₀ ≡ closes sh b₀ out₀ (leaderReleases sh old time ds [])
     waits-tight a q l = sym (ap (closes sh b₀ out₀) told-first ∙ closes-short sh b₀ out₀ (released old time n []) (unplacedReply old (entryOf ds 0)) (omega (arith, unplaced-long)))
 
-    pub waits-told : (a end : ℕ) (x out₁ : List ℕ) → a ≡ lengthFor (sh .s) 5 1 → a ≤ length out₀ → (end ≡ lengthFor (sh .s) 5 1) × (out₁ ≡ splice out₀ 0 (wireBytes (unplacedReply old (entryOf ds 0)))) → x ≡ image sh (settledAt old time n)
+    pub waits-told : (a end : ℕ) (x out₁ : List ℕ) → a ≡ lengthFor (sh .s) 5 1 → a ≤ length out₀ → (end ≡ lengthFor (sh .s) 5 1) × (out₁ ≡ splice out₀ 0 (wireBytes (unplacedReply old (entryOf (old .waiting .early) 0)))) → x ≡ image sh (settledAt old time n)
         → left (Done end) x out₁ ≡ closes sh b₀ out₀ (leaderReleases sh old time ds [])
-    waits-told a end x out₁ q l (u, v) i =
+    waits-told a end x out₁ q l (u, t) i =
         let w = unplacedReply old (entryOf ds 0) in
         let s : end ≡ length (wireBytes w) = u ∙ sym unplaced-long in
+        let v : out₁ ≡ splice out₀ 0 (wireBytes w) = t ∙ ap (λ (d : Entry). splice out₀ 0 (wireBytes (unplacedReply old d))) (sym (due-at time (old .waiting .early) 0 some-waits)) in
         sym (ap (closes sh b₀ out₀) told-first ∙ closes-one sh b₀ out₀ (released old time n []) w (omega (arith, unplaced-long)) ∙ rw (← s, ← v, ← settled-none x i))
 
   -- ---- whose run is not

@@ -42,14 +42,14 @@ fn tell_placed(shape: Shape, state: &[u8], out: &mut [u8], at: usize, n: usize, 
     handler::tell(shape, state, out, at, m, &state[from..end])
 }
 
-// Writes from the start of the outgoing buffer on that the first entry due by a time is not placed, with the digest of the log. Says where the message ends.
-fn tell_unplaced(shape: Shape, state: &[u8], out: &mut [u8], time: u64) -> usize
-    requires { ⌜ Releasing shape (now state) × (0 < length (dueOf time (stateOf shape (now state) .waiting .early))) × (lengthFor (shape .s) 5 1 ≤ length (now out)) ⌝ }
+// Writes from the start of the outgoing buffer on that the first early entry is not placed, with the digest of the log. Says where the message ends.
+fn tell_unplaced(shape: Shape, state: &[u8], out: &mut [u8]) -> usize
+    requires { ⌜ Releasing shape (now state) × (0 < length (stateOf shape (now state) .waiting .early)) × (lengthFor (shape .s) 5 1 ≤ length (now out)) ⌝ }
     ensures { λ r. ⌜ (let st = stateOf shape (now (state .entry)) in
         (r ≡ lengthFor (shape .s) 5 1)
-        × (now (out .exit) ≡ splice (now (out .entry)) 0 (wireBytes (unplacedReply st (entryOf (dueOf time (st .waiting .early)) 0))))) ⌝ }
+        × (now (out .exit) ≡ splice (now (out .entry)) 0 (wireBytes (unplacedReply st (entryOf (st .waiting .early) 0))))) ⌝ }
 {
-    let from = releases::early_place(shape, releases::first_due(shape, state, time));
+    let from = releases::early_place(shape, 0);
     let end = from + 24;
     let sum = releases::log_digest(shape, state);
     let m = Message::FastReply(
@@ -119,7 +119,7 @@ fn release(
     let mut at = 0;
     let mut i = 0;
     while i < k {
-        sum = releases::release_one(shape, state, time, n, i, sum);
+        sum = releases::release_one(shape, state, n, i, sum);
         at = tell_placed(shape, state, out, at, n + i, sum);
         i += 1;
     }
@@ -179,7 +179,7 @@ fn leader_waits(
     if out.len() < kinds::length_for(shape.s, kind::FAST_REPLY, 1) {
         return Answer::Refused(refusal::NO_ROOM, 0);
     }
-    let end = tell_unplaced(shape, state, out, time);
+    let end = tell_unplaced(shape, state, out);
     settle(shape, state, time, n as u64);
     Answer::Done(end)
 }

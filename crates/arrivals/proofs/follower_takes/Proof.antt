@@ -3,6 +3,7 @@
 use native.Mathlib.Omega.{arith}
 use Rattle.places.proofs.Sections.{stands-midway}
 use Rattle.places.proofs.Midway.{table-count}
+use Rattle.arrivals.proofs.Lifting.{early-sorted}
 use Rattle.arrivals.proofs.TakeWays.{early-full, early-taken, late-full, late-taken}
 use borrow.Author.Needs.{needs}
 use Rattle.arrivals.proofs.follower_takes.Statement.{statement}
@@ -24,7 +25,7 @@ returns : tie.Need-returns
 returns c = early-full _ _ _ _ _ (c .before .before .before .before .before .may-follow .ensures) (c .before .before .before .before .if1 .taken) _ (table-count (c .before .before .early .ensures .0) (c .before .before .early .ensures .1) (c .before .count .ensures)) (c .if2 .taken)
 
 add-early-requires : tie.Need-add-early-requires
-add-early-requires c κs = (stands-midway (c .before .before .before .before .before .before .before .before .before .before .pre), rw (table-count (c .before .before .before .early .ensures .0) (c .before .before .before .early .ensures .1) (c .before .before .count .ensures)) at (c .before .if2 .left))
+add-early-requires c κs = (stands-midway (c .before .before .before .before .before .before .before .before .before .before .pre), rw (table-count (c .before .before .before .early .ensures .0) (c .before .before .before .early .ensures .1) (c .before .before .count .ensures)) at (c .before .if2 .left), early-sorted (c .before .before .before .before .before .before .before .before .before .before .pre))
 
 same-length-2 : tie.Need-same-length-2
 same-length-2 c = search needs

@@ -43,7 +43,7 @@ tell-notes-requires : tie.Need-tell-notes-requires
 tell-notes-requires c κs = (c .before .before .before .before .before .before .before .before .before .before .before .before .before .before .pre .0, rw (c .before .before .before .notes-length .ensures) at (c .before .before .if3 .left))
 
 take-early-requires : tie.Need-take-early-requires
-take-early-requires c κs = (c .before .before .before .before .before .before .before .before .before .before .before .before .before .before .before .before .before .before .pre .0, c .before .before .before .before .before .before .before .before .before .before .before .before .before .before .before .before .before .before .pre .1, rw (table-count (c .before .before .before .before .before .before .before .before .before .before .before .before .before .before .early .ensures .0) (c .before .before .before .before .before .before .before .before .before .before .before .before .before .before .early .ensures .1) (c .before .before .before .before .before .before .before .before .before .before .before .before .before .count .ensures)) at (c .before .before .before .before .before .before .before .before .before .before .before .before .if1 .left), room-below _ _ _ (c .before .before .before .before .before .before .before .before .before .before .room-for-note .ensures) (c .before .before .before .before .before .before .before .before .before .if2 .left))
+take-early-requires c κs = (c .before .before .before .before .before .before .before .before .before .before .before .before .before .before .before .before .before .before .pre .0, c .before .before .before .before .before .before .before .before .before .before .before .before .before .before .before .before .before .before .pre .1, rw (table-count (c .before .before .before .before .before .before .before .before .before .before .before .before .before .before .early .ensures .0) (c .before .before .before .before .before .before .before .before .before .before .before .before .before .before .early .ensures .1) (c .before .before .before .before .before .before .before .before .before .before .before .before .before .count .ensures)) at (c .before .before .before .before .before .before .before .before .before .before .before .before .if1 .left), room-below _ _ _ (c .before .before .before .before .before .before .before .before .before .before .room-for-note .ensures) (c .before .before .before .before .before .before .before .before .before .if2 .left), c .before .before .before .before .before .before .before .before .before .before .before .before .before .before .before .before .before .before .pre .2)
 
 same-length-4 : tie.Need-same-length-4
 same-length-4 c = search needs

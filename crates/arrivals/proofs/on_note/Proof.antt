@@ -5,12 +5,11 @@ use Rattle.rules.specs.Kind.{rowOf}
 use Rattle.rules.specs.Step.{onNote}
 use Rattle.handler.proofs.Closes.{handled-other}
 use Rattle.handler.proofs.OtherKind.{not-tag}
-use Rattle.handler.proofs.Own.{early-once}
 use mathlib.Core.List.{List}
 use Rattle.rules.specs.Entry.{among}
 use Rattle.rules.specs.declared.Entry.{Entry}
 use Rattle.places.proofs.Sections.{stands-midway}
-use Rattle.arrivals.proofs.NoteWays.{from-below, in-log-way, noted-way, full-way, kept-way, room-below}
+use Rattle.arrivals.proofs.NoteWays.{from-below, in-log-way, noted-way, full-way, lifting, kept-way}
 use borrow.Author.Needs.{needs}
 use Rattle.arrivals.proofs.on_note.Statement.{statement}
 use Rattle.arrivals.proofs.on_note.Tie as tie
@@ -59,7 +58,7 @@ returns-4 : tie.Need-returns-4
 returns-4 c = full-way _ _ _ _ _ _ (c .before .before .before .before .before .before .before .before .before .before .before .before .before .before .before .before .before .before .before .pre) (c .before .before .before .before .before .before .before .before .before .before .before .before .before .before .m .given .1) _ (c .before .before .before .before .before .before .before .before .before .before .first-entry .ensures) _ (c .before .before .before .before .before .before .before .is-among .ensures ∙ ap (λ (es : List Entry). among es (c .before .before .before .before .before .before .before .before .before .before .first-entry .result)) (c .before .before .before .before .before .before .before .before .log .ensures .1)) (c .before .before .before .before .before .before .if1 .left) _ (c .before .before .before .before .is-noted .ensures) (c .before .before .before .if2 .left) _ (c .before .room-for-note .ensures) (c .if3 .taken)
 
 keep-and-lift-requires : tie.Need-keep-and-lift-requires
-keep-and-lift-requires c κs = (stands-midway (c .before .before .before .before .before .before .before .before .before .before .before .before .before .before .before .before .before .before .before .before .pre .stands), early-once (c .before .before .before .before .before .before .before .before .before .before .before .before .before .before .before .before .before .before .before .before .pre .stands), room-below _ _ _ (c .before .before .room-for-note .ensures) (c .before .if3 .left), from-below _ _ _ (c .before .before .before .before .before .before .before .before .before .before .before .before .before .before .before .before .before .before .before .before .args .out .now) _ _ (c .before .before .before .before .before .before .before .before .before .before .before .before .before .before .before .before .before .before .before .before .pre) (c .before .before .before .before .before .before .before .before .before .before .before .before .before .before .before .m .given .1))
+keep-and-lift-requires c κs = (stands-midway (c .before .before .before .before .before .before .before .before .before .before .before .before .before .before .before .before .before .before .before .before .pre .stands), lifting _ _ _ (c .before .before .before .before .before .before .before .before .before .before .before .before .before .before .before .before .before .before .before .before .args .out .now) _ _ (c .before .before .before .before .before .before .before .before .before .before .before .before .before .before .before .before .before .before .before .before .pre) (c .before .before .before .before .before .before .before .before .before .before .before .before .before .before .before .m .given .1) _ (c .before .before .before .before .before .before .before .before .before .before .before .first-entry .ensures) _ (c .before .before .before .before .before .before .before .before .is-among .ensures ∙ ap (λ (es : List Entry). among es (c .before .before .before .before .before .before .before .before .before .before .before .first-entry .result)) (c .before .before .before .before .before .before .before .before .before .log .ensures .1)) (c .before .before .before .before .before .before .before .if1 .left) _ (c .before .before .before .before .before .is-noted .ensures) (c .before .before .before .before .if2 .left) _ (c .before .before .room-for-note .ensures) (c .before .if3 .left))
 
 same-length-4 : tie.Need-same-length-4
 same-length-4 c = search needs

@@ -7,7 +7,7 @@ use Rattle.rules.specs.Step.{onTransaction}
 use Rattle.handler.proofs.Closes.{handled-other}
 use Rattle.handler.proofs.OtherKind.{not-tag}
 use Rattle.places.proofs.Sections.{stands-midway}
-use Rattle.arrivals.proofs.TransactionWays.{due-low, known-way, not-early, leader-way, late-way, follower-way}
+use Rattle.arrivals.proofs.TransactionWays.{due-low, known-way, not-early, ours, leader-way, late-way, follower-way}
 use borrow.Author.Needs.{needs}
 use Rattle.arrivals.proofs.on_transaction.Statement.{statement}
 use Rattle.arrivals.proofs.on_transaction.Tie as tie
@@ -50,7 +50,7 @@ returns-3 : tie.Need-returns-3
 returns-3 c = late-way _ _ _ _ _ _ _ _ (c .before .before .before .before .before .before .before .before .before .before .before .before .before .before .before .before .before .before .before .pre) (c .before .before .before .before .before .before .before .before .before .before .before .before .before .before .m .given .1) _ (c .before .before .before .before .before .before .before .before .before .before .before .first-entry .ensures) _ (c .before .before .before .before .before .before .before .before .before .known .ensures) (c .before .before .before .before .before .before .before .before .if1 .left) _ (c .before .before .before .before .before .leads .ensures) _ (c .before .before .before .before .before .before .before .stamped .ensures) (c .before .before .before .before .if2 .taken) _ (c .before .before .raised .ensures) (c .if3 .taken)
 
 leader-takes-requires : tie.Need-leader-takes-requires
-leader-takes-requires c κs = (c .before .before .before .before .before .before .before .before .before .before .before .before .before .before .before .before .before .before .before .before .before .pre .stands, not-early _ _ _ (c .before .before .before .before .before .before .before .before .before .before .before .before .before .before .before .before .before .before .before .before .before .args .out .now) _ _ _ _ (c .before .before .before .before .before .before .before .before .before .before .before .before .before .before .before .before .before .before .before .before .before .pre) (c .before .before .before .before .before .before .before .before .before .before .before .before .before .before .before .before .m .given .1) _ (c .before .before .before .before .before .before .before .before .before .before .before .before .before .first-entry .ensures) _ (c .before .before .before .before .before .before .before .before .before .before .before .known .ensures) (c .before .before .before .before .before .before .before .before .before .before .if1 .left) _ (c .before .before .before .before .before .before .before .leads .ensures) _ (c .before .before .before .before .before .before .before .before .before .stamped .ensures) _ (c .before .before .before .before .raised .ensures))
+leader-takes-requires c κs = (c .before .before .before .before .before .before .before .before .before .before .before .before .before .before .before .before .before .before .before .before .before .pre .stands, not-early _ _ _ (c .before .before .before .before .before .before .before .before .before .before .before .before .before .before .before .before .before .before .before .before .before .args .out .now) _ _ _ _ (c .before .before .before .before .before .before .before .before .before .before .before .before .before .before .before .before .before .before .before .before .before .pre) (c .before .before .before .before .before .before .before .before .before .before .before .before .before .before .before .before .m .given .1) _ (c .before .before .before .before .before .before .before .before .before .before .before .before .before .first-entry .ensures) _ (c .before .before .before .before .before .before .before .before .before .before .before .known .ensures) (c .before .before .before .before .before .before .before .before .before .before .if1 .left) _ (c .before .before .before .before .before .before .before .leads .ensures) _ (c .before .before .before .before .before .before .before .before .before .stamped .ensures) _ (c .before .before .before .before .raised .ensures), ours _ _ _ (c .before .before .before .before .before .before .before .before .before .before .before .before .before .before .before .before .before .before .before .before .before .args .out .now) _ _ _ _ (c .before .before .before .before .before .before .before .before .before .before .before .before .before .before .before .before .before .before .before .before .before .pre) (c .before .before .before .before .before .before .before .before .before .before .before .before .before .before .before .before .m .given .1) _ (c .before .before .before .before .before .before .before .before .before .before .before .before .before .first-entry .ensures) _ (c .before .before .before .before .before .before .before .before .before .before .before .known .ensures) (c .before .before .before .before .before .before .before .before .before .before .if1 .left) _ (c .before .before .before .before .before .before .before .leads .ensures) _ (c .before .before .before .before .before .before .before .before .before .stamped .ensures) _ (c .before .before .before .before .raised .ensures))
 
 same-length-3 : tie.Need-same-length-3
 same-length-3 c = search needs

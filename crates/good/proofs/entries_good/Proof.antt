@@ -17,14 +17,14 @@ last-entry-requires c κs = search needs
 rows-fit-requires : tie.Need-rows-fit-requires
 rows-fit-requires c κs = search needs
 
-all-fit-requires : tie.Need-all-fit-requires
-all-fit-requires c κs = search needs
+table-fits-requires : tie.Need-table-fits-requires
+table-fits-requires c κs = search needs
 
 no-entry-requires : tie.Need-no-entry-requires
 no-entry-requires c κs = search needs
 
-all-fit-requires-2 : tie.Need-all-fit-requires-2
-all-fit-requires-2 c κs = search needs
+table-fits-requires-2 : tie.Need-table-fits-requires-2
+table-fits-requires-2 c κs = search needs
 
 distinct3-requires : tie.Need-distinct3-requires
 distinct3-requires c κs = (within-at _ _ _ _ (c .before .before .before .before .before .before .before .places-of .ensures .log) (c .before .before .before .before .before .before .before .before .before .before .pre .log), within-at _ _ _ _ (c .before .before .before .before .before .before .before .places-of .ensures .early) (c .before .before .before .before .before .before .before .before .before .before .pre .early), within-at _ _ _ _ (c .before .before .before .before .before .before .before .places-of .ensures .late) (c .before .before .before .before .before .before .before .before .before .before .pre .late))
@@ -33,7 +33,7 @@ same-length : tie.Need-same-length
 same-length c = search needs
 
 returns : tie.Need-returns
-returns c = entries-are _ _ (c .before .before .before .before .before .before .before .before .before .before .before .before .before .pre .known .sized .size) _ _ _ _ _ _ (c .before .before .before .before .before .before .before .rows-fit .result) _ _ _ (c .before .before .before .before .before .before .before .before .before .before .places-of .ensures .log) (c .before .before .before .before .before .before .before .before .before .before .places-of .ensures .early) (c .before .before .before .before .before .before .before .before .before .before .places-of .ensures .late) (c .before .before .before .before .before .before .before .before .before .get-group .ensures) (c .before .before .before .before .before .before .before .before .last-entry .ensures) (c .before .before .before .before .before .no-entry .ensures) (c .before .before .before .before .before .before .before .rows-fit .ensures) (c .before .before .before .before .before .before .all-fit .ensures) (c .before .before .before .before .all-fit2 .ensures) (c .before .before .distinct3 .ensures)
+returns c = entries-are _ _ (c .before .before .before .before .before .before .before .before .before .before .before .before .before .pre .known .sized .size) _ _ _ _ _ _ _ (c .before .before .before .before .before .before .before .rows-fit .result) _ _ _ (c .before .before .before .before .before .before .before .before .before .before .places-of .ensures .log) (c .before .before .before .before .before .before .before .before .before .before .places-of .ensures .early) (c .before .before .before .before .before .before .before .before .before .before .places-of .ensures .late) (c .before .before .before .before .before .before .before .before .before .get-group .ensures) (c .before .before .before .before .before .before .before .before .last-entry .ensures) (c .before .before .before .before .before .no-entry .ensures) (c .before .before .before .before .before .before .before .rows-fit .ensures) (c .before .before .before .before .before .before .table-fits .ensures) (c .before .before .before .before .table-fits2 .ensures) (c .before .before .distinct3 .ensures)
 
 pub entries-good-spec : {M : Type 1} → statement M
 entries-good-spec =
@@ -43,9 +43,9 @@ entries-good-spec =
     get-group-requires
     last-entry-requires
     rows-fit-requires
-    all-fit-requires
+    table-fits-requires
     no-entry-requires
-    all-fit-requires-2
+    table-fits-requires-2
     distinct3-requires
     same-length
     returns)

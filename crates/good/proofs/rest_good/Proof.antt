@@ -45,7 +45,7 @@ same-length : tie.Need-same-length
 same-length c = search needs
 
 returns : tie.Need-returns
-returns c = rest-is _ _ (c .before .before .before .before .before .before .before .before .before .before .before .before .before .before .before .before .before .before .before .before .before .before .before .before .pre .known .sized .size) _ _ _ _ _ _ _ _ _ (c .before .before .before .before .before .before .before .before .before .before .before .before .before .before .before .before .before .before .before .before .get-group .ensures) (c .before .before .before .before .before .before .before .before .before .before .before .before .before .before .before .before .before .before .before .before .before .places-of .ensures .draft) (c .before .before .before .before .before .before .before .before .before .before .before .before .before .before .before .before .before .before .before .heard-good .ensures) (c .before .before .before .before .before .before .before .before .before .before .before .before .before .before .before .before .before .log-good .ensures) (c .before .before .before .before .before .before .before .before .before .before .before .before .before .before .points-good .ensures) (c .before .before .before .before .before .before .before .before .before .before .before .before .before .view-good .ensures) (c .before .before .before .before .before .before .before .before .before .before .before .kept-good .ensures) (c .before .before .before .before .before .before .before .entries-good .ensures) (c .before .before .notes-right .ensures)
+returns c = rest-is _ _ _ (c .before .before .before .before .before .before .before .before .before .before .before .before .before .before .before .before .before .before .before .before .before .before .before .before .pre .known .sized .size) _ _ _ _ _ _ _ _ _ (c .before .before .before .before .before .before .before .before .before .before .before .before .before .before .before .before .before .before .before .before .get-group .ensures) (c .before .before .before .before .before .before .before .before .before .before .before .before .before .before .before .before .before .before .before .before .before .places-of .ensures .draft) (c .before .before .before .before .before .before .before .before .before .before .before .before .before .before .before .before .before .before .before .heard-good .ensures) (c .before .before .before .before .before .before .before .before .before .before .before .before .before .before .before .before .before .log-good .ensures) (c .before .before .before .before .before .before .before .before .before .before .before .before .before .before .points-good .ensures) (c .before .before .before .before .before .before .before .before .before .before .before .before .before .view-good .ensures) (c .before .before .before .before .before .before .before .before .before .before .before .kept-good .ensures) (c .before .before .before .before .before .before .before .entries-good .ensures) (c .before .before .notes-right .ensures)
 
 pub rest-good-spec : {M : Type 1} → statement M
 rest-good-spec =

@@ -1,22 +1,15 @@
--- `releases::release_one` meets its contract: those before it stand at the end of the log, and the bytes lent are those of the entry that was appended. Assumes nothing.
+-- `releases::release_one` meets its contract: the bytes lent are those of the entry that was appended. Assumes nothing.
 -- Made by tools/answers from the file `answers` beside it: change that one.
 use Prim.Native.Nat.{_+_}
 use mathlib.Core.Path.{refl}
-use Rattle.rules.specs.Image.{stateOf}
 use Rattle.releases.proofs.LogBytes.{digest-runs}
-use Rattle.releases.proofs.Next.{reached-by, went}
+use Rattle.releases.proofs.Next.{went}
 use borrow.Author.Needs.{needs}
 use Rattle.releases.proofs.release_one.Statement.{statement}
 use Rattle.releases.proofs.release_one.Tie as tie
 
-last-released-requires : tie.Need-last-released-requires
-last-released-requires c κs = search needs
-
-due-place-requires : tie.Need-due-place-requires
-due-place-requires c κs = let a = c .before .before .before .before .args in let st = stateOf (a .shape) (a .state .now) in (c .before .before .before .before .pre .0, reached-by (a .time) (st .waiting .early) (st .logged .log) (a .n) (a .i) _ (c .before .before .before .before .pre .3) (c .before .before .before .before .pre .4) (c .before .last-released .ensures), c .before .before .before .before .pre .3)
-
 early-entry-requires : tie.Need-early-entry-requires
-early-entry-requires c κs = search needs
+early-entry-requires c κs = (c .before .before .pre .0, c .before .before .pre .3)
 
 log-takes-requires : tie.Need-log-takes-requires
 log-takes-requires c κs = search needs
@@ -46,14 +39,12 @@ same-length : tie.Need-same-length
 same-length c = search needs
 
 returns : tie.Need-returns
-returns c = let w = went (c .before .before .before .before .before .before .before .before .before .before .before .before .before .before .args .state .now) _ _ _ (c .before .before .before .before .before .before .before .before .early-entry .ensures) (c .before .before .before .before .before .before .before .before .before .due-place .ensures .1) (c .before .before .before .before .before .before .log-takes .ensures) in let p = c .before .before .before .log-place .result in (w, digest-runs (c .before .before .before .before .before .before .before .before .before .before .before .before .before .before .pre .0) _ p (p + 24) _ _ _ w (c .before .before .before .before .before .before .before .before .before .before .before .before .before .before .pre .1) (c .before .before .before .before .before .before .before .before .before .before .before .before .before .before .pre .5) (c .before .before .before .log-place .ensures .0) refl (c .digest-on .ensures))
+returns c = let w = went (c .before .before .before .before .before .before .before .before .before .before .before .args .state .now) _ _ (c .before .before .before .before .before .before .before .before .early-entry .ensures) (c .before .before .before .before .before .before .log-takes .ensures) in let p = c .before .before .before .log-place .result in (w, digest-runs (c .before .before .before .before .before .before .before .before .before .before .before .pre .0) _ p (p + 24) _ _ _ w (c .before .before .before .before .before .before .before .before .before .before .before .pre .1) (c .before .before .before .before .before .before .before .before .before .before .before .pre .4) (c .before .before .before .log-place .ensures .0) refl (c .digest-on .ensures))
 
 pub release-one-spec : {M : Type 1} → statement M
 release-one-spec =
     tie.close
     (tie.spec
-    last-released-requires
-    due-place-requires
     early-entry-requires
     log-takes-requires
     add-log-place

@@ -15,13 +15,13 @@ early-requires : tie.Need-early-requires
 early-requires c κs = c .before .before .before .before .before .before .before .pre .0 .midway
 
 run-of-requires : tie.Need-run-of-requires
-run-of-requires c κs = (run-open _ _ (c .before .before .before .before .before .before .before .before .before .pre .0) _ _ _ (c .before .early .ensures) (c .before .before .before .before .before .before .notes .ensures) _ (c .before .before .before .before .before .before .before .before .before .pre .1), c .before .before .before .before .index-notes .ensures)
+run-of-requires c κs = (c .before .early .ensures .0, run-open _ _ (c .before .before .before .before .before .before .before .before .before .args .time) _ _ (c .before .early .ensures) (c .before .before .before .before .before .before .notes .ensures) _ (c .before .before .before .before .before .before .before .before .before .pre .1), c .before .before .before .before .before .before .notes .ensures .0, c .before .before .before .before .index-notes .ensures)
 
 same-length : tie.Need-same-length
 same-length c = search needs
 
 returns : tie.Need-returns
-returns c = run-read _ _ (c .before .before .before .before .before .before .before .before .before .before .pre .0) _ _ _ (c .before .before .early .ensures) (c .before .before .before .before .before .before .before .notes .ensures) _ (c .run-of .ensures)
+returns c = run-read _ _ (c .before .before .before .before .before .before .before .before .before .before .args .time) _ _ (c .before .before .early .ensures) (c .before .before .before .before .before .before .before .notes .ensures) _ (c .before .before .before .before .before .before .before .before .before .before .pre .1) _ (c .run-of .ensures)
 
 pub run-length-spec : {M : Type 1} → statement M
 run-length-spec =

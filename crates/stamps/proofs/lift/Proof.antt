@@ -1,7 +1,7 @@
 -- `stamps::lift` meets its contract. Assumes nothing.
 -- Made by tools/answers from the file `answers` beside it: change that one.
 use native.Mathlib.Omega.{arith}
-use Rattle.stamps.proofs.Lifts.{lift-within, lift-absent, lift-waits, lift-here}
+use Rattle.stamps.proofs.Lifts.{lift-within, lift-absent, lift-waits, lift-up, lift-here}
 use borrow.Author.Needs.{needs}
 use Rattle.stamps.proofs.lift.Statement.{statement}
 use Rattle.stamps.proofs.lift.Tie as tie
@@ -43,13 +43,13 @@ stamped-requires : tie.Need-stamped-requires
 stamped-requires c κs = search needs
 
 put-early-requires : tie.Need-put-early-requires
-put-early-requires c κs = (c .before .before .before .before .before .before .before .before .before .before .before .before .before .before .pre .0, rw (c .before .before .before .before .before .before .before .before .before .before .before .early .ensures .1) at (lift-within (c .before .before .before .before .before .before .before .before .before .before .before .before .before .before .pre .0) (c .before .before .before .before .before .before .before .before .before .before .before .before .before .before .pre .1) _ (c .before .before .before .before .before .before .before .before .before .before .before .early .ensures .0) (c .before .before .before .before .before .before .before .before .before .before .before .early .ensures .1) (c .before .before .before .before .before .before .before .before .before .before .before .before .before .before .args .e) _ _ (c .before .before .before .before .before .before .before .before .before .before .count .ensures) (c .before .before .before .before .before .before .before .before .before .find .ensures) (c .before .before .before .before .before .before .before .before .if1 .left)))
+put-early-requires c κs = (c .before .before .before .before .before .before .before .before .before .before .before .before .before .before .pre .0, rw (c .before .before .before .before .before .before .before .before .before .before .before .early .ensures .1) at (lift-within (c .before .before .before .before .before .before .before .before .before .before .before .before .before .before .pre .0) (c .before .before .before .before .before .before .before .before .before .before .before .before .before .before .pre .1) _ (c .before .before .before .before .before .before .before .before .before .before .before .early .ensures .0) (c .before .before .before .before .before .before .before .before .before .before .before .early .ensures .1) (c .before .before .before .before .before .before .before .before .before .before .before .before .before .before .args .e) _ _ (c .before .before .before .before .before .before .before .before .before .before .count .ensures) (c .before .before .before .before .before .before .before .before .before .find .ensures) (c .before .before .before .before .before .before .before .before .if1 .left)), c .before .before .before .before .before .before .before .before .before .before .before .before .before .before .pre .2, lift-up (c .before .before .before .before .before .before .before .before .before .before .before .before .before .before .pre .0) (c .before .before .before .before .before .before .before .before .before .before .before .before .before .before .pre .1) _ (c .before .before .before .before .before .before .before .before .before .before .before .early .ensures .0) (c .before .before .before .before .before .before .before .before .before .before .before .early .ensures .1) (c .before .before .before .before .before .before .before .before .before .before .before .before .before .before .args .e) _ _ (c .before .before .before .before .before .before .before .before .before .before .count .ensures) (c .before .before .before .before .before .before .before .before .before .find .ensures) (c .before .before .before .before .before .before .before .before .if1 .left) _ (c .before .before .before .before .before .before .before .entry-of .ensures) _ (c .before .before .before .before .before .notes .ensures .1) _ _ (c .before .before .before .before .agreed .ensures) (c .before .before .before .if2 .left) (c .before .before .greatest .ensures) _ (c .stamped .ensures) (c .before .before .before .before .before .before .before .before .before .before .before .before .before .before .pre .3))
 
 same-length-3 : tie.Need-same-length-3
 same-length-3 c = search needs
 
 returns-3 : tie.Need-returns-3
-returns-3 c = lift-here (c .before .before .before .before .before .before .before .before .before .before .before .before .before .before .before .before .before .pre .0) (c .before .before .before .before .before .before .before .before .before .before .before .before .before .before .before .before .before .pre .1) _ (c .before .before .before .before .before .before .before .before .before .before .before .before .before .before .early .ensures .0) (c .before .before .before .before .before .before .before .before .before .before .before .before .before .before .early .ensures .1) (c .before .before .before .before .before .before .before .before .before .before .before .before .before .before .before .before .before .args .e) _ _ (c .before .before .before .before .before .before .before .before .before .before .before .before .before .count .ensures) (c .before .before .before .before .before .before .before .before .before .before .before .before .find .ensures) (c .before .before .before .before .before .before .before .before .before .before .before .if1 .left) _ (c .before .before .before .before .before .before .before .before .before .before .entry-of .ensures) _ (c .before .before .before .before .before .before .before .before .notes .ensures .1) _ _ _ (c .before .before .before .before .before .before .before .agreed .ensures) (c .before .before .before .before .before .before .if2 .left) (c .before .before .before .before .before .greatest .ensures) _ (c .before .before .before .stamped .ensures) (c .before .before .put-early .ensures)
+returns-3 c = lift-here (c .before .before .before .before .before .before .before .before .before .before .before .before .before .before .before .before .before .pre .0) (c .before .before .before .before .before .before .before .before .before .before .before .before .before .before .before .before .before .pre .1) _ (c .before .before .before .before .before .before .before .before .before .before .before .before .before .before .early .ensures .0) (c .before .before .before .before .before .before .before .before .before .before .before .before .before .before .early .ensures .1) (c .before .before .before .before .before .before .before .before .before .before .before .before .before .before .before .before .before .args .e) _ _ (c .before .before .before .before .before .before .before .before .before .before .before .before .before .count .ensures) (c .before .before .before .before .before .before .before .before .before .before .before .before .find .ensures) (c .before .before .before .before .before .before .before .before .before .before .before .if1 .left) _ (c .before .before .before .before .before .before .before .before .before .before .entry-of .ensures) _ (c .before .before .before .before .before .before .before .before .notes .ensures .1) _ _ (c .before .before .before .before .before .before .before .agreed .ensures) (c .before .before .before .before .before .before .if2 .left) (c .before .before .before .before .before .greatest .ensures) _ (c .before .before .before .stamped .ensures) _ (c .before .before .put-early .ensures)
 
 pub lift-spec : {M : Type 1} → statement M
 lift-spec =

@@ -2,8 +2,10 @@
 -- Made by tools/answers from the file `answers` beside it: change that one.
 use native.Mathlib.Omega.{arith}
 use mathlib.Core.Path.{refl}
-use mathlib.Core.List.{List}
-use lib.ListN.{set}
+use mathlib.Core.List.{List, _++_}
+use Prim.Native.Nat.{_+_}
+use lib.ListN.{take, drop}
+use Rattle.rules.specs.Entry.{place}
 use Rattle.rules.specs.declared.Entry.{Entry}
 use Rattle.entries.proofs.Table.{decoded, is-table, and-then}
 use Rattle.places.proofs.Midway.{early-here, early-comes}
@@ -24,13 +26,13 @@ part-lift-end : tie.Need-part-lift-end
 part-lift-end c = omega arith
 
 lift-requires : tie.Need-lift-requires
-lift-requires c κs = let h = early-here (c .before .before .before .pre .0) _ _ (c .before .places-of .ensures .early) (c .before .places-of .ensures .late) in (is-table _ _ _ h, rw (decoded _ _ _ h) (c .before .before .before .pre .1))
+lift-requires c κs = let h = early-here (c .before .before .before .pre .0) _ _ (c .before .places-of .ensures .early) (c .before .places-of .ensures .late) in (is-table _ _ _ h, rw (decoded _ _ _ h) (c .before .before .before .pre .1), rw (decoded _ _ _ h) (c .before .before .before .pre .2), rw (decoded _ _ _ h) (c .before .before .before .pre .3))
 
 same-length : tie.Need-same-length
 same-length c = search needs
 
 returns : tie.Need-returns
-returns c = let h = early-here (c .before .before .before .before .before .before .pre .0) _ _ (c .before .before .before .before .places-of .ensures .early) (c .before .before .before .before .places-of .ensures .late) in early-comes (c .before .before .before .before .before .before .pre .0) _ _ _ (and-then _ _ _ h (λ (es : List Entry). set es (c .before .before .before .before .before .before .args .i) (c .before .before .before .before .before .before .args .d)) _ (c .before .before .lift .ensures)) (c .before .before .before .before .places-of .ensures .early) (c .before .before .before .before .places-of .ensures .late) refl
+returns c = let h = early-here (c .before .before .before .before .before .before .pre .0) _ _ (c .before .before .before .before .places-of .ensures .early) (c .before .before .before .before .places-of .ensures .late) in early-comes (c .before .before .before .before .before .before .pre .0) _ _ _ (and-then _ _ _ h (λ (es : List Entry). place (c .before .before .before .before .before .before .args .d) (take (c .before .before .before .before .before .before .args .i) es ++ drop (c .before .before .before .before .before .before .args .i + 1) es)) _ (c .before .before .lift .ensures)) (c .before .before .before .before .places-of .ensures .early) (c .before .before .before .before .places-of .ensures .late) refl
 
 pub put-early-spec : {M : Type 1} → statement M
 put-early-spec =

@@ -1,4 +1,4 @@
--- `ticks::tell_unplaced` meets its contract: the bytes lent are those of the first entry due. Assumes nothing.
+-- `ticks::tell_unplaced` meets its contract: the bytes lent are those of the first of early. Assumes nothing.
 -- Made by tools/answers from the file `answers` beside it: change that one.
 use Prim.Native.Nat.{_+_}
 use mathlib.Core.Path.{refl}
@@ -8,11 +8,8 @@ use borrow.Author.Needs.{needs}
 use Rattle.ticks.proofs.tell_unplaced.Statement.{statement}
 use Rattle.ticks.proofs.tell_unplaced.Tie as tie
 
-first-due-requires : tie.Need-first-due-requires
-first-due-requires c κs = search needs
-
 early-place-requires : tie.Need-early-place-requires
-early-place-requires c κs = (c .before .before .before .pre .0 .midway .fits, omega (arith, c .first-due .ensures .0, c .before .before .before .pre .0 .midway .holds .early .room))
+early-place-requires c κs = (c .before .before .pre .0 .midway .fits, omega (arith, c .before .before .pre .0 .midway .fits .room))
 
 add-end : tie.Need-add-end
 add-end c = search needs
@@ -33,19 +30,18 @@ part-tell-end : tie.Need-part-tell-end
 part-tell-end c = search needs
 
 tell-requires : tie.Need-tell-requires
-tell-requires c κs = unplaced-room (c .before .before .before .before .before .before .before .before .pre .0) (c .before .before .before .before .early-place .result) (c .before .before .before .before .early-place .result + 24) (c .before .before .before .before .before .first-due .result) 0 (c .before .before .before .before .early-place .ensures .0) refl (c .before .before .before .before .before .first-due .ensures .0) _ (c .before .before .before .before .before .before .before .before .pre .2)
+tell-requires c κs = unplaced-room (c .before .before .before .before .before .before .before .pre .0) (c .before .before .before .before .early-place .result) (c .before .before .before .before .early-place .result + 24) 0 (c .before .before .before .before .early-place .ensures .0) refl (c .before .before .before .before .before .before .before .pre .1) _ (c .before .before .before .before .before .before .before .pre .2)
 
 same-length : tie.Need-same-length
 same-length c = search needs
 
 returns : tie.Need-returns
-returns c = unplaced-told (c .before .before .before .before .before .before .before .before .before .before .before .pre .0) (c .before .before .before .before .before .before .before .early-place .result) (c .before .before .before .before .before .before .before .early-place .result + 24) (c .before .before .before .before .before .before .before .before .first-due .result) (c .before .before .before .before .before .before .before .before .before .before .before .args .time) (c .before .before .before .before .before .before .before .early-place .ensures .0) refl (c .before .before .before .before .before .before .before .before .first-due .ensures .0) _ _ _ _ _ (c .before .before .before .before .before .headed .ensures) (c .before .before .before .before .before .before .log-digest .ensures) (c .before .before .before .before .before .before .before .before .first-due .ensures .1) (c .before .before .tell .ensures)
+returns c = unplaced-told (c .before .before .before .before .before .before .before .before .before .before .pre .0) (c .before .before .before .before .before .before .before .early-place .result) (c .before .before .before .before .before .before .before .early-place .result + 24) 0 (c .before .before .before .before .before .before .before .early-place .ensures .0) refl (c .before .before .before .before .before .before .before .before .before .before .pre .1) _ _ _ _ _ (c .before .before .before .before .before .headed .ensures) (c .before .before .before .before .before .before .log-digest .ensures) (c .before .before .tell .ensures)
 
 pub tell-unplaced-spec : {M : Type 1} → statement M
 tell-unplaced-spec =
     tie.close
     (tie.spec
-    first-due-requires
     early-place-requires
     add-end
     log-digest-requires

@@ -1,0 +1,2 @@
+-- What a lift requires: that it goes up.
+pub mod Climbs
