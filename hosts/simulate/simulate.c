@@ -153,9 +153,7 @@ static void put_way(const event *of, enum fate fate, int answer) {
 }
 
 /* What befalls a site. */
-static void put_event(const site *of, const char *what) {
-    PUT("[\"v\",%u,%d,\"%s\"],\n", now, place_of(of), what);
-}
+static void put_event(const site *of, const char *what) { PUT("[\"v\",%u,%d,\"%s\"],\n", now, place_of(of), what); }
 
 /* One line of the timeline, of a site or of none. */
 __attribute__((format(printf, 2, 3))) static void note(const site *of, const char *format, ...) {
