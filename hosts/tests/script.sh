@@ -639,6 +639,7 @@ int main(int count, char **words)
 END
     jallumere bench --svg speed.svg
     check "bench draws its figures" grep -q '>23 tick</text>' speed.svg
+    check "bench draws what is done alone" [ "$(grep -c 'class="name"' speed.svg)" -eq 1 ]
     check "bench tells of the drawing" said "'speed.svg' has the drawing"
     printf 'above\n<!-- figures -->\nbefore\n<!-- figures -->\nbelow\n' >page.md
     cp page.md unchanged.md
