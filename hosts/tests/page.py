@@ -169,9 +169,9 @@ def check_details(browser, said, touch, keep):
         keep(thing.replace(" ", "-"))
         check(said + "with details nothing is past the width", not browser.evaluate(PAST_WIDTH))
         before = browser.evaluate("document.getElementById('details').innerText")
-        browser.evaluate("document.querySelector('#details [data-do=\"1\"]').click()")
+        browser.evaluate("document.querySelector('#details [data-do=\"1\"]')?.click()")
         check(said + "the next one after %s" % thing, browser.evaluate("document.getElementById('details').innerText") != before)
-        browser.evaluate("document.querySelector('#details [data-do=\"0\"]').click()")
+        browser.evaluate("document.querySelector('#details [data-do=\"0\"]')?.click()")
         check(said + "details are closed", browser.evaluate(SHOWN) == "")
 
 
