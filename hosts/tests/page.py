@@ -95,6 +95,16 @@ class Browser:
                 self.call("Input.dispatchMouseEvent", type=kind, x=x, y=y, button="left", clickCount=1)
         self.evaluate("new Promise(done => setTimeout(done, 80))")
 
+    def drag(self, x, to, y, touch):
+        steps = [("touchStart", "mousePressed", x), ("touchMove", "mouseMoved", (x + to) / 2), ("touchMove", "mouseMoved", to), ("touchEnd", "mouseReleased", to)]
+        for finger, mouse, place in steps:
+            if touch:
+                points = [] if finger == "touchEnd" else [{"x": place, "y": y}]
+                self.call("Input.dispatchTouchEvent", type=finger, touchPoints=points)
+            else:
+                self.call("Input.dispatchMouseEvent", type=mouse, x=place, y=y, button="left", buttons=1, clickCount=1)
+        self.evaluate("new Promise(done => setTimeout(done, 80))")
+
     def picture(self, path, whole):
         words = {"captureBeyondViewport": True} if whole else {}
         if whole:
@@ -163,6 +173,10 @@ def check_page(browser, path, size, keep):
 
 def check_details(browser, said, touch, keep):
     for thing, which in THINGS.items():
+        if not touch:
+            x, y = browser.evaluate(PLACE % (which, which))
+            browser.call("Input.dispatchMouseEvent", type="mouseMoved", x=x, y=y)
+            check(said + "pointing at %s shows details" % thing, len(browser.evaluate(SHOWN)) > 40)
         browser.press(*browser.evaluate(PLACE % (which, which)), touch)
         told = browser.evaluate(SHOWN)
         check(said + "a press on %s shows details" % thing, len(told) > 40, told)
@@ -181,6 +195,9 @@ def check_strip(browser, said, touch, keep):
     x, y = browser.evaluate("(() => { const box = document.getElementById('strip').getBoundingClientRect(); return [box.left + box.width * .8, box.top + 20]; })()")
     browser.press(x, y, touch)
     check(said + "a press on the whole run goes there", browser.evaluate("document.getElementById('heading').textContent") != before)
+    before = browser.evaluate("from")
+    browser.drag(x, x - 60, y, touch)
+    check(said + "the window is dragged", browser.evaluate("from") < before)
     for number in range(browser.evaluate("PARTS.length")):
         browser.evaluate("goTo(PARTS[%d])" % number)
         check(said + "part %d has no word that is cut" % number, not browser.evaluate(WORDS_PAST), browser.evaluate(WORDS_PAST))
