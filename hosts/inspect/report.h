@@ -15,4 +15,7 @@ extern bool show_all;
  * whether it is well formed. */
 bool report_message(const uint8_t *message, size_t length);
 
+/* Prints what a step of a good state makes of a message, and by which rule; gives whether it takes it. */
+bool report_step(const layout *at, const uint8_t *state, const uint8_t *message, size_t length);
+
 #endif

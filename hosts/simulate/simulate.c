@@ -126,9 +126,10 @@ static void plan(event made) {
     events[place] = made;
 }
 
-/* ---- the page, rows of five lists, and the timeline, both written as things happen -------------------- */
+/* ---- the page, rows of some lists, and the timeline, both written as things happen -------------------- */
 
-/* What stands in page.html above and below the rows, page_head and page_tail; made by the build. */
+/* What stands in page.html above and below the rows, page_head and page_tail; made by the build. Page.html tells what
+ * each row means. */
 #include "page.h"
 
 static FILE *page_file; /* NULL where no page is asked for */
@@ -151,6 +152,9 @@ static void put_way(const event *of, enum fate fate, int answer) {
         answer);
 }
 
+/* What befalls a site. */
+static void put_event(const site *of, const char *what) { PUT("[\"v\",%u,%d,\"%s\"],\n", now, place_of(of), what); }
+
 /* One line of the timeline, of a site or of none. */
 __attribute__((format(printf, 2, 3))) static void note(const site *of, const char *format, ...) {
     char text[256], name[16] = "";
@@ -165,19 +169,25 @@ __attribute__((format(printf, 2, 3))) static void note(const site *of, const cha
         printf("%6u ms  %-5s  %s\n", now, name, text);
 }
 
+static void end_page(const char *failed);
+
+/* The page is ended too: it shows what went before. */
 __attribute__((format(printf, 2, 3))) _Noreturn static void fails(const site *of, const char *format, ...) {
+    char text[512];
+    size_t used = 0;
     va_list words;
-    fflush(stdout);
-    fprintf(stderr, "simulate: A PROMISE FAILED at step %u, %u ms, ", step_count, now);
     if (of != NULL)
-        fprintf(stderr, "site g%d.r%d: ", place_of(of) / (int)at.n, place_of(of) % (int)at.n);
+        used = (size_t)sprintf(text, "site g%d.r%d: ", place_of(of) / (int)at.n, place_of(of) % (int)at.n);
     va_start(words, format);
-    vfprintf(stderr, format, words);
+    vsnprintf(text + used, sizeof text - used, format, words);
     va_end(words);
-    fprintf(stderr, "\nsimulate: again by");
+    fflush(stdout);
+    fprintf(stderr, "simulate: A PROMISE FAILED at step %u, %u ms, %s\nsimulate: again by", step_count, now, text);
     for (const option *each = options; each->number != NULL; each++)
         fprintf(stderr, " %s %ju", each->name, *each->number);
     fprintf(stderr, "\n");
+    PUT("[\"e\",%u,-1,\"A PROMISE FAILED: %s\"],\n", now, text);
+    end_page(text);
     exit(1);
 }
 
@@ -739,11 +749,13 @@ static void follow_plot(void) {
     if (scene == CALM && share >= FALLS) {
         fallen = planned_leader(below(at.s));
         fallen->silent = true;
+        put_event(fallen, "silent");
         note(fallen, "FALLS SILENT, the leader of group %u", fallen->is.group);
         plan((event){.at = now + NOTICE_TIME, .happen = plan_view});
         scene = SILENCE;
     } else if (scene == SILENCE && share >= COMES_BACK) {
         fallen->silent = false;
+        put_event(fallen, "back");
         note(fallen, "COMES BACK with the state that it had");
         scene = RETURN;
     } else if (scene == RETURN && share >= TAKEN_IN) {
@@ -780,8 +792,37 @@ static void deliver(const event *of) {
 
 /* ---- the end ----------------------------------------------------------------------------------------- */
 
-/* The rest of the page: what is still on its way, the logs, and what the whole run was. */
-static void end_page(void) {
+/* The names that the page goes by, so that it says what the programs say. */
+static void put_names(void) {
+    PUT("\"kinds\":{");
+    for (unsigned kind = 0, named = 0; kind < KINDS; kind++)
+        if (is_kind(kind))
+            PUT("%s\"%u\":\"%s\"", named++ == 0 ? "" : ",", kind, kind_name(kind));
+    PUT("},\"answers\":[");
+    for (unsigned i = 0; i < ANSWERS; i++)
+        PUT("%s\"%s\"", i == 0 ? "" : ",", answer_name(i));
+    PUT("],");
+}
+
+static unsigned count_unanswered(void) {
+    unsigned unanswered = 0;
+    for (const letter *each = asked; each != NULL; each = each->last)
+        unanswered += !is_answered(each);
+    return unanswered;
+}
+
+static unsigned count_committed(void) {
+    unsigned committed = 0;
+    for (uint64_t group = 0; group < at.s; group++)
+        committed += committed_most[group];
+    return committed;
+}
+
+/* The rest of the page: what is still on its way, the logs, and what the whole run was; the promise that failed, or
+ * NULL. */
+static void end_page(const char *failed) {
+    if (page_file == NULL)
+        return;
     for (size_t i = 0; i < event_count; i++)
         if (events[i].happen == deliver)
             put_way(&events[i], ARRIVED, -1);
@@ -790,9 +831,15 @@ static void end_page(void) {
             each->is.commit);
         put_entries(each->state + at.log + 4, 0, each->is.logged);
     }
-    PUT("{\"n\":%ju,\"s\":%ju,\"c\":%ju,\"seed\":%ju,\"loss\":%ju,\"steps\":%u,\"end\":%u}]\n", SIZES(&at), seed, loss,
+    PUT("{\"n\":%ju,\"s\":%ju,\"c\":%ju,\"seed\":%ju,\"loss\":%ju,\"steps\":%u,\"end\":%u,", SIZES(&at), seed, loss,
         step_count, now);
-    PUT("%s", page_tail);
+    PUT("\"model\":%ju,\"transactions\":%u,\"unanswered\":%u,\"messages\":%zu,\"lost\":%u,\"again\":%u,",
+        jallumere_is_model(), transaction_count, count_unanswered(), letter_count - sent_counts[JALLUMERE_TICK],
+        lost_count, again_count);
+    PUT("\"committed\":%u,\"checks\":%u,\"good\":%u,\"against\":%u,", count_committed(), checks_made,
+        answers[JALLUMERE_DONE], merges_against);
+    put_names();
+    PUT("\"failed\":\"%s\"}]\n%s", failed == NULL ? "" : failed, page_tail);
     if (ferror(page_file) != 0 || fclose(page_file) != 0)
         stop("'%s' cannot be written", page_path);
     printf("\nthe run as a page: %s\n", page_path);
@@ -824,18 +871,13 @@ static void print_log(const site *own) {
 }
 
 static void print_summary(void) {
-    unsigned committed = 0, unanswered = 0;
     puts("\nThe logs at the end: transaction@timestamp; | is the commit point, / the sync point where it is another");
     for (const site *each = sites; each < sites_end; each++)
         print_log(each);
-    for (const letter *each = asked; each != NULL; each = each->last)
-        unanswered += !is_answered(each);
-    for (uint64_t group = 0; group < at.s; group++)
-        committed += committed_most[group];
     printf("\n%u steps in %u ms; %u transactions, %u not answered by a group; %zu messages sent, %u ways lost, "
            "%u repeated; %u views after the first; %u entries committed\nanswers:",
-           step_count, now, transaction_count, unanswered, letter_count - sent_counts[JALLUMERE_TICK], lost_count,
-           again_count, planned_view, committed);
+           step_count, now, transaction_count, count_unanswered(), letter_count - sent_counts[JALLUMERE_TICK],
+           lost_count, again_count, planned_view, count_committed());
     for (unsigned i = 0; i < ANSWERS; i++)
         if (answers[i] != 0)
             printf(" %u (%s) %u;", i, answer_name(i), answers[i]);
@@ -910,7 +952,6 @@ int main(int count, char **words) {
     print_summary();
     if (states_path != NULL)
         write_states();
-    if (page_file != NULL)
-        end_page();
+    end_page(NULL);
     return 0;
 }

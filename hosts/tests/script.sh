@@ -188,6 +188,12 @@ test_bad_words() {
     refused 'inspect calls --order calls' 'is there already'
     refused 'inspect calls --order nowhere/new' 'cannot be written'
     refused 'inspect --message calls --order new' 'for a state alone'
+    refused 'inspect --state calls --message calls --order new' 'for a state alone'
+    refused 'inspect calls --state calls' 'one at a time'
+    refused 'inspect --state calls --message calls calls' 'one state at a time'
+    refused 'inspect --state' '--state takes a FILE behind it'
+    refused 'inspect --state nowhere.state --message calls' 'cannot be read'
+    refused 'inspect --state calls --message calls --sites 3 --groups 1' 'go together'
     refused 'compare --traces nowhere.bin' 'cannot be read'
     refused 'compare 5' "takes no '5'"
     refused 'bench --svg' '--svg takes a FILE behind it'
@@ -360,7 +366,10 @@ test_state() {
     make_state log 1 2 >state
     inspect_state state
     check "a state whose log rises by request is good" is_status 0
-    check "a good state is told" printed '^The state is good.$'
+    check "a good state is told first" begins_with 'The state is good.'
+    check "the digest at the sync point, of no entries" printed '^sync point  *0, digest of the log so far 0xcbf29ce484222325$'
+    test_points
+    test_cut_state
     make_state log 2 1 >state
     inspect_state state
     check "a state whose log has equal timestamps against the order is not good" is_status 1
@@ -378,14 +387,14 @@ test_early() {
     local core wrong='^  - early rises strictly by timestamp, coordinator, request (byte 495, early entry 2: transaction 9.1 at 9, mask 0x1)$'
     make_state early 1 2 >good
     inspect_state good --order same
-    check "a state whose early rises by request is good" printed '^The state is good.$'
+    check "a state whose early rises by request is good" begins_with 'The state is good.'
     check "a good state stays as it is when it is ordered" cmp -s good same
     make_state early 2 1 >state
     inspect_state state
     check "a state from before 2.1 is not good" is_status 1
     check "and it is told which entry stands against the order" printed "$wrong"
     check "and nothing else is wrong with early" [ "$(grep -c '^  - ' "$room/out")" -eq 1 ]
-    check "and what mends it is told" printed '^jallumere_order mends it, and --order FILE writes it in order.$'
+    check "and what mends it is told before the report" [ "$(sed -n '/^$/q; /^jallumere_order mends it, and --order FILE writes it in order.$/p' "$room/out" | grep -c .)" -eq 1 ]
     check "core and model agree on it" not printed DISAGREEMENT
     JALLUMERE_CORE=model jallumere inspect state
     check "its shape is found without the sizes" printed '^shape  *3 sites in a group, 1 group, capacity 16, '
@@ -402,6 +411,79 @@ test_early() {
     core=other.a inspect_state state
     check "what mends a state is the core's to say" not printed 'jallumere_order mends it'
     check "a core that orders otherwise is told" printed '^DISAGREEMENT: the core puts the state in order with answer 1, the model with 0, or otherwise.$'
+}
+
+# The same state, synced up to entry 2 and committed up to 1.
+test_points() {
+    (head -c 24 state && printf '\2\0\0\0\0\0\0\0\1' && tail -c +34 state) >points
+    inspect_state points
+    check "a state with points is good" is_status 0
+    check "the digests at the two points are two" [ "$(sed -n 's/.* point .*digest of the log so far \(0x[0-9a-f]*\)$/\1/p' "$room/out" | sort -u | grep -c .)" -eq 2 ]
+}
+
+# A file that ends in the log's second entry, one with bytes behind, and one without any.
+test_cut_state() {
+    head -c 120 state >cut.state
+    inspect_state cut.state
+    check "a cut state is not good" is_status 1
+    check "a cut state is told first" begins_with 'The state is NOT good: the file has 120 of its 3467 bytes, and ends in: log entry 2.'
+    check "a cut state is shown as far as it goes" printed '^ *1  at 9  *transaction 9.1 '
+    check "and no further" not printed '^ *2  at '
+    check "its order is no matter" not printed 'in order'
+    check "its end is told" printed '^the file ends  here, at byte 120, which would be in: log entry 2$'
+    JALLUMERE_CORE=model jallumere inspect cut.state
+    check "a cut state without sizes is shown in the nearest shape" printed '^shape  *3 sites in a group, 1 group, capacity 16, 3467 bytes$'
+    (cat state && echo more) >longer
+    inspect_state longer
+    check "bytes behind a state are told" begins_with 'The state is NOT good: the file has 5 bytes behind its 3467. What fails of the rules within these:'
+    check "what is before them is shown to its end" printed '^behind it  *5 bytes that are no part of it$'
+    inspect_state longer --order ordered
+    check "a file that is no whole state is not written in order" is_status 1
+    check "and there is no file of it" [ ! -e ordered ]
+    : >cut.state
+    JALLUMERE_CORE=model jallumere inspect cut.state
+    check "an empty file is no state" is_status 1
+}
+
+against() { # WORDS STATUS FIRST-LINE A-LINE: what inspect says of the file 'message' at the file 'state'
+    inspect_state --state state --message message
+    check "$1: the exit status" is_status "$2"
+    check "$1: the answer comes first" begins_with "$3"
+    check "$1: the rule" printed "$4"
+    check "$1: core and report agree" not printed DISAGREEMENT
+}
+
+# A message to replica 1 of group 0, of gView 0: kind, sender's replica, number.
+make_told() { printf '%b\0\2\0%b\0\0\0\0\0\0\0\1\0\0\0\0\0\0\0\1\0\0\0%b\0\0\0\0\0\0\0\0\0\0\0' "\\0$1" "\\0$2" "\\0$3"; }
+
+# A follower with two entries, none of them synced, and the messages that it refuses and takes.
+test_against() {
+    local refuses='A step of this site refuses the message with'
+    fresh_tree
+    make_tick
+    make_state log 1 2 >state
+    cp tick message
+    against "a tick" 0 'A step of this site takes the message: 0, done.' '^  - clock: 0 before, 5 after$'
+    check "what it sends is told" printed '^      a sync status of 36 bytes to group 0, replicas 0$'
+    (head -c 2 tick && printf '\1' && tail -c 29 tick) >message
+    against "a tick for another site" 1 "$refuses 3, not addressed here." '^  - it is for group 0, replicas 0; this site is group 0, replica 1$'
+    (make_told 13 0 1 | head -c 8 && printf '\3' && make_told 13 0 1 | tail -c +10) >message
+    against "a commit of another view" 1 "$refuses 4, wrong view." "^  - a commit is taken in the site's own view alone: this one is of gView 3, and the site is in 0\$"
+    (printf '\11' && make_told 13 0 1 | head -c 20 | tail -c +2 && printf '\0\0\0\0\0\0\0\0') >message
+    against "a start of a view that has started" 1 "$refuses 5, wrong status." "^  - a start view of the site's own view is taken only in status 2, view change; the site is in 1, normal\$"
+    make_told 12 0 1 >message
+    against "a sync status for the leader" 1 "$refuses 6, wrong role." '^  - a sync status is for the leader of group 0, by its gVec replica 0; this site is replica 1$'
+    make_told 13 2 1 >message
+    against "a commit not of the leader" 1 "$refuses 6, wrong role." '^  - a commit comes from the leader of group 0, by its gVec replica 0; this one is from 2$'
+    make_told 13 0 1 >message
+    against "a commit beyond the sync point" 1 "$refuses 7, nothing to do now." "^  - its commit point 1 lies beyond the site's sync point 0\$"
+    head -c 27 tick >message
+    against "a cut tick" 1 "$refuses 2, malformed at byte 27." '^  - the message ends here, after 7 of the 8 bytes of the time$'
+    make_state log 2 1 >state
+    cp tick message
+    against "a state that is not good" 1 'A step of this site refuses the message, and every other, with 1, wrong size or state.' '^  - a log rises strictly '
+    make_state early 2 1 >state
+    against "a state from before 2.1" 1 'A step of this site refuses the message, and every other, with 1, wrong size or state.' '^jallumere_order mends it, '
 }
 
 # A tick as it is and one byte short, each with what is expected of the reader; and a tick that is cut, as a step of a site.
@@ -608,6 +690,7 @@ int main(int count, char **words)
 END
     jallumere bench --svg speed.svg
     check "bench draws its figures" grep -q '>23 tick</text>' speed.svg
+    check "bench draws what is done alone" [ "$(grep -c 'class="name"' speed.svg)" -eq 1 ]
     check "bench tells of the drawing" said "'speed.svg' has the drawing"
     printf 'above\n<!-- figures -->\nbefore\n<!-- figures -->\nbelow\n' >page.md
     cp page.md unchanged.md
@@ -701,7 +784,7 @@ PATH=$room/native:$PATH
 make_rt
 make_tools
 make_bare_commands
-[ $# -gt 0 ] || set -- help bad_words first_command not_proved other_core state message traces missing arm 'lock with' 'lock without' signals closed_pipe read_only bench \
+[ $# -gt 0 ] || set -- help bad_words first_command not_proved other_core state message against traces missing arm 'lock with' 'lock without' signals closed_pipe read_only bench \
     replay_and_gate progress terminal
 for name in "$@"; do
     # shellcheck disable=SC2086
