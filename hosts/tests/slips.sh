@@ -55,6 +55,19 @@ by_simulate() {
     return 1
 }
 
+# By simulate too, of one group through many views, each with entries of its own; and by the promise that what was committed
+# in a view stands in later ones, so that a seed with which another one fails first does not count.
+by_views() {
+    local seed sites
+    for seed in {1..40}; do
+        for sites in 3 5; do
+            run simulate --quiet --seed "$seed" --sites "$sites" --capacity 256 --loss 20 --repeat 10 --steps $((2000 * sites)) ||
+                ! grep -q 'A PROMISE FAILED.* the entry committed at position' "$room/said" || return 0
+        done
+    done
+    return 1
+}
+
 told() { # NAME BY WHETHER
     if [ "$3" -eq 0 ]; then found=$((found + 1)); else missed=$((missed + 1)); fi
     printf '%-35s %-9s ' "$1" "$2"
@@ -166,6 +179,24 @@ slip ordered_where_not_good model/model.c \
     '!good_state(&own, state, NULL, NULL)' '(good_state(&own, state, NULL, NULL), false)' compare
 slip ordered_where_good_alone model/model.c \
     '!good_state(&own, state, NULL, NULL)' '!good_state(&own, state, EARLY_RISES, NULL)' compare simulate
+
+# ---- through several views
+
+slip votes_of_older_views_counted model/model.c \
+    'count = rebuild(&own->at, votes, &boundary);' \
+    '{
+        for (uint64_t i = 0; i < own->at.n; i++)
+            votes[i].numbers[LAST_NORMAL] = 0;
+        count = rebuild(&own->at, votes, &boundary);
+    }' compare views
+slip vote_of_the_view_before model/model.c \
+    'cast.numbers[LAST_NORMAL] = now->own.last_normal' 'cast.numbers[LAST_NORMAL] = now->told.view - 1' compare views
+slip vote_of_the_first_view model/model.c \
+    'cast.numbers[LAST_NORMAL] = now->own.last_normal' 'cast.numbers[LAST_NORMAL] = 0' compare views
+slip start_keeps_last_normal model/model.c \
+    'memcpy(now->state + AT_LAST_NORMAL, now->state + AT_VIEW, 4);' '' compare simulate
+slip start_taken_by_half model/model.c \
+    'become_normal(now, now->told.entries, now->told.count);' 'become_normal(now, now->told.entries, now->told.count / 2);' compare views
 
 echo "$found found, $missed missed"
 [ "$missed" -eq 0 ]
