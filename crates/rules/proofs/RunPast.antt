@@ -47,7 +47,7 @@ unfoldable pub ledBy : State → ℕ → List Entry → List Entry
 ledBy s v old = pick (eqb (s .view .normal) v) (s .logged .log) old
 
 -- the configuration is now C
-abbrev pub told : Plan → Past → Config → Past
+unfoldable pub told : Plan → Past → Config → Past
 told P G C =
     record {
       view = λ r. C .sites r .view .gView;

@@ -146,6 +146,7 @@ pub record Inv (P : Plan) (C : Config) (G : Past) : Type 0 where
   pub site : (i : ℕ) → SiteOk P G i (C .sites i)
   pub msg : (m : Wire) → List·Memᴰ m (C .sent) → MsgOk P G m
   pub based : (w : ℕ) → w ≤ P .top → Live P G w → Based P G w
+  pub zero : Passed P G 0 0
 
 -- a kind that no part of the invariant speaks of
 abbrev pub plain : ℕ → Bool
