@@ -154,7 +154,7 @@ module _ (P : Plan) (C : Config) (G : Past) (inv : Inv P C G) (i : ℕ) where
   follows-other t f h = not-chief v (s .view .gVec) (vec-here t h) f
 
   -- the last normal gView is never past gView
-  normal-le : v ≤ s .view .gView
+  pub normal-le : v ≤ s .view .gView
   normal-le = go (same-or (s .view .status) 1)
     where
       go : (s .view .status ≡ 1) ⊎ (s .view .status ≢ 1) → v ≤ s .view .gView
