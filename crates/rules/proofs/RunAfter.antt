@@ -4,24 +4,26 @@ use native.Mathlib.Nat.{le-refl, le-trans, le-of-eq}
 use native.Mathlib.Decide.{decLe}
 use mathlib.Core.Path.{_≡_, refl, sym, subst, _∙_, ap}
 use mathlib.Core.Option.{none}
+use mathlib.Core.Logic.{_⊎_, inl, inr, _≢_}
 use mathlib.Core.List.{List, [], _∷_, _++_, List·Memᴰ·not-nil}
 use native.Mathlib.Omega.{arith}
 use lib.ListN.{length, take, replicate, length-replicate}
 use lib.Seq.{take-take}
 use lib.Dec.{ltb, eqb, eqb→eq, lt→ltb}
 use Rattle.rules.specs.Choice.{pick}
+use Rattle.rules.specs.State.{State}
 use Rattle.rules.specs.Step.{Outcome, refused, done}
 use Rattle.rules.specs.declared.Entry.{Entry}
 use Rattle.rules.specs.declared.Shape.{Shape}
-use Rattle.rules.proofs.Run.{Config, Turn, ends, Begins, first, turned, exec, after, Valid}
+use Rattle.rules.proofs.Run.{Config, Turn, put, ends, Begins, first, turned, exec, after, Valid}
 use Rattle.rules.proofs.RunCounting.{count-all, quorum-fits}
 use Rattle.rules.proofs.RunForms.{by-test, none-set}
 use Rattle.rules.proofs.RunPast.{Plan, chief, Past, Passed, seenBy, ledBy, told, nothing, tells, past, Ordered}
-use Rattle.rules.proofs.ViewsInvariant.{Later, later-refl, later-trans, Shares, Committed, Now, Inv, committed-less, shares-on, committed-on}
-use Rattle.rules.proofs.ViewsCore.{inherited}
-use Rattle.rules.proofs.RunKeeps.{kept-inv}
-use Rattle.rules.proofs.ViewsSteps.{Fine, ref, ok}
-use Rattle.rules.proofs.ViewsTurns.{fine-turn}
+use Rattle.rules.proofs.RunInvariant.{Later, later-refl, later-trans, Shares, Committed, Vouched, Now, Inv, committed-less, shares-on, committed-on}
+use Rattle.rules.proofs.RunCore.{inherited}
+use Rattle.rules.proofs.RunKeeps.{Stays, Moves, Joins, at-me, at-other, kept-inv, kept-later}
+use Rattle.rules.proofs.RunSteps.{Fine, ref, ok}
+use Rattle.rules.proofs.RunTurns.{fine-turn}
 
 module _ (P : Plan) (odd : P .shape .n % 2 ≡ 1) (zeros : P .vec 0 ≡ replicate (P .shape .s) 0) where
   abbrev sh : Shape
@@ -97,18 +99,50 @@ module _ (P : Plan) (odd : P .shape .n % 2 ≡ 1) (zeros : P .vec 0 ≡ replicat
 
   -- ---- runs
 
-  -- what a turn from C and G to D and H comes to
-  record Onward (G : Past) (D : Config) (H : Past) : Type 0 where
-    inv : Inv P D H
-    later : Later P G H
+  -- what a turn of site i comes to: the other sites stay, and this one keeps its last normal gView or starts a view. Of no other last normal gView is anything new
+  -- seen; and with one group the log that starts was rebuilt from a majority's votes, or comes from another site
+  pub record Onward (i : ℕ) (C D : Config) (G H : Past) : Type 0 where
+    pub inv : Inv P D H
+    pub later : Later P G H
+    pub other : (j : ℕ) → i ≢ j → D .sites j ≡ C .sites j
+    pub goes : (D .sites i .view .normal ≡ C .sites i .view .normal) ⊎ Moves (C .sites i) (D .sites i)
+    pub seen : (j v : ℕ) → D .sites j .view .normal ≢ v → H .seen j v ≡ G .seen j v
+    pub begun : sh .s ≡ 1 → Moves (C .sites i) (D .sites i) → Vouched P H (D .sites i .view .normal) (D .sites i .logged .log) ⊎ Joins P G i (D .sites i .view .normal)
 
-  outcome : (C : Config) (G : Past) (inv : Inv P C G) (i : ℕ) (x : Outcome) → Fine P C G inv i x → Onward G (ends C i x) (tells P G C i x)
+  seen-told : (G : Past) (D : Config) (j v : ℕ) → D .sites j .view .normal ≢ v → told P G D .seen j v ≡ G .seen j v
+  unfolding told seenBy
+  seen-told G D j v n = by-test (λ (x : ℕ). x ≡ G .seen j v) (eqb (D .sites j .view .normal) v) (λ t. absurd (n (eqb→eq _ _ t))) (λ _. refl)
+
+  outcome : (C : Config) (G : Past) (inv : Inv P C G) (i : ℕ) (x : Outcome) → Fine P C G inv i x → Onward i C (ends C i x) G (tells P G C i x)
   unfolding ends tells
-  outcome C G inv i (refused x) ref = record { inv = inv; later = later-refl G }
-  outcome C G inv i (done u ms) (ok f) = record { inv = kept-inv P C G inv i u ms f; later = f .later }
+  outcome C G inv i (refused x) ref =
+      record {
+        inv = inv;
+        later = later-refl G;
+        other = λ j n. refl;
+        goes = inl refl;
+        seen = λ j v n. refl;
+        begun = λ one m. absurd (omega (arith, m .later));
+      }
+  outcome C G inv i (done u ms) (ok f) =
+      let me : put C i u ms .sites i ≡ u = at-me P C G inv i u ms in
+      record {
+        inv = kept-inv P C G inv i u ms f;
+        later = kept-later P C G inv i u ms f;
+        other = at-other P C G inv i u ms;
+        goes = subst (λ (y : State). (y .view .normal ≡ C .sites i .view .normal) ⊎ Moves (C .sites i) y) (sym me) (way (f .goes));
+        seen = seen-told G (put C i u ms);
+        begun = λ one.
+            subst (λ (y : State). Moves (C .sites i) y → Vouched P (told P G (put C i u ms)) (y .view .normal) (y .logged .log) ⊎ Joins P G i (y .view .normal)) (sym me)
+            (f .begun one);
+      }
+    where
+      way : Stays P i (C .sites i) u ⊎ Moves (C .sites i) u → (u .view .normal ≡ C .sites i .view .normal) ⊎ Moves (C .sites i) u
+      way (inl g) = inl (g .normal)
+      way (inr g) = inr g
 
-  turn : (x : Turn) (r : List Turn) → Valid sh k (x ∷ r) → Ordered P (x ∷ r) → Inv P (after sh k r) (past P r)
-      → Onward (past P r) (after sh k (x ∷ r)) (past P (x ∷ r))
+  pub turn : (x : Turn) (r : List Turn) → Valid sh k (x ∷ r) → Ordered P (x ∷ r) → Inv P (after sh k r) (past P r)
+      → Onward (x .site) (after sh k r) (after sh k (x ∷ r)) (past P r) (past P (x ∷ r))
   unfolding Valid Ordered after exec past
   turn x r v q inv =
       outcome (after sh k r) (past P r) inv (x .site) (turned sh k (after sh k r .sites (x .site)) (x .input))

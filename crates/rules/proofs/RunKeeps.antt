@@ -15,7 +15,7 @@ use Rattle.rules.specs.declared.Entry.{Entry}
 use Rattle.rules.proofs.Run.{Config, upd, put}
 use Rattle.rules.proofs.RunForms.{by-test, neqb→ne, upd-same}
 use Rattle.rules.proofs.RunPast.{Plan, chief, Past, Live, seenBy, ledBy, told}
-use Rattle.rules.proofs.ViewsInvariant.{Extends, extends-refl, Later, Vouched, SiteOk, MsgOk, Based, Now, Inv, passed-on, based-on, site-on, msg-on}
+use Rattle.rules.proofs.RunInvariant.{Extends, extends-refl, Later, Vouched, SiteOk, MsgOk, Based, Now, Inv, passed-on, based-on, site-on, msg-on}
 
 -- by the cases of an update
 upd-cases : (Q : State → Type 0) (f : ℕ → State) (i : ℕ) (s : State) (j : ℕ) → (i ≡ j → Q s) → (i ≢ j → Q (f j)) → Q (upd f i s j)
@@ -38,10 +38,19 @@ pub record Stays (P : Plan) (i : ℕ) (s u : State) : Type 0 where
   pub shut : s .view .normal < s .view .gView → u .logged .sync ≡ s .logged .sync
   pub lead : s .view .normal ≤ P .top → i ≡ chief P (s .view .normal) → Extends (s .logged .log) (u .logged .log)
 
--- or it starts a view
+-- or it starts a view, in status 1; the commit point does not rise then, and the log is synced
 pub record Moves (s u : State) : Type 0 where
   pub later : s .view .normal < u .view .normal
   pub view : s .view .gView ≤ u .view .normal
+  pub status : u .view .status ≡ 1
+  pub commit : u .logged .commit ≤ s .logged .commit
+  pub sync : u .logged .sync ≡ length (u .logged .log)
+
+-- a site that starts view w after another did
+pub record Joins (P : Plan) (G : Past) (i w : ℕ) : Type 0 where
+  pub from : ℕ
+  pub seen : 0 < G .seen from w
+  pub other : w ≤ P .top → i ≢ chief P w
 
 pos-le : {a b : ℕ} → a ≡ 0 → a ≤ b
 pos-le e = omega arith
@@ -59,7 +68,7 @@ module _ (P : Plan) (C : Config) (G : Past) (inv : Inv P C G) (i : ℕ) (u : Sta
   pub at-me : D .sites i ≡ u
   at-me = upd-same (C .sites) i u
 
-  at-other : (j : ℕ) → i ≢ j → D .sites j ≡ C .sites j
+  pub at-other : (j : ℕ) → i ≢ j → D .sites j ≡ C .sites j
   at-other j n = upd-cases (λ (x : State). x ≡ C .sites j) (C .sites) i u j (λ e. absurd (n e)) (λ _. refl)
 
   -- of other sites nothing is new
@@ -194,12 +203,11 @@ module _ (P : Plan) (C : Config) (G : Past) (inv : Inv P C G) (i : ℕ) (u : Sta
 
   -- what the turn has to show
   pub record Keeps : Type 0 where
-    pub later : Later P G H
-    pub rises : before .view .normal ≤ u .view .normal
+    pub view : before .view .gView ≤ u .view .gView
+    pub goes : Stays P i before u ⊎ Moves before u
     pub site : SiteOk P H i u
     pub msgs : (m : Wire) → List·Memᴰ m ms → MsgOk P H m
-    pub begun : before .view .normal < u .view .normal → u .view .normal ≤ P .top → i ≡ chief P (u .view .normal) → P .shape .s ≡ 1
-        → Vouched P H (u .view .normal) (u .logged .log)
+    pub begun : P .shape .s ≡ 1 → Moves before u → Vouched P H (u .view .normal) (u .logged .log) ⊎ Joins P G i (u .view .normal)
 
   now-told : Now P D H
   unfolding told seenBy ledBy
@@ -215,28 +223,34 @@ module _ (P : Plan) (C : Config) (G : Past) (inv : Inv P C G) (i : ℕ) (u : Sta
       }
 
   module _ (f : Keeps) where
+    pub kept-later : Later P G H
+    kept-later = later-put (f .view) (f .goes)
+
     -- a view that this turn starts
     based-new : (w : ℕ) → w ≤ P .top → i ≡ chief P w → G .seen (chief P w) w ≡ 0 → u .view .normal ≡ w → Based P H w
-    based-new w t c z e =
-        let n : before .view .normal ≢ w = λ q.
-        let y : G .seen i w ≡ suc (before .logged .sync) = subst (λ (x : ℕ). G .seen i x ≡ suc (before .logged .sync)) q now-seen in
-        let x : G .seen i w ≡ 0 = subst (λ (j : ℕ). G .seen j w ≡ 0) (sym c) z in
-        omega arith in
-        let r : before .view .normal < u .view .normal = omega (arith, f .rises) in
-        let b : H .base w ≡ length (H .lead w) = base-new w z in
-        let l : H .lead w ≡ u .logged .log = led-here w c e in
-        record {
-          fits = le-of-eq b;
-          made = λ one p.
-              let k : Vouched P H w (u .logged .log) = subst (λ (x : ℕ). Vouched P H x (u .logged .log)) e (f .begun r (subst (λ (x : ℕ). x ≤ P .top) (sym e) t) (subst (λ (x : ℕ). i ≡ chief P x) (sym e) c) one) in
-              subst (Vouched P H w) (sym l ∙ sym (take-length (H .lead w)) ∙ ap (λ (x : ℕ). take x (H .lead w)) (sym b)) k;
-        }
+    based-new w t c z e = record { fits = le-of-eq b; made = λ one p. made one (f .goes) }
+      where
+        b : H .base w ≡ length (H .lead w)
+        b = base-new w z
+
+        rebuilt : Vouched P H (u .view .normal) (u .logged .log) ⊎ Joins P G i (u .view .normal) → Vouched P H w (take (H .base w) (H .lead w))
+        rebuilt (inl k) =
+            subst (Vouched P H w) (sym (led-here w c e) ∙ sym (take-length (H .lead w)) ∙ ap (λ (x : ℕ). take x (H .lead w)) (sym b))
+            (subst (λ (x : ℕ). Vouched P H x (u .logged .log)) e k)
+        rebuilt (inr k) = absurd (k .other (subst (λ (x : ℕ). x ≤ P .top) (sym e) t) (subst (λ (x : ℕ). i ≡ chief P x) (sym e) c))
+
+        made : P .shape .s ≡ 1 → Stays P i before u ⊎ Moves before u → Vouched P H w (take (H .base w) (H .lead w))
+        made one (inl g) =
+            let y : G .seen i w ≡ suc (before .logged .sync) = subst (λ (x : ℕ). G .seen i x ≡ suc (before .logged .sync)) (sym (g .normal) ∙ e) now-seen in
+            let x : G .seen i w ≡ 0 = subst (λ (j : ℕ). G .seen j w ≡ 0) (sym c) z in
+            absurd (omega arith)
+        made one (inr g) = rebuilt (f .begun one g)
 
     based : (w : ℕ) → w ≤ P .top → Live P H w → Based P H w
     based w t l = go (same-or i (chief P w)) (decLe 1 (G .seen (chief P w) w)) (same-or (u .view .normal) w)
       where
         go : (i ≡ chief P w) ⊎ (i ≢ chief P w) → Dec (1 ≤ G .seen (chief P w) w) → (u .view .normal ≡ w) ⊎ (u .view .normal ≢ w) → Based P H w
-        go c (yes a) m = based-on (f .later) w t a (inv .based w t a)
+        go c (yes a) m = based-on (kept-later) w t a (inv .based w t a)
         go (inr c) (no a) m = absurd (let z : H .seen (chief P w) w ≡ G .seen (chief P w) w = seen-other (chief P w) w c in omega arith)
         go (inl c) (no a) (inl m) = based-new w t c (omega arith) m
         go (inl c) (no a) (inr m) =
@@ -249,12 +263,12 @@ module _ (P : Plan) (C : Config) (G : Past) (inv : Inv P C G) (i : ℕ) (u : Sta
           now = now-told;
           site = λ j.
               upd-cases (λ (x : State). SiteOk P H j x) (C .sites) i u j (λ e. subst (λ (x : ℕ). SiteOk P H x u) e (f .site))
-              (λ n. site-on (f .later) (λ v h. seen-other j v n ∙ inv .site j .fresh v h) (inv .site j));
+              (λ n. site-on (kept-later) (λ v h. seen-other j v n ∙ inv .site j .fresh v h) (inv .site j));
           msg = λ m p. sent m (List·Memᴰ·append-cases ms p);
           based = based;
-          zero = passed-on (f .later) 0 0 (inv .zero);
+          zero = passed-on (kept-later) 0 0 (inv .zero);
         }
       where
         sent : (m : Wire) → List·Memᴰ m ms ⊎ List·Memᴰ m (C .sent) → MsgOk P H m
         sent m (inl p) = f .msgs m p
-        sent m (inr p) = msg-on (f .later) m (inv .msg m p)
+        sent m (inr p) = msg-on (kept-later) m (inv .msg m p)

@@ -11,7 +11,7 @@ use Rattle.rules.specs.declared.Entry.{Entry}
 use Rattle.rules.specs.declared.Shape.{Shape}
 use Rattle.rules.proofs.Run.{Turn, Begins, after, Valid, Counted, Serving, logThen, commitThen, OneVec}
 use Rattle.rules.proofs.RunPast.{Plan, Past, Passed, past, Ordered}
-use Rattle.rules.proofs.ViewsInvariant.{Committed}
+use Rattle.rules.proofs.RunInvariant.{Committed}
 use Rattle.rules.proofs.RunAfter.{inv-then, site-begins, site-committed}
 
 -- two lists that begin alike with a third
