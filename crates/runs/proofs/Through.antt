@@ -22,7 +22,7 @@ use Rattle.rules.proofs.Choice.{by-test, pick-true}
 use Rattle.rules.proofs.RunGood.{turned-step}
 use Rattle.rules.proofs.Run as M
 use Rattle.rules.proofs.RunFirst as F
-use Rattle.rules.proofs.RunViews as V
+use Rattle.rules.proofs.RunViews as W
 use Rattle.runs.specs.Run.{Config, Turn, Begins, at, after, Valid, Counted, RebuiltFirst, Serving, logThen, commitThen, OneVec}
 use Rattle.runs.proofs.Follow.{taken, takenBy, takenIn, heard, Follows, follow, step-at-read}
 use Rattle.runs.proofs.Safe.{begins, odd, site, then-valid, then-heard, counted-at}
@@ -120,9 +120,9 @@ module _ (sh : Shape) (fits : shapeFits sh ≡ true) (k : ℕ) (group : k < sh .
         let now = then-valid sh fits k group r v (b .since) (t ∷ b .before) (b .then) in
         let f = follow sh fits k group (b .before) (now .3) in
         let read-so = step-at-read sh fits k group C (heard sh k (b .before)) f (t .site) (now .0) (t .buffer) (t .input) (now .1) (now .2) in
-        let open : closes sh (C .sites (t .site)) (t .buffer) (step sh (stateOf sh (C .sites (t .site))) (b .vote)) .refused ≡ false =
+        let accepted : closes sh (C .sites (t .site)) (t .buffer) (step sh (stateOf sh (C .sites (t .site))) (b .vote)) .refused ≡ false =
         sym (ap (λ (l : Left). l .refused) (read-so ∙ ap (stepRead sh (C .sites (t .site)) (t .buffer) (num (t .input) 0 1)) (b .reads))) ∙ b .taken in
-        let w = took sh (C .sites (t .site)) (t .buffer) (b .vote) (step sh (stateOf sh (C .sites (t .site))) (b .vote)) refl open in
+        let w = took sh (C .sites (t .site)) (t .buffer) (b .vote) (step sh (stateOf sh (C .sites (t .site))) (b .vote)) refl accepted in
         let h = then-heard sh fits k group r v (b .since) (t ∷ b .before) (b .then) in
         let one = taken-is sh k (t .site) (t .buffer) (C .sites (t .site)) (t .input) (b .vote) (b .reads) w in
         let e = site sh fits k group (b .before) (now .3) (t .site) (now .0) in
@@ -156,7 +156,7 @@ module _ (sh : Shape) (fits : shapeFits sh ≡ true) (k : ℕ) (group : k < sh .
       pub counted-stays : {u w : ℕ} (x : Serving sh k r u) (y : Serving sh k r w) → u < w → (c : ℕ) → c ≤ commitThen sh k x → Begins c (logThen sh k y) (logThen sh k x)
       counted-stays x y h c g =
           subst₂ (Begins c) (log-at y) (log-at x)
-          (begins (V.counted-stays sh k (odd sh fits k group) one vec zeros R mv mq (serving-at x) (serving-at y) h c (rw (commit-at x) g)))
+          (begins (W.counted-stays sh k (odd sh fits k group) one vec zeros R mv mq (serving-at x) (serving-at y) h c (rw (commit-at x) g)))
 
       -- So two leaders' logs agree up to each point that was counted in a view below both.
       pub leaders-agree : {u w z : ℕ} (x : Serving sh k r u) (y : Serving sh k r w) (t : Serving sh k r z) → u < w → u < z → (c : ℕ) → c ≤ commitThen sh k x
@@ -174,4 +174,4 @@ module _ (sh : Shape) (fits : shapeFits sh ≡ true) (k : ℕ) (group : k < sh .
       commits-agree c a b =
           subst₂ (λ (s u : State). Begins c (s .logged .log) (u .logged .log)) (sym (state-then (a .since) (a .before) (a .then) (a .site) (a .inside)))
           (sym (state-then (b .since) (b .before) (b .then) (b .site) (b .inside)))
-          (begins (V.commits-agree sh k (odd sh fits k group) one vec zeros R mv mq c (counted-at sh fits k group r v c a) (counted-at sh fits k group r v c b)))
+          (begins (W.commits-agree sh k (odd sh fits k group) one vec zeros R mv mq c (counted-at sh fits k group r v c a) (counted-at sh fits k group r v c b)))
