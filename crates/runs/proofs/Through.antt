@@ -112,6 +112,12 @@ module _ (sh : Shape) (fits : shapeFits sh ≡ true) (k : ℕ) (group : k < sh .
 
     -- ---- the first view, with any number of groups
 
+    turned-at : (b : List Turn) → Valid sh k b → (i : ℕ) → i < sh .n → (w : Wire) (next : State) (ws : List Wire)
+        → step sh (stateOf sh (after sh k b .sites i)) w ≡ done next ws → M.turned sh k (M.after sh k (heard sh k b) .sites i) w ≡ done next ws
+    turned-at b vb i l w next ws e =
+        let s = site sh fits k group b vb i l in
+        turned-step sh fits k group (M.after sh k (heard sh k b) .sites i) w (follow sh fits k group b vb .agrees .good i l) ∙ ap (λ (x : State). step sh x w) (sym s) ∙ e
+
     first-at : (d : List Entry) → RebuiltFirst sh k r d → M.RebuiltFirst sh k R d
     unfolding Valid heard stepRead
     first-at d b =
@@ -134,7 +140,7 @@ module _ (sh : Shape) (fits : shapeFits sh ≡ true) (k : ℕ) (group : k < sh .
           vote = b .kind;
           next = w .next;
           out = w .ws;
-          taken = turned-step sh fits k group (M.after sh k (heard sh k (b .before)) .sites (t .site)) (b .vote) (f .agrees .good (t .site) (now .0)) ∙ ap (λ (s : State). step sh s (b .vote)) (sym e) ∙ w .steps;
+          taken = turned-at (b .before) (now .3) (t .site) (now .0) (b .vote) (w .next) (w .ws) (w .steps);
           enough = subst (λ (s : State). majority (sh .n) ≤ held (M.gathered sh s (b .vote))) e (b .enough);
           first = subst (λ (s : State). topFrom 0 (M.gathered sh s (b .vote)) ≡ 0) e (b .first);
           rebuilt = subst (λ (s : State). d ≡ rebuilt (sh .n) (M.gathered sh s (b .vote))) e (b .rebuilt);
