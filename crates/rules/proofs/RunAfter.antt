@@ -1,5 +1,5 @@
 -- The invariant holds after every turn of every run, and what that says of a site at some turn. Assumes nothing.
-use Prim.Native.Nat.{ℕ, suc, _≤_, _<_, _%_}
+use Prim.Native.Nat.{ℕ, _≤_, _<_, _%_}
 use native.Mathlib.Nat.{le-refl, le-trans, le-of-eq}
 use native.Mathlib.Decide.{decLe}
 use mathlib.Core.Path.{_≡_, refl, sym, subst, _∙_, ap}
@@ -17,7 +17,7 @@ use Rattle.rules.specs.declared.Entry.{Entry}
 use Rattle.rules.specs.declared.Shape.{Shape}
 use Rattle.rules.proofs.Run.{Config, Turn, put, ends, Begins, first, turned, exec, after, Valid}
 use Rattle.rules.proofs.RunCounting.{count-all, quorum-fits}
-use Rattle.rules.proofs.RunForms.{by-test, none-set}
+use Rattle.rules.proofs.RunForms.{by-test, none-set, valid-before}
 use Rattle.rules.proofs.RunPast.{Plan, chief, Past, Passed, seenBy, ledBy, told, nothing, tells, past, Ordered}
 use Rattle.rules.proofs.RunInvariant.{Later, later-refl, later-trans, Shares, Committed, Vouched, Now, Inv, committed-less, shares-on, committed-on}
 use Rattle.rules.proofs.RunCore.{inherited}
@@ -153,11 +153,6 @@ module _ (P : Plan) (odd : P .shape .n % 2 ≡ 1) (zeros : P .vec 0 ≡ replicat
   inv-after [] v q = inv-first
   inv-after (x ∷ r) v q = turn x r v q (inv-after r (v .2) (q .1)) .inv
 
-  valid-before : (t r : List Turn) → Valid sh k (t ++ r) → Valid sh k r
-  unfolding Valid
-  valid-before [] r v = v
-  valid-before (x ∷ t) r v = valid-before t r (v .2)
-
   ordered-before : (t r : List Turn) → Ordered P (t ++ r) → Ordered P r
   unfolding Ordered
   ordered-before [] r q = q
@@ -179,7 +174,7 @@ module _ (P : Plan) (odd : P .shape .n % 2 ≡ 1) (zeros : P .vec 0 ≡ replicat
 
     module _ (t b : List Turn) (e : t ++ b ≡ r) where
       pub inv-then : Inv P (after sh k b) (past P b)
-      inv-then = inv-after b (valid-before t b (rw e v)) (ordered-before t b (rw e q))
+      inv-then = inv-after b (valid-before sh k t b (rw e v)) (ordered-before t b (rw e q))
 
       pub later-then : Later P (past P b) G
       later-then = subst (λ (x : List Turn). Later P (past P b) (past P x)) e (later-after t b (rw e v) (rw e q))

@@ -1,29 +1,29 @@
 -- The first view in every run, through whatever views follow and with any number of groups: a log rebuilt from votes of the first view begins with all that was counted in
 -- it. Assumes nothing.
 use Prim.Native.Nat.{ℕ, suc, _≤_, _<_, _%_}
-use native.Mathlib.Nat.{le-refl, le-trans, le-of-eq, zero-mod}
-use mathlib.Core.Path.{_≡_, refl, sym, subst, subst₂, _∙_, ap}
-use mathlib.Core.Bool.{Bool, not, _&&_, _||_}
-use mathlib.Core.Option.{Option, none, some}
+use native.Mathlib.Nat.{le-trans, le-of-eq, zero-mod}
+use mathlib.Core.Path.{_≡_, refl, sym, subst, _∙_, ap}
+use mathlib.Core.Bool.{not}
+use mathlib.Core.Option.{some}
 use mathlib.Core.Logic.{_⊎_, inl, inr, _≢_}
 use mathlib.Core.List.{List, [], _∷_, _++_}
 use native.Mathlib.Omega.{arith}
-use lib.ListN.{length, set, take, replicate, length-set}
+use lib.ListN.{length, take, replicate, length-set}
 use lib.Seq.{take-take}
-use lib.Dec.{T, T-not, eqb, ltb, eqb→eq, ltb→lt}
+use lib.Dec.{T, T-not, eqb, eqb→eq, ltb→lt}
 use Rattle.rules.specs.Choice.{pick, same}
 use Rattle.rules.specs.Kind.{rowOf, fromOutside}
 use Rattle.rules.specs.Wire.{Wire}
 use Rattle.rules.specs.State.{Vote, State}
 use Rattle.rules.specs.Rebuild.{topFrom}
-use Rattle.rules.specs.Step.{Outcome, refused, done, newer, equal, entered, voteIn, leadsBy, viewRight, statusRight, roleRight, started, starts, changing, verifies, keepsVote, onVote, handle, step}
+use Rattle.rules.specs.Step.{Outcome, refused, done, newer, equal, entered, voteIn, leadsBy, viewRight, statusRight, roleRight, started, starts, verifies, keepsVote, onVote, handle, step}
 use Rattle.rules.specs.declared.Entry.{Entry}
 use Rattle.rules.specs.declared.Shape.{Shape}
 use Rattle.rules.proofs.Tests.{getD-replicate}
 use Rattle.rules.proofs.Run.{Config, Turn, ends, Begins, Given, turned, exec, after, Valid, gathered, RebuiltFirst, Serving, logThen, commitThen}
-use Rattle.rules.proofs.RunForms.{by-test, neqb→ne, and-l, and-r, or-case, upd-same}
+use Rattle.rules.proofs.RunForms.{by-test, and-l, and-r, or-case, upd-same, valid-before}
 use Rattle.rules.proofs.RunPast.{Plan, chief, Past, Passed, past, Ordered}
-use Rattle.rules.proofs.RunInvariant.{Later, Sealed, VotesOk, Vouched, SiteOk, MsgOk, Inv, committed-less, shares-on, passed-on, sealed-on, votes-on}
+use Rattle.rules.proofs.RunInvariant.{Later, VotesOk, Vouched, SiteOk, MsgOk, Inv, committed-less, shares-on, passed-on, sealed-on, votes-on}
 use Rattle.rules.proofs.RunCore.{core}
 use Rattle.rules.proofs.RunKeeps.{same-or}
 use Rattle.rules.proofs.RunSteps.{votes-keep, normal-le, Own, own-sealed, first-width, first-votes}
@@ -182,11 +182,6 @@ module _ (sh : Shape) (k : ℕ) (odd : sh .n % 2 ≡ 1) where
   unfolding Valid
   turn x r v = A.turn P odd refl x r v (ordered sh k (x ∷ r)) (inv-after r (v .2))
 
-  pub valid-before : (t r : List Turn) → Valid sh k (t ++ r) → Valid sh k r
-  unfolding Valid
-  valid-before [] r v = v
-  valid-before (x ∷ t) r v = valid-before t r (v .2)
-
   -- a log rebuilt from a majority's votes of the first view
   pub kept-first : (G : Past) (c : ℕ) → Passed P G 0 c → (w : ℕ) → 0 < w → (d : List Entry) (x : Vouched P G w d) → topFrom 0 (x .votes) ≡ 0 → Begins c d (G .lead 0)
   kept-first G c p w h d x e = core P odd G 0 c p w d x h (le-of-eq e) (λ a _. absurd (omega arith))
@@ -209,7 +204,7 @@ module _ (sh : Shape) (k : ℕ) (odd : sh .n % 2 ≡ 1) where
     serving-known x c h =
         let L = later-then (x .since) (x .before) (x .then) in
         let s = after sh k (x .before) .sites (x .site) in
-        let ok = inv-after (x .before) (valid-before (x .since) (x .before) (rw (x .then) v)) .site (x .site) in
+        let ok = inv-after (x .before) (valid-before sh k (x .since) (x .before) (rw (x .then) v)) .site (x .site) in
         let n : s .view .normal ≡ 0 = ok .still (x .status) ∙ x .view in
         let m = committed-less h (ok .commit (le-of-eq n)) in
         let z : m .view ≡ 0 = omega (arith, m .below) in
@@ -235,11 +230,11 @@ module _ (sh : Shape) (k : ℕ) (odd : sh .n % 2 ≡ 1) where
     -- or later.
     pub first-kept : (d : List Entry) → RebuiltFirst sh k r d → (x : Serving sh k r 0) (c : ℕ) → c ≤ commitThen sh k x → Begins c d (logThen sh k x)
     first-kept d b x c h =
-        let valid = valid-before (b .since) (b .turn ∷ b .before) (rw (b .then) v) in
+        let valid = valid-before sh k (b .since) (b .turn ∷ b .before) (rw (b .then) v) in
         let C = after sh k (b .before) in
         let i = b .turn .site in
         let w = b .turn .input in
-        let inv = inv-after (b .before) (valid-before (b .turn ∷ []) (b .before) valid) in
+        let inv = inv-after (b .before) (valid-before sh k (b .turn ∷ []) (b .before) valid) in
         let on = turn (b .turn) (b .before) valid in
         let H = past P (b .turn ∷ b .before) in
         let me = next-at (b .before) (b .turn) (b .next) (b .out) (b .taken) in

@@ -15,7 +15,7 @@ use Rattle.rules.specs.State.{State, held}
 use Rattle.rules.specs.Rebuild.{topFrom, rebuilt}
 use Rattle.rules.specs.Step.{Outcome, refused, done, step}
 use Rattle.rules.specs.Image.{image, stateOf}
-use Rattle.rules.specs.Bytes.{Left, leaves, closes, stepRead, stepBytes}
+use Rattle.rules.specs.Bytes.{Left, leaves, closes, stepRead}
 use Rattle.rules.specs.declared.Entry.{Entry}
 use Rattle.rules.specs.declared.Shape.{Shape}
 use Rattle.rules.proofs.Choice.{by-test, pick-true}
@@ -23,8 +23,8 @@ use Rattle.rules.proofs.RunGood.{turned-step}
 use Rattle.rules.proofs.Run as M
 use Rattle.rules.proofs.RunFirst as F
 use Rattle.rules.proofs.RunViews as W
-use Rattle.runs.specs.Run.{Config, Turn, Begins, at, after, Valid, Counted, RebuiltFirst, Serving, logThen, commitThen, OneVec}
-use Rattle.runs.proofs.Follow.{taken, takenBy, takenIn, heard, Follows, follow, step-at-read}
+use Rattle.runs.specs.Run.{Turn, Begins, at, after, Valid, Counted, RebuiltFirst, Serving, logThen, commitThen, OneVec}
+use Rattle.runs.proofs.Follow.{taken, takenBy, takenIn, heard, follow, step-at-read}
 use Rattle.runs.proofs.Safe.{begins, odd, site, then-valid, then-heard, counted-at}
 
 -- two tests cannot answer both
