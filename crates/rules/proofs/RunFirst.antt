@@ -192,7 +192,7 @@ module _ (sh : Shape) (k : ℕ) (odd : sh .n % 2 ≡ 1) where
     abbrev known : Past
     known = past P r
 
-    later-then : (t b : List Turn) → t ++ b ≡ r → Later P (past P b) known
+    pub later-then : (t b : List Turn) → t ++ b ≡ r → Later P (past P b) known
     later-then t b e = A.later-then P odd refl r v (ordered sh k r) t b e
 
     -- what a site of the first view counted was passed there, and is in its leader's log
