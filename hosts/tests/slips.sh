@@ -55,18 +55,24 @@ by_simulate() {
     return 1
 }
 
-# By simulate too, of one group through many views, each with entries of its own; and by the promise that what was committed
-# in a view stands in later ones, so that a seed with which another one fails first does not count.
-by_views() {
+# By simulate too, through many views, each with entries of its own; and by the promise that what was committed in a view
+# stands in later ones, so that a seed with which another one fails first does not count.
+through() { # GROUPS WORDS
     local seed sites
     for seed in {1..40}; do
         for sites in 3 5; do
-            run simulate --quiet --seed "$seed" --sites "$sites" --capacity 256 --loss 20 --repeat 10 --steps $((2000 * sites)) ||
-                ! grep -q 'A PROMISE FAILED.* the entry committed at position' "$room/said" || return 0
+            run simulate --quiet --seed "$seed" --sites "$sites" --groups "$1" --capacity 256 --loss 20 --repeat 10 --steps $((2000 * sites * $1)) ||
+                ! grep -q "A PROMISE FAILED.* the entry committed at position [0-9]* in view $2 " "$room/said" || return 0
         done
     done
     return 1
 }
+
+# In a log of any later view.
+by_views() { through 1 '[0-9]* does not stand there in a log that a site had in'; }
+
+# In a log rebuilt from votes of the first view.
+by_drafts() { through 2 '0 does not stand there in the log rebuilt for'; }
 
 told() { # NAME BY WHETHER
     if [ "$3" -eq 0 ]; then found=$((found + 1)); else missed=$((missed + 1)); fi
@@ -193,6 +199,8 @@ slip vote_of_the_view_before model/model.c \
     'cast.numbers[LAST_NORMAL] = now->own.last_normal' 'cast.numbers[LAST_NORMAL] = now->told.view - 1' compare views
 slip vote_of_the_first_view model/model.c \
     'cast.numbers[LAST_NORMAL] = now->own.last_normal' 'cast.numbers[LAST_NORMAL] = 0' compare views
+slip vote_without_its_sync_point model/model.c \
+    'cast.numbers[SYNC_POINT] = now->own.sync' 'cast.numbers[SYNC_POINT] = 0' compare views drafts
 slip start_keeps_last_normal model/model.c \
     'memcpy(now->state + AT_LAST_NORMAL, now->state + AT_VIEW, 4);' '' compare simulate
 slip start_taken_by_half model/model.c \
