@@ -272,12 +272,12 @@ static letter *write_letter(const message *made, uint64_t group, uint64_t mask, 
 
 /* ---- what is promised -------------------------------------------------------------------------------- */
 
-/* What is known of a view in a group: its leader's log, as far as it has come; the log that it was rebuilt with, a
- * draft or with one group what it starts with; the view that its votes were of, and how much of it one of them had
- * synced; the greatest commit point held. */
+/* What is known of a view in a group: its leader's log, as far as it has come, and how much of it all logs have had
+ * with which a site was in status 1 there; with more groups the draft that was rebuilt for it; the view that its votes
+ * were of, and how much of it one of them had synced; the greatest commit point held. */
 typedef struct {
     uint8_t *log, *rebuilt; /* tables; NULL before there is one */
-    unsigned base, prefix, committed;
+    unsigned held, base, prefix, committed;
 } history;
 
 static history histories[GROUPS_MOST][VIEWS_MOST];
@@ -287,6 +287,14 @@ static unsigned checks_made, merges_against, committed_most[GROUPS_MOST];
 static bool begin_alike(const uint8_t *table, const uint8_t *other, uint64_t count) {
     return count == 0 || (table != NULL && load(table, 4) >= count && load(other, 4) >= count &&
                           memcmp(table + 4, other + 4, ENTRY_LENGTH * count) == 0);
+}
+
+/* How many entries, of so many at most, two tables begin with alike. */
+static unsigned count_alike(const uint8_t *table, const uint8_t *other, unsigned most) {
+    unsigned alike = 0;
+    while (alike < most && memcmp(table + entry_place(alike), other + entry_place(alike), ENTRY_LENGTH) == 0)
+        alike++;
+    return alike;
 }
 
 /* The entry of a transaction, or NULL. */
@@ -448,27 +456,35 @@ static void check_merged(const site *own, const message *told) {
             own->is.view, view->prefix);
 }
 
-/* Logs that were rebuilt from a view begin with what was committed in it; with one group, in every view before. */
-static void check_rebuilts(const site *own, unsigned base) {
+/* What was committed in a view stands at the same positions in later ones, whichever came first: with one group in each
+ * log with which a site was in status 1 in any of them; with more in each draft rebuilt from votes of that view. */
+static void check_kept(const site *own, unsigned base) {
     const history *views = histories[own->is.group], *with = &views[base];
     for (unsigned view = base + 1; view <= planned_view; view++) {
-        if (views[view].rebuilt == NULL || (groups != 1 && views[view].base != base))
+        const history *then = &views[view];
+        const uint8_t *log = groups == 1 ? then->log : then->rebuilt;
+        if (log == NULL || (groups != 1 && then->base != base))
             continue;
         checks_made++;
-        PROMISE(begin_alike(with->log, views[view].rebuilt, with->committed), own,
-                "the %s of view %u does not begin with the %u entries committed in view %u",
-                groups == 1 ? "log at the start" : "rebuilt log", view, with->committed, base);
+        unsigned most = groups == 1 ? then->held : (unsigned)load(log, 4);
+        unsigned kept = count_alike(with->log, log, most < with->committed ? most : with->committed);
+        PROMISE(kept == with->committed, own,
+                "the entry committed at position %u in view %u does not stand there in %s view %u", kept + 1, base,
+                groups == 1 ? "a log that a site had in" : "the log rebuilt for", view);
     }
 }
 
-/* The first view's log is rebuilt from nothing. */
-static void keep_rebuilt(const site *own, const message *told, const uint8_t *table) {
-    history *view = &histories[own->is.group][own->is.view];
-    view->rebuilt = memcpy(memory(at.table), table, at.table);
-    if (told->kind == JALLUMERE_VOTE)
-        check_recovered(own, told, table, view);
+static void check_earlier(const site *own) {
     for (unsigned base = 0; base < own->is.view; base++)
-        check_rebuilts(own, base);
+        check_kept(own, base);
+}
+
+static void keep_rebuilt(const site *own, const message *told) {
+    history *view = &histories[own->is.group][own->is.view];
+    view->rebuilt = memcpy(memory(at.table), own->state + at.draft, at.table);
+    if (told->kind == JALLUMERE_VOTE)
+        check_recovered(own, told, view->rebuilt, view);
+    check_earlier(own);
 }
 
 static unsigned reached_by(unsigned group, unsigned point) {
@@ -478,35 +494,54 @@ static unsigned reached_by(unsigned group, unsigned point) {
     return reached;
 }
 
+/* A leader's log against what is known of the view that it leads; the first view is made of nothing. */
+static void check_leader(const site *own, const message *told, history *view) {
+    const uint8_t *log = own->state + at.log;
+    const bool starts = view->log == NULL;
+    if (starts) {
+        view->log = memory(at.table);
+        view->held = own->is.logged;
+    }
+    PROMISE(begin_alike(view->log, log, load(view->log, 4)), own, "the leader's log of view %u did not only grow",
+            own->is.view);
+    write_table(view->log, log + 4, own->is.logged);
+    if (!starts || own->is.view == 0)
+        return;
+    if (groups != 1) {
+        check_merged(own, told);
+        return;
+    }
+    check_earlier(own);
+    if (told->kind == JALLUMERE_VOTE)
+        check_recovered(own, told, log, view);
+}
+
 /* A site's log, sync point and commit point against what is known of the view that it was normal in last. */
 static void check_points(const site *own, const message *told) {
     const standing *is = &own->is;
     const uint8_t *log = own->state + at.log;
+    const bool serves = is->status == JALLUMERE_STATUS_NORMAL;
+    const unsigned last = serves ? is->view : is->last_normal;
     PROMISE(site_of(is->group, is->replica) == own && is->view <= planned_view && is->last_normal <= is->view, own,
             "it takes itself for g%u.r%u in view %u, normal last in %u", is->group, is->replica, is->view,
             is->last_normal);
-    history *view = &histories[is->group][is->last_normal];
-    bool starts = view->log == NULL;
+    history *view = &histories[is->group][last];
     checks_made += 2;
-    if (is->status == JALLUMERE_STATUS_NORMAL && own->leads) {
-        view->log = starts ? memory(at.table) : view->log;
-        PROMISE(begin_alike(view->log, log, load(view->log, 4)), own, "the leader's log of view %u did not only grow",
-                is->last_normal);
-        write_table(view->log, log + 4, is->logged);
-        if (starts && groups == 1)
-            keep_rebuilt(own, told, log);
-        else if (starts && is->view != 0)
-            check_merged(own, told);
-    }
-    PROMISE(begin_alike(view->log, log, is->sync), own,
-            "its log up to the sync point %u is not the leader's of view %u", is->sync, is->last_normal);
+    if (serves && own->leads)
+        check_leader(own, told, view);
+    PROMISE(view->log != NULL && begin_alike(view->log, log, is->sync), own,
+            "its log up to the sync point %u is not the leader's of view %u", is->sync, last);
     PROMISE(reached_by(is->group, is->commit) >= majority_of(at.n), own,
             "its commit point %u has been reached by %u of %ju sites alone", is->commit,
             reached_by(is->group, is->commit), at.n);
+    if (serves && groups == 1 && !begin_alike(view->log, log, view->held)) {
+        view->held = count_alike(view->log, log, view->held < is->logged ? view->held : is->logged);
+        check_earlier(own);
+    }
     if (is->commit > view->committed) {
         view->committed = is->commit;
         committed_most[is->group] = is->commit > committed_most[is->group] ? is->commit : committed_most[is->group];
-        check_rebuilts(own, is->last_normal);
+        check_kept(own, last);
     }
 }
 
@@ -612,7 +647,7 @@ static void check_done(site *own, const message *told) {
     if (told->kind == JALLUMERE_TRANSACTION)
         check_placed(own, told);
     if (has_rebuilt(own))
-        keep_rebuilt(own, told, own->state + at.draft);
+        keep_rebuilt(own, told);
     tell(own, told);
 }
 

@@ -280,6 +280,29 @@ test_other_core() {
     check "another archive must be there" said "'nowhere.a', which cannot be read"
 }
 
+# A core that is the model but for its followers, who take half of the log that a view starts with.
+make_forgetful_core() {
+    local model=$room/tree/hosts/model
+    sed 's/become_normal(now, now->told.entries, now->told.count)/become_normal(now, now->told.entries, now->told.count \/ 2)/' "$model/model.c" >"$model/forgets.c"
+    sed 's/"model.c"/"forgets.c"/' "$model/core.c" >"$model/forgetful.c"
+    gcc -O0 -c -o forgetful.o "$model/forgetful.c" && ar rcs forgetful.a forgetful.o
+}
+
+test_views() {
+    local failure='the entry committed at position [0-9]* in view 0 does not stand there in a log that a site had in view 1'
+    fresh_tree
+    JALLUMERE_CORE=model jallumere simulate --quiet
+    check "a run goes through three views after the first" printed '; 3 views after the first; '
+    JALLUMERE_CORE=model jallumere simulate --quiet --capacity 256 --steps 6000
+    check "a longer run goes through many" printed '; 1[0-9] views after the first; [0-9]\{3\} entries committed$'
+    check "what is committed stays through them" printed '^Every promise held: '
+    make_forgetful_core
+    JALLUMERE_CORE=forgetful.a jallumere simulate --quiet --page run.html
+    check "an entry that a later view has lost ends the run" is_status 1
+    check "an entry that a later view has lost is told" said "A PROMISE FAILED at step [0-9]*, [0-9]* ms, site g0.r[0-9]: $failure\$"
+    check "an entry that a later view has lost is shown" grep -q "\"failed\":\"site g0.r[0-9]: $failure\"" run.html
+}
+
 begins_with() { head -n 1 "$room/out" | grep -qxF -e "$1"; }
 
 inspected() { # WORDS STATUS FIRST-LINE A-LINE SIZES: what inspect says of the file 'message'
@@ -784,7 +807,7 @@ PATH=$room/native:$PATH
 make_rt
 make_tools
 make_bare_commands
-[ $# -gt 0 ] || set -- help bad_words first_command not_proved other_core state message against traces missing arm 'lock with' 'lock without' signals closed_pipe read_only bench \
+[ $# -gt 0 ] || set -- help bad_words first_command not_proved other_core views state message against traces missing arm 'lock with' 'lock without' signals closed_pipe read_only bench \
     replay_and_gate progress terminal
 for name in "$@"; do
     # shellcheck disable=SC2086

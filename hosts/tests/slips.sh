@@ -55,6 +55,25 @@ by_simulate() {
     return 1
 }
 
+# By simulate too, through many views, each with entries of its own; and by the promise that what was committed in a view
+# stands in later ones, so that a seed with which another one fails first does not count.
+through() { # GROUPS WORDS
+    local seed sites
+    for seed in {1..40}; do
+        for sites in 3 5; do
+            run simulate --quiet --seed "$seed" --sites "$sites" --groups "$1" --capacity 256 --loss 20 --repeat 10 --steps $((2000 * sites * $1)) ||
+                ! grep -q "A PROMISE FAILED.* the entry committed at position [0-9]* in view $2 " "$room/said" || return 0
+        done
+    done
+    return 1
+}
+
+# In a log of any later view.
+by_views() { through 1 '[0-9]* does not stand there in a log that a site had in'; }
+
+# In a log rebuilt from votes of the first view.
+by_drafts() { through 2 '0 does not stand there in the log rebuilt for'; }
+
 told() { # NAME BY WHETHER
     if [ "$3" -eq 0 ]; then found=$((found + 1)); else missed=$((missed + 1)); fi
     printf '%-35s %-9s ' "$1" "$2"
@@ -166,6 +185,26 @@ slip ordered_where_not_good model/model.c \
     '!good_state(&own, state, NULL, NULL)' '(good_state(&own, state, NULL, NULL), false)' compare
 slip ordered_where_good_alone model/model.c \
     '!good_state(&own, state, NULL, NULL)' '!good_state(&own, state, EARLY_RISES, NULL)' compare simulate
+
+# ---- through several views
+
+slip votes_of_older_views_counted model/model.c \
+    'count = rebuild(&own->at, votes, &boundary);' \
+    '{
+        for (uint64_t i = 0; i < own->at.n; i++)
+            votes[i].numbers[LAST_NORMAL] = 0;
+        count = rebuild(&own->at, votes, &boundary);
+    }' compare views
+slip vote_of_the_view_before model/model.c \
+    'cast.numbers[LAST_NORMAL] = now->own.last_normal' 'cast.numbers[LAST_NORMAL] = now->told.view - 1' compare views
+slip vote_of_the_first_view model/model.c \
+    'cast.numbers[LAST_NORMAL] = now->own.last_normal' 'cast.numbers[LAST_NORMAL] = 0' compare views
+slip vote_without_its_sync_point model/model.c \
+    'cast.numbers[SYNC_POINT] = now->own.sync' 'cast.numbers[SYNC_POINT] = 0' compare views drafts
+slip start_keeps_last_normal model/model.c \
+    'memcpy(now->state + AT_LAST_NORMAL, now->state + AT_VIEW, 4);' '' compare simulate
+slip start_taken_by_half model/model.c \
+    'become_normal(now, now->told.entries, now->told.count);' 'become_normal(now, now->told.entries, now->told.count / 2);' compare views
 
 echo "$found found, $missed missed"
 [ "$missed" -eq 0 ]

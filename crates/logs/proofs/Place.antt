@@ -66,14 +66,14 @@ first-none s k j f n r d z e =
 
 -- ---- a good log, entry by entry
 
+pub not-not : (b : Bool) → not (not b) ≡ b
+not-not true = refl
+not-not false = refl
+
 module _ (s k : ℕ) where
   -- entry i is out of range, or does not stand
   abbrev pub wrongAt : (ℕ → Entry) → ℕ → Bool
   wrongAt f i = not (entryFits s (f i) && stands s k f i)
-
-  not-not : (b : Bool) → not (not b) ≡ b
-  not-not true = refl
-  not-not false = refl
 
   pub good-first : (f : ℕ → Entry) (n : ℕ) → goodTo s k f n ≡ firstTo (wrongAt f) n
   unfolding goodTo firstTo

@@ -14,15 +14,12 @@ use Rattle.rules.specs.declared.Entry.{Entry}
 use Rattle.repeats.specs.Repeat.{firstTo}
 use Rattle.logs.specs.Place.{rowAt, fits, fitFrom, lastFrom, unfitFrom}
 use Rattle.logs.proofs.Every.{none-next}
+use Rattle.logs.proofs.Place.{not-not}
 
 last-cons : (x : Entry) (xs : List Entry) → lastFrom x (entryOf xs) (length xs) ≡ entryOf (x ∷ xs) (length xs)
 unfolding lastFrom
 last-cons x [] = refl
 last-cons x (y ∷ ys) = refl
-
-not-not : (t : Bool) → not (not t) ≡ t
-not-not true = refl
-not-not false = refl
 
 module _ (s k : ℕ) where
   -- one entry more
