@@ -1,4 +1,6 @@
 // Which messages a site takes: addressed here, in the right view, in the right status, between the right roles.
+#![tactic(auto)]
+
 ghost use Rattle.std.specs.Prelude.{◌≡◌, Bool, false, ℕ, ◌+◌, ◌*◌, ◌%◌, ◌<◌, ◌≤◌, eqb, ltb};
 ghost use Rattle.octets.specs.Bytes.{num, items};
 ghost use Rattle.rules.specs.Choice.{same};

@@ -1,4 +1,6 @@
 // The handlers of transaction (kind 1) and timestamp note (kind 3): what arrives is put into the early or the late buffer, and the notes are kept.
+#![tactic(auto)]
+
 ghost use Rattle.std.specs.Prelude.{◌≡◌, true, false, [], ◌∷◌, ◌++◌, ◌<◌, ◌≤◌, ltb, length};
 ghost use Rattle.octets.specs.Bytes.{splice, flat};
 ghost use Rattle.rules.specs.Group.{holds};

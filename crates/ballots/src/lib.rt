@@ -1,4 +1,6 @@
 // The votes of a view change, where they stand in the state and in the message: what each says, which of them count, and which is best.
+#![tactic(auto)]
+
 ghost use Rattle.std.specs.Prelude.{◌≡◌, true, ◌&&◌, List, ℕ, ◌<◌, eqb, ltb, get_or};
 ghost use Rattle.std.proofs.Math.Option.{none};
 ghost use Rattle.rules.specs.Choice.{pick, is_some};

@@ -1,4 +1,6 @@
 // Entering a view and starting one: the handlers of kinds 7 and 9, and what the handlers of other kinds share with them.
+#![tactic(auto)]
+
 ghost use Rattle.std.specs.Prelude.{◌≡◌, ◌+◌, ◌*◌, ◌≤◌, ◌<◌, length};
 ghost use Rattle.octets.specs.Bytes.{num, splice};
 ghost use Rattle.rules.specs.Wire.{numbers_of};

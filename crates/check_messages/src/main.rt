@@ -11,6 +11,8 @@
 //     A K T G R H         what that tick says: answer, kind, time, group, replicas, header
 //     L B                 of the tick written: its length, its bytes
 //     I O n S             the answers of the reader and of the writer for these sizes
+#![tactic(auto)]
+
 mod known;
 mod rounds;
 mod samples;

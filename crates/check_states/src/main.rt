@@ -22,6 +22,8 @@
 //     r place, width                        a number in the memory
 //     p x place, width, value               puts a number into the memory, into what was sent
 //     i m                                   the version, and whether the core is the model
+#![tactic(auto)]
+
 mod bases;
 mod conjuncts;
 mod forms;

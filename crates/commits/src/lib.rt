@@ -1,4 +1,6 @@
 // The handlers of sync status (kind 10) and commit (kind 11): each changes the state's bytes in place and writes its message to the outgoing buffer.
+#![tactic(auto)]
+
 ghost use Rattle.std.specs.Prelude.{◌≡◌, [], ◌+◌, ◌*◌, ◌<◌, ◌≤◌, length, set};
 ghost use Rattle.std.proofs.Math.Option.{some};
 ghost use Rattle.octets.specs.Bytes.{num, splice};

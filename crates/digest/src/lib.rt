@@ -1,4 +1,6 @@
 // FNV-1a at 64 bits, kept as two halves of 32 from byte to byte, of shifts, which drop the high bits, and of sums that wrap: small machines need no wide multiply for it, and on others the products of the halves run side by side.
+#![tactic(auto)]
+
 ghost use Rattle.std.specs.Prelude.{◌≡◌, ◌*◌, ◌/◌, ◌%◌, ◌^◌};
 ghost use Rattle.rules.specs.Digest.{prime};
 ghost use Rattle.digest.specs.Halves.{whole_of};

@@ -1,4 +1,6 @@
 // The handler of each kind of message.
+#![tactic(auto)]
+
 ghost use Rattle.std.specs.Prelude.{◌≡◌, ◌+◌, ◌*◌, ◌≤◌, length};
 ghost use Rattle.rules.specs.Wire.{tag_of};
 ghost use Rattle.rules.specs.Read.{wire_in};

@@ -1,5 +1,7 @@
 // The early buffer: an entry put in or lifted, those due by a time, those that leave because their transactions are listed, and those
 // that fall to late. The notes of listed transactions leave in the same way. All of it on lent tables: where they stand is the caller's.
+#![tactic(auto)]
+
 ghost use Rattle.std.specs.Prelude.{◌≡◌, true, false, [], ◌∷◌, ◌++◌, ◌+◌, ◌*◌, ◌<◌, ◌≤◌, length, take, drop, set};
 ghost use Rattle.rules.specs.Choice.{pick, any, keep};
 ghost use Rattle.rules.specs.Entry.{no_entry, entry_of, before, place};

@@ -1,4 +1,6 @@
 // A message's fields, and whether they are right. Tests of rows are straight-line code on truth values; the numbers are a row in a loop.
+#![tactic(auto)]
+
 ghost use Rattle.std.specs.Prelude.{◌≡◌, Bool, ℕ, ◌+◌, ◌*◌, ◌^◌, ◌≤◌, ◌<◌, [], ltb, get_or};
 ghost use Rattle.rules.specs.Choice as choice;
 ghost use Rattle.rules.specs.Entry as entry;

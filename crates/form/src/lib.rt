@@ -1,4 +1,6 @@
 // Whether sections of bytes are the form of what is in them: flags 0 or 1, zeros behind an unset flag, counts within the room, free places zero.
+#![tactic(auto)]
+
 ghost use Rattle.std.specs.Prelude.{◌≡◌, ◌+◌, ◌*◌, ◌≤◌, length};
 ghost use Rattle.octets.specs.Bytes.{part, zeros, flat, items};
 ghost use Rattle.rules.specs.Choice.{same};

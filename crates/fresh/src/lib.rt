@@ -1,4 +1,6 @@
 // The fresh state of a replica, and how long a state is.
+#![tactic(auto)]
+
 ghost use Rattle.fresh.specs.Statements.{Starts, Measures};
 
 use rules::{Answer, Shape, refusal, status};

@@ -1,4 +1,6 @@
 // The core's own check of a state: whether bytes of any length, for sizes of any kind, are those of a good state.
+#![tactic(auto)]
+
 ghost use Rattle.std.specs.Prelude.{◌≡◌, ◌&&◌, ◌||◌, not, ◌+◌, ◌*◌, ◌≤◌, ◌<◌, min, eqb, leb, length};
 ghost use Rattle.octets.specs.Bytes.{num, items, flat, part};
 ghost use Rattle.rules.specs.Choice.{pick, every, passes, below, same};

@@ -1,4 +1,6 @@
 // A group's sizes, masks of groups or of replicas, its leader, and its commit point.
+#![tactic(auto)]
+
 ghost use Rattle.std.specs.Prelude.{◌≡◌, ℕ, ◌+◌, ◌*◌, ◌%◌, ◌<◌, ◌≤◌, eqb, length};
 ghost use Rattle.rules.specs.Choice.{count};
 ghost use Rattle.rules.specs.Group as rule;

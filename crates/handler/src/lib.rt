@@ -1,4 +1,6 @@
 // What the handlers share: the own role, what a message says, and the writing of what is sent.
+#![tactic(auto)]
+
 ghost use Rattle.std.specs.Prelude.{◌≡◌, true, ◌&&◌, not, eqb, ◌+◌, ◌*◌, ◌/◌, ◌<◌, ◌≤◌, length};
 ghost use Rattle.rules.specs.Group as sets;
 ghost use Rattle.octets.specs.Bytes.{num, splice, flat};

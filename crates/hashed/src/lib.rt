@@ -1,5 +1,7 @@
 // Rows by key in a table of slots: a row stands on the path that its key's hash begins. This serves plain keys. Paths are 64 slots long, so that chosen
 // keys cannot make them longer; where one is full, or they are long on the whole, the table is given up.
+#![tactic(auto)]
+
 ghost use Rattle.std.specs.Prelude.{◌≡◌, ◌+◌, ◌≤◌, ◌<◌, length};
 ghost use Rattle.repeats.specs.Rows.{count_of, key_of, Inside};
 ghost use Rattle.repeats.specs.Repeat.{repeat_place, row_of};

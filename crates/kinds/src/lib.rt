@@ -1,4 +1,6 @@
 // The kinds of messages: the table of document 01, a row for each, and what is read off it.
+#![tactic(auto)]
+
 ghost use Rattle.std.specs.Prelude.{◌≡◌, Bool, true, false, ℕ, ◌+◌, ◌*◌, ◌^◌, ◌≤◌, ◌<◌};
 ghost use Rattle.rules.specs.Kind as kinds;
 ghost use Rattle.rules.specs.Read as reading;

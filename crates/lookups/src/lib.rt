@@ -1,4 +1,6 @@
 // The row of a transaction among the notes, by the slots that have the rows of all notes, and whether no two notes are of one transaction.
+#![tactic(auto)]
+
 ghost use Rattle.std.specs.Prelude.{◌≡◌, ◌≤◌};
 ghost use Rattle.rules.specs.State.{notes_distinct};
 ghost use Rattle.notes.specs.Notes.{notes_at, row, Notes};

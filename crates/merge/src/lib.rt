@@ -1,4 +1,6 @@
 // The merge of the groups' verify replies into the draft, in lent bytes: what it gives can be measured before the state is changed.
+#![tactic(auto)]
+
 ghost use Rattle.std.specs.Prelude.{◌≡◌, ◌+◌, ◌*◌, ◌≤◌, ◌<◌, length, get_or};
 ghost use Rattle.std.proofs.Math.Option.{none};
 ghost use Rattle.octets.specs.Bytes.{items};

@@ -1,4 +1,6 @@
 // The notes of a state in a slice: for each transaction, the timestamps that the groups gave it.
+#![tactic(auto)]
+
 ghost use Rattle.std.specs.Prelude.{◌≡◌, ◌&&◌, [], ◌∷◌, ◌++◌, ◌+◌, ◌*◌, ◌<◌, ◌≤◌, max, length, get_or, set, eqb};
 ghost use Rattle.std.proofs.Math.Option.{none, some};
 ghost use Rattle.octets.specs.Bytes.{num, splice, part};

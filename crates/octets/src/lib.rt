@@ -1,6 +1,8 @@
 // Bytes in a row: numbers in them, lowest byte first, and blocks. Blocks go eight bytes a turn, by the number that the eight bytes
 // say, and then the rest byte by byte: the compiler makes one load and one store of such a turn. The test of zeros goes 128 bytes a
 // turn first, sixteen words under one branch, of which the compiler makes vector code.
+#![tactic(auto)]
+
 ghost use Rattle.std.specs.Prelude.{◌≡◌, ℕ, ◌+◌, ◌%◌, ◌≤◌, length, replicate};
 ghost use Rattle.octets.specs.Bytes.{le, part, num, splice, zeros};
 

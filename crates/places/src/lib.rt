@@ -1,4 +1,6 @@
 // Where the parts of a state stand in its bytes: the layout, and reads and writes of each part in place.
+#![tactic(auto)]
+
 ghost use Rattle.std.specs.Prelude.{◌≡◌, not, ◌+◌, ◌*◌, ◌≤◌, ◌<◌, eqb, length};
 ghost use Rattle.std.proofs.Math.Option.{some};
 ghost use Rattle.octets.specs.Bytes.{le, num, part, splice, items};

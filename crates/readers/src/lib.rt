@@ -1,4 +1,6 @@
 // What a host asks of bytes: where the next message ends, and what a state says. Any bytes may be given.
+#![tactic(auto)]
+
 ghost use Rattle.std.specs.Prelude.{◌≡◌};
 ghost use Rattle.rules.specs.Group as rule;
 ghost use Rattle.rules.specs.Image.{state_of};

@@ -1,4 +1,6 @@
 // The rebuild of a log from the votes of a view change, into a table that the caller lends: no byte of the state changes.
+#![tactic(auto)]
+
 ghost use Rattle.std.specs.Prelude.{◌≡◌, true, not, [], ◌∷◌, ◌+◌, ◌*◌, ◌≤◌, ◌<◌, eqb, length, get_or};
 ghost use Rattle.std.proofs.Math.Option.{none};
 ghost use Rattle.rules.specs.Choice.{pick, any, is_some};

@@ -1,5 +1,7 @@
 // The release of early entries that are due: how many there are and how many are agreed, one after the other to the log with the log's digest run on over
 // it, and all of them out of early and the notes.
+#![tactic(auto)]
+
 ghost use Rattle.std.specs.Prelude.{◌≡◌, [], ◌∷◌, ◌++◌, ◌+◌, ◌-◌, ◌*◌, ◌<◌, ◌≤◌, length, take, drop};
 ghost use Rattle.octets.specs.Bytes.{items};
 ghost use Rattle.rules.specs.Choice.{leading};

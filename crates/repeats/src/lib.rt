@@ -1,4 +1,6 @@
 // Keys that stand in rows of a byte slice: the first that repeats an earlier one, and the row of a key, each by a search over all rows.
+#![tactic(auto)]
+
 ghost use Rattle.std.specs.Prelude.{◌≡◌, ◌+◌, ◌*◌, ◌≤◌, ◌<◌, eqb};
 ghost use Rattle.repeats.specs.Rows.{count_of, spot_of, key_of, Inside};
 ghost use Rattle.repeats.specs.Repeat.{repeat_place, row_of};

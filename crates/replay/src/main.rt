@@ -7,6 +7,8 @@
 // data/l07.bin holds messages and how they must be read:
 // - 5 (1), n (1), S (1), message length (4), the message, then what the reader must answer: 0, 1 or 2 (1) and the offset of the first wrong
 //   field (4), 0 but for 2.
+#![tactic(auto)]
+
 mod line;
 mod readings;
 mod records;

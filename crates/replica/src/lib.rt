@@ -1,4 +1,6 @@
 // The public face: a site's start and step on lent bytes, and the functions that hosts link.
+#![tactic(auto)]
+
 ghost use Rattle.std.specs.Prelude.{◌≡◌, ◌≤◌};
 ghost use Rattle.rules.specs.Choice.{pick};
 ghost use Rattle.rules.specs.Group.{sizes_fit};

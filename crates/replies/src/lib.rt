@@ -1,5 +1,7 @@
 // The handler of verify reply (kind 19): replies are kept until those of all other groups are there; then they are merged into the draft, and the
 // view starts with it.
+#![tactic(auto)]
+
 ghost use Rattle.std.specs.Prelude.{◌≡◌, ◌+◌, ◌*◌, ◌≤◌, length};
 ghost use Rattle.rules.specs.Image.{state_of};
 ghost use Rattle.rules.specs.Step.{on_verify_reply};

@@ -1,5 +1,7 @@
 // Room for the slots by which a call tests for repeats and finds rows: chosen here, once, by the capacity and by how long a message is, and lent down.
 // A call in a small group needs little of the stack; a long message gets the largest room, whatever the group's capacity.
+#![tactic(auto)]
+
 ghost use Rattle.std.specs.Prelude.{◌≡◌, true, eqb, length};
 ghost use Rattle.rules.specs.Wire.{tag_of};
 ghost use Rattle.rules.specs.Read.{wire_in, decoded};

@@ -1,6 +1,8 @@
 // Rows of bytes by key, in slots that the caller lends: the first key that repeats an earlier one, and the row of a key. The slots spare both the
 // search over all rows, in one of two ways: by a table, which serves plain keys, and where that is given up by the order of the keys, which no keys
 // make dear. The first slot says by which, the second how many slots the table has; behind these two stands the table, or the rows in order.
+#![tactic(auto)]
+
 ghost use Rattle.std.specs.Prelude.{◌≡◌, ◌+◌, ◌-◌, ◌≤◌, ◌<◌, length, set};
 ghost use Rattle.repeats.specs.Rows.{count_of, key_of, Inside};
 ghost use Rattle.repeats.specs.Repeat.{repeat_place, row_of};

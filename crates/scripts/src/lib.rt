@@ -5,6 +5,8 @@
 //
 // A number that is left out is 0, and one that begins with x is hexadecimal. A row without a name is done and prints nothing; one that begins
 // with # is a comment.
+#![tactic(auto)]
+
 
 // A row: its letter, its numbers, the wanted answer, and where its name begins and ends.
 #[derive(Drop)]

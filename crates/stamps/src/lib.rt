@@ -1,4 +1,6 @@
 // Timestamps: the one that a leader gives, those that the notes hold, and the early entry that they lift.
+#![tactic(auto)]
+
 ghost use Rattle.std.specs.Prelude.{◌≡◌, true, false, ◌++◌, ◌+◌, ◌<◌, length, take, drop};
 ghost use Rattle.rules.specs.Entry as order;
 ghost use Rattle.rules.specs.Log as log;

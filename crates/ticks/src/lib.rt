@@ -1,4 +1,6 @@
 // Kind 23, the tick: early entries that are due are released to the log, each with its reply, and the group hears of them.
+#![tactic(auto)]
+
 ghost use Rattle.std.specs.Prelude.{◌≡◌, [], ◌∷◌, ◌+◌, ◌-◌, ◌*◌, ◌<◌, ◌≤◌, min, length};
 ghost use Rattle.octets.specs.Bytes.{splice};
 ghost use Rattle.rules.specs.Choice.{leading};

@@ -1,4 +1,6 @@
 // The first wrong field of a message: its head, its body, and its entries, which in a log are to be good.
+#![tactic(auto)]
+
 ghost use Rattle.std.specs.Prelude.{◌≡◌, Bool, ℕ, ◌+◌, ◌-◌, ◌*◌, ◌≤◌, min, [], length};
 ghost use Rattle.rules.specs.Read as reading;
 ghost use Rattle.fields.specs.Parts.{fields_from, headed};

@@ -1,4 +1,6 @@
 // The handler of verify request (kind 18): what another group's leader asks for is told to it, and the state stays as it is.
+#![tactic(auto)]
+
 ghost use Rattle.std.specs.Prelude.{◌≡◌, [], ◌++◌, ◌+◌, ◌*◌, ◌<◌, ◌≤◌, eqb, length};
 ghost use Rattle.octets.specs.Bytes.{le, num, splice, flat};
 ghost use Rattle.rules.specs.Choice.{pick};

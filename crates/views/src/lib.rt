@@ -1,4 +1,6 @@
 // What a change of view writes into the state: its gView and its gVec, empty tables, the votes and replies that it gathers and, where the view starts, its numbers and its log.
+#![tactic(auto)]
+
 ghost use Rattle.std.specs.Prelude.{◌≡◌, ◌++◌, ℕ, ◌+◌, ◌*◌, ◌≤◌, ◌<◌, min, length, replicate};
 ghost use Rattle.std.proofs.Math.Option.{some};
 ghost use Rattle.octets.specs.Bytes.{le, num, part, splice, items};

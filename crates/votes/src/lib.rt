@@ -1,4 +1,6 @@
 // The handler of votes (kind 8): each is kept, and with F+1 of them the log is rebuilt.
+#![tactic(auto)]
+
 ghost use Rattle.std.specs.Prelude.{◌≡◌, [], ◌+◌, ◌-◌, ◌*◌, ◌^◌, ◌≤◌, ◌<◌, length};
 ghost use Rattle.octets.specs.Bytes.{part, splice, flat};
 ghost use Rattle.rules.specs.Read.{length_for};

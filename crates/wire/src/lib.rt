@@ -1,4 +1,6 @@
 // The messages of document 01: read from bytes, and written to bytes.
+#![tactic(auto)]
+
 pub mod decode;
 
 ghost use Rattle.std.specs.Prelude.{◌≡◌, true, ℕ, ◌+◌, ◌*◌, ◌^◌, ◌≤◌, ◌<◌, length, ltb};

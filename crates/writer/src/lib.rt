@@ -1,4 +1,6 @@
 // A message written as bytes: each function writes a run of them from a place on.
+#![tactic(auto)]
+
 ghost use Rattle.std.specs.Prelude.{◌≡◌, List, [], ◌∷◌, ◌++◌, ℕ, ◌+◌, ◌*◌, ◌≤◌, ◌<◌, length};
 ghost use Rattle.octets.specs.Bytes.{le, flat, splice};
 ghost use Rattle.rules.specs.Wire.{head_bytes, wire_bytes, numbers_of};

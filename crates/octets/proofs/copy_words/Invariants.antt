@@ -1,0 +1,14 @@
+use Prim.Native.Nat.{◌≤◌, ◌%◌, ◌-◌}
+use mathlib.Core.Path.{◌≡◌}
+use native.Mathlib.Omega.{arith}
+use lib.ListN.{length}
+use Rattle.octets.specs.Bytes.{part, splice}
+use Rattle.octets.proofs.Turns.{none_yet, copy_turn, all_done}
+use borrow.Author.Rules.{rules}
+use Rattle.octets.proofs.copy_words.Given as goal
+
+abbrev pub invariant-loop-i : goal.invariant-loop-i
+invariant-loop-i l = (l.i % 8 ≡ 0) × (l.i ≤ l.n) × (length l.dst ≡ length l.initial.dst) × (l.dst ≡ splice l.initial.dst l.at (part l.src l.from l.i))
+
+abbrev pub decreases-loop-i : goal.decreases-loop-i
+decreases-loop-i l = l.n - l.i

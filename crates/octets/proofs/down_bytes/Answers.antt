@@ -1,0 +1,17 @@
+use Prim.Native.Nat.{◌≤◌, ◌-◌}
+use mathlib.Core.Path.{◌≡◌, refl}
+use native.Mathlib.Omega.{arith}
+use lib.ListN.{length}
+use Rattle.octets.specs.Bytes.{part, splice}
+use Rattle.octets.proofs.Turns.{none_yet, down_next, all_done}
+use borrow.Author.Rules.{rules}
+use Rattle.octets.proofs.down_bytes.Goals as goal
+
+pub loop-i-init : goal.loop-i-init
+loop-i-init c = search (rules, none_yet)
+
+pub loop-i-preserved : goal.loop-i-preserved
+loop-i-preserved c = (search rules, search rules, down_next _ _ _ _ 1 _ _ _ c.loop-i.invariant.2 c.move_byte.ensures (omega arith) (omega arith) refl)
+
+pub returns : goal.returns
+returns c = search all_done

@@ -1,0 +1,15 @@
+use Prim.Native.Nat.{◌≤◌, ◌%◌, ◌-◌}
+use mathlib.Core.Path.{◌≡◌, refl, sym}
+use native.Mathlib.Omega.{arith}
+use lib.ListN.{length, replicate}
+use Rattle.octets.specs.Bytes.{splice}
+use Rattle.octets.proofs.Laws.{splice_none}
+use Rattle.octets.proofs.Turns.{fill_turn, fill_done}
+use borrow.Author.Rules.{rules}
+use Rattle.octets.proofs.fill_words.Given as goal
+
+abbrev pub invariant-loop-i : goal.invariant-loop-i
+invariant-loop-i l = (l.i % 8 ≡ 0) × (l.i ≤ l.n) × (length l.s ≡ length l.initial.s) × (l.s ≡ splice l.initial.s l.at (replicate l.i 0))
+
+abbrev pub decreases-loop-i : goal.decreases-loop-i
+decreases-loop-i l = l.n - l.i

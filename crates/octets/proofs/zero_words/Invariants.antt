@@ -1,0 +1,14 @@
+use Prim.Native.Nat.{◌≤◌, ◌%◌, ◌-◌}
+use mathlib.Core.Bool.{true}
+use mathlib.Core.Path.{◌≡◌}
+use native.Mathlib.Omega.{arith}
+use Rattle.octets.specs.Bytes.{part, zeros}
+use Rattle.octets.proofs.Turns.{zeros_none, zeros_pass, zeros_stop, zeros_done}
+use borrow.Author.Rules.{rules}
+use Rattle.octets.proofs.zero_words.Given as goal
+
+abbrev pub invariant-loop-i : goal.invariant-loop-i
+invariant-loop-i l = (l.i % 8 ≡ 0) × (l.i ≤ l.n) × (zeros (part l.s l.at l.i) ≡ true)
+
+abbrev pub decreases-loop-i : goal.decreases-loop-i
+decreases-loop-i l = l.n - l.i
