@@ -86,12 +86,14 @@ module _ (s : ℕ) (m : Fields) where
 
 -- a row lies in the span, and no other reaches over its beginning
 span_among : (r : Row) (lo hi : ℕ) (rs : List Row) → Span lo hi rs → Memᴰ r rs → (lo ≤ r.at) × ((r.at ≤ r.end) × (r.end ≤ hi))
+span_among r lo hi [] h i = elim i [ ]
 span_among r lo hi (q ∷ rs) h (Memᴰ.head e) = rw e (h.0, (h.1.0, span_least q.end hi rs h.1.1))
 span_among r lo hi (q ∷ rs) h (Memᴰ.tail i) =
     let t = span_among r q.end hi rs h.1.1 i in
     (omega (arith, h.0, h.1.0, t.0), t.1)
 
 span_apart : (q r : Row) (lo hi : ℕ) (rs : List Row) → Span lo hi rs → Memᴰ q rs → Memᴰ r rs → q.at < r.at → q.end ≤ r.at
+span_apart q r lo hi [] h i j l = elim i [ ]
 span_apart q r lo hi (p ∷ rs) h (Memᴰ.head d) (Memᴰ.head e) l = absurd (omega (arith, ap (λ (t : Row). t.at) (d ∙ sym e)))
 span_apart q r lo hi (p ∷ rs) h (Memᴰ.head d) (Memᴰ.tail j) l = rw d (span_among r p.end hi rs h.1.1 j).0
 span_apart q r lo hi (p ∷ rs) h (Memᴰ.tail i) (Memᴰ.head e) l =
@@ -100,6 +102,7 @@ span_apart q r lo hi (p ∷ rs) h (Memᴰ.tail i) (Memᴰ.head e) l =
 span_apart q r lo hi (p ∷ rs) h (Memᴰ.tail i) (Memᴰ.tail j) l = span_apart q r p.end hi rs h.1.1 i j l
 
 all_among : (P : Row → Type 0) (rs : List Row) → All P rs → (r : Row) → Memᴰ r rs → P r
+all_among P [] h r i = elim i [ ]
 all_among P (q ∷ rs) h r (Memᴰ.head e) = rw e h.0
 all_among P (q ∷ rs) h r (Memᴰ.tail i) = all_among P rs h.1 r i
 
@@ -122,6 +125,7 @@ Reached x e (Wrong a u) = (a ≤ x) × (u ≤ e)
 
 rows_reached : (r : Row) (lo hi : ℕ) (rs : List Row) → Span lo hi rs → Memᴰ r rs → r.right ≡ false → Reached r.at r.end (first_wrong rs)
 unfolding first_wrong pick
+rows_reached r lo hi [] h i f = elim i [ ]
 rows_reached r lo hi (q ∷ rs) h (Memᴰ.head e) f = rw (← e, f) (le_refl _, le_refl _)
 rows_reached r lo hi (q ∷ rs) h (Memᴰ.tail i) f =
     let t = span_among r q.end hi rs h.1.1 i in
