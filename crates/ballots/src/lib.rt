@@ -11,7 +11,7 @@ use rules::Shape;
 
 // The vote that a message brings: its gView, its sender, last normal gView and sync point, where the count of its entries stands, and whether it enters a
 // greater view.
-#[derive(Drop)]
+#[derive(Clone, Copy)]
 pub struct Cast {
     pub view: u32,
     pub sender: u64,
@@ -22,7 +22,7 @@ pub struct Cast {
 }
 
 // Of a replica's vote: whether there is one, and its last normal gView and sync point.
-#[derive(Drop)]
+#[derive(Clone, Copy)]
 struct Ballot {
     held: bool,
     normal: u64,
@@ -30,7 +30,7 @@ struct Ballot {
 }
 
 // A replica whose vote has the largest sync point so far.
-#[derive(Drop)]
+#[derive(Clone, Copy)]
 pub struct Best {
     pub replica: u64,
     pub sync: u64,

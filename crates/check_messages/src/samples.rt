@@ -6,7 +6,7 @@ use rules::{Answer, Header, Message};
 const NOT_WRITTEN: u8 = 0;
 
 // What a message says: the number of its case and its numbers, 0 where it has none.
-#[derive(Drop)]
+#[derive(Clone, Copy)]
 pub struct Told {
     pub kind: u64,
     pub header: Header,

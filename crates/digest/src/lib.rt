@@ -7,7 +7,7 @@ ghost use Rattle.digest.specs.Halves.{whole_of};
 ghost use Rattle.digest.specs.Statements.{DigestsOn, Digests};
 
 // A number of 64 bits by halves: of shifts and sums of whole ones the compiler makes the one product by the prime again.
-#[derive(Drop)]
+#[derive(Clone, Copy)]
 struct Halves {
     low: u32,
     high: u32,

@@ -21,14 +21,14 @@ ghost use Rattle.early.specs.Buffers.{BothHold, early_in, late_in, Both};
 use rules::Entry;
 
 // A turn of a pass that moves what stays to the front: what is looked at next, and how many stayed so far.
-#[derive(Drop)]
+#[derive(Clone, Copy)]
 struct Turn {
     next: usize,
     kept: usize,
 }
 
 // Which entries are meant where those of listed transactions leave: any other; others that lie after an entry; others that do not.
-#[derive(Drop)]
+#[derive(Clone, Copy)]
 pub enum Which {
     Any,
     After(Entry),
@@ -36,7 +36,7 @@ pub enum Which {
 }
 
 // Entries that stand in bytes and list transactions: where, and how many there are.
-#[derive(Drop)]
+#[derive(Clone, Copy)]
 pub struct Listed {
     pub at: usize,
     pub count: usize,

@@ -27,7 +27,7 @@ const VERIFY_REPLY: u8 = 19;
 const TICK: u8 = 23;
 
 // What a message says beside its numbers and its entries: the header, the three zeros, and the three counts.
-#[derive(Drop)]
+#[derive(Clone, Copy)]
 pub struct Parts {
     pub header: Header,
     pub zeros: u64,

@@ -94,7 +94,7 @@ pub fn count_others(shape: Shape, state: &[u8], mask: u16) -> u64
 }
 
 // What is asked of other groups' leaders: a note, or a verify request with its boundary.
-#[derive(Drop)]
+#[derive(Clone, Copy)]
 pub struct Asking {
     pub kind: u8,
     pub number: u64,

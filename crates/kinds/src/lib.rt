@@ -14,7 +14,7 @@ use rules::kind::*;
 use rules::{Body, Receiver, Sender, Views, status};
 
 // What a kind has and needs. The statuses are a mask, and count in an equal view only where that is said.
-#[derive(Drop)]
+#[derive(Clone, Copy)]
 pub struct Row {
     pub known: bool,
     pub numbers: u64,
@@ -28,7 +28,7 @@ pub struct Row {
 }
 
 // The statuses that a kind is taken in, a bit for each, and whether they count in an equal view only.
-#[derive(Drop)]
+#[derive(Clone, Copy)]
 struct Taken {
     statuses: u8,
     only_if_equal: bool,

@@ -16,7 +16,7 @@ ghost use Rattle.merge.specs.Merged.{replies_with, merged_with};
 use rules::{Entry, Shape};
 
 // The reply that a message brings: the group that it is of, where its entries stand, and how many there are.
-#[derive(Drop)]
+#[derive(Clone, Copy)]
 pub struct Reply {
     pub from: u64,
     pub at: usize,

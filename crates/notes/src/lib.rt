@@ -15,7 +15,7 @@ ghost use Rattle.notes.specs.Notes.{sized, notes_at, note_in, unheard_note, row,
 use rules::Entry;
 
 // A timestamp that a group may not have given yet.
-#[derive(Drop)]
+#[derive(Clone, Copy)]
 pub enum Point {
     Unheard,
     Heard(u64),

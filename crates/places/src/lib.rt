@@ -17,7 +17,7 @@ ghost use Rattle.places.specs.Layout.{longest, start_of, Marks, Fits, PlaceAt, S
 use rules::{Entry, Shape};
 
 // Where each section begins after the head, where the last ends, and how long a table, a note, a vote and a reply are.
-#[derive(Drop)]
+#[derive(Clone, Copy)]
 pub struct Places {
     pub views: usize,
     pub heard: usize,

@@ -20,7 +20,7 @@ use rules::{Entry, GroupSize, Shape};
 
 // Slots for the rows of the votes' logs: how many each log gets, how many logs have theirs, and for each replica which of them its vote's
 // log has, counted from 1; 0 where it has none.
-#[derive(Drop)]
+#[derive(Clone, Copy)]
 struct Index {
     size: usize,
     used: usize,
@@ -28,7 +28,7 @@ struct Index {
 }
 
 // What is counted: the vote that came, the greatest last normal gView, and the slots of the votes that count.
-#[derive(Drop)]
+#[derive(Clone, Copy)]
 struct Count {
     cast: Cast,
     top: u64,
@@ -36,7 +36,7 @@ struct Count {
 }
 
 // What the rebuild starts from: what is counted, the replica whose vote gives the prefix, the prefix's length, its last entry.
-#[derive(Drop)]
+#[derive(Clone, Copy)]
 struct Basis {
     count: Count,
     replica: u64,
@@ -45,7 +45,7 @@ struct Basis {
 }
 
 // The rebuilt log's boundary, where the table has room for the log.
-#[derive(Drop)]
+#[derive(Clone, Copy)]
 pub enum Rebuilt {
     TooLong,
     Log(u64),

@@ -6,7 +6,7 @@ ghost use Rattle.repeats.specs.Rows.{count_of, spot_of, key_of, Inside};
 ghost use Rattle.repeats.specs.Repeat.{repeat_place, row_of};
 
 // Where the keys stand: three runs, one after the other in number, each key 6 bytes and one `stride` after the one before.
-#[derive(Drop)]
+#[derive(Clone, Copy)]
 pub struct Spots {
     pub first: usize,
     pub first_count: usize,

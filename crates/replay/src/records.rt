@@ -3,7 +3,7 @@ use crate::{line, readings, table};
 use rules::{Answer, Shape};
 
 // How far it went: the sizes and the state's length since the last start, and how many there were; `over` at the file's end.
-#[derive(Drop)]
+#[derive(Clone, Copy)]
 pub struct Run {
     pub shape: Shape,
     pub length: usize,
@@ -116,7 +116,7 @@ fn start_record(fd: i32, run: Run, state: &mut [u8]) -> Run {
 }
 
 // What a step answered and left.
-#[derive(Drop)]
+#[derive(Clone, Copy)]
 struct Came {
     number: u8,
     offset: u64,

@@ -9,7 +9,7 @@
 
 
 // A row: its letter, its numbers, the wanted answer, and where its name begins and ends.
-#[derive(Drop)]
+#[derive(Clone, Copy)]
 pub struct Row {
     pub asks: u8,
     pub first: u64,
@@ -24,7 +24,7 @@ pub struct Row {
 }
 
 // A number and where it ends.
-#[derive(Drop)]
+#[derive(Clone, Copy)]
 struct Number {
     value: u64,
     end: usize,

@@ -12,7 +12,7 @@ use repeats::Spots;
 use rules::{Entry, Header, Verdict};
 
 // What is looked at of the entries in some bytes: where they begin, how many of them are whole, and how many are looked at.
-#[derive(Drop)]
+#[derive(Clone, Copy)]
 pub struct Look {
     pub at: usize,
     pub whole: usize,

@@ -13,7 +13,7 @@ ghost use Rattle.views.specs.Views.{views_of, tables_length, taken_in, begun_in,
 use rules::{Shape, status};
 
 // What a vote says beside its log: the last normal gView and the sync point.
-#[derive(Drop)]
+#[derive(Clone, Copy)]
 pub struct Said {
     pub normal: u32,
     pub sync: u64,

@@ -14,7 +14,7 @@ use rules::{Header, Message};
 pub const MOST_NUMBERS: usize = 3;
 
 // What a message's case says: its number, the header, how many numbers it has, and those, with zeros behind them.
-#[derive(Drop)]
+#[derive(Clone, Copy)]
 pub struct Said {
     pub tag: u8,
     pub header: Header,

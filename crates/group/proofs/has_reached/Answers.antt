@@ -1,0 +1,12 @@
+use Rattle.group.proofs.Commit.{own_reached, unheard, heard_reached}
+use borrow.Author.Rules.{rules}
+use Rattle.group.proofs.has_reached.Goals as goal
+
+pub returns-then-i-own : goal.returns-then-i-own
+returns-then-i-own c = search own_reached
+
+pub returns-then-get8-eq0 : goal.returns-then-get8-eq0
+returns-then-get8-eq0 c = search unheard
+
+pub returns : goal.returns
+returns c = search heard_reached

@@ -1,0 +1,7 @@
+use Rattle.group.specs.Points.{held}
+use borrow.Author.Rules.{rules}
+use Rattle.group.proofs.majority_reached.Goals as goal
+
+pub returns : goal.returns
+unfolding held
+returns c = rw (c.majority.ensures, c.reachers.ensures)

@@ -1,0 +1,6 @@
+use Rattle.group.proofs.Masks.{shifted}
+use borrow.Author.Rules.{rules}
+use Rattle.group.proofs.only.Goals as goal
+
+pub returns : goal.returns
+returns c = shifted 8 c.args.r c.requires

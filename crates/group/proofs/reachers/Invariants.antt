@@ -1,0 +1,16 @@
+use mathlib.Core.Path.{◌≡◌, ◌∙◌, ap}
+use mathlib.Core.Logic.{⊎_elim}
+use Prim.Native.Nat.{◌≤◌, ◌-◌}
+use native.Mathlib.Omega.{arith}
+use Rattle.rules.specs.Choice.{count}
+use Rattle.rules.specs.Commit.{reached}
+use Rattle.group.specs.Points.{points}
+use Rattle.group.proofs.Commit.{reached_told, count_none, count_more, count_same}
+use borrow.Author.Rules.{rules}
+use Rattle.group.proofs.reachers.Given as goal
+
+abbrev pub invariant-loop-i : goal.invariant-loop-i
+invariant-loop-i l = (l.i ≤ l.n) × (l.sum ≤ l.i) × (l.sum ≡ count (reached l.own l.len (points l.n l.heard) l.c) l.i)
+
+abbrev pub decreases-loop-i : goal.decreases-loop-i
+decreases-loop-i l = l.n - l.i

@@ -1,0 +1,5 @@
+use borrow.Author.Rules.{rules}
+use Rattle.group.proofs.shape_fits.Goals as goal
+
+pub returns : goal.returns
+returns c = rw c.sizes_fit.ensures

@@ -1,0 +1,5 @@
+use borrow.Author.Rules.{rules}
+use Rattle.group.proofs.sizes_fit.Goals as goal
+
+pub returns : goal.returns
+returns c = rw c.permitted.ensures

@@ -1,0 +1,10 @@
+use Prim.Native.Nat.{◌≤◌, ℕ}
+use mathlib.Core.Path.{◌≡◌, ap}
+use Rattle.rules.specs.Kind.{numbers_in}
+use Rattle.kinds.specs.declared.Row.{Row}
+use Rattle.kinds.proofs.Readings.{few_numbers}
+use borrow.Author.Rules.{rules}
+use Rattle.kinds.proofs.numbers_in.Goals as goal
+
+pub returns : goal.returns
+returns c = let e : c.row_of_lem.result.numbers ≡ numbers_in c.args.kind = ap (λ (r : Row). r.numbers) c.row_of_lem.ensures in (e, rw e (few_numbers c.args.kind))

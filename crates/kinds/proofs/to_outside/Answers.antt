@@ -1,0 +1,11 @@
+use mathlib.Core.Path.{ap}
+use Rattle.kinds.specs.declared.Row.{Row}
+use Rattle.kinds.proofs.Readings.{to_outsiders, to_other}
+use borrow.Author.Rules.{rules}
+use Rattle.kinds.proofs.to_outside.Goals as goal
+
+pub returns-in-Outsiders : goal.returns-in-Outsiders
+returns-in-Outsiders c = to_outsiders _ _ (ap (λ (r : Row). r.receiver) c.row_of_lem.ensures) c.enum_told-1.given.1
+
+pub returns-in_default : goal.returns-in_default
+returns-in_default c = to_other _ _ (ap (λ (r : Row). r.receiver) c.row_of_lem.ensures) c.in_default.keys2
