@@ -4,4 +4,4 @@ use borrow.Author.Rules.{rules}
 use Rattle.kinds.proofs.bare.Goals as goal
 
 pub returns : goal.returns
-returns c = ap (λ (r : Row). r.bare) c.row_of_lem.ensures
+returns c = ap (λ (r : Row). r.bare) c.row_of.ensures

@@ -7,4 +7,4 @@ use borrow.Author.Rules.{rules}
 use Rattle.kinds.proofs.numbers_in.Goals as goal
 
 pub returns : goal.returns
-returns c = let e : c.row_of_lem.result.numbers ≡ numbers_in c.args.kind = ap (λ (r : Row). r.numbers) c.row_of_lem.ensures in (e, rw e (few_numbers c.args.kind))
+returns c = let e : c.row_of.result.numbers ≡ numbers_in c.args.kind = ap (λ (r : Row). r.numbers) c.row_of.ensures in (e, rw e (few_numbers c.args.kind))

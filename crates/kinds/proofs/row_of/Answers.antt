@@ -58,4 +58,4 @@ unfolding row_of any
 returns-in-23 c = search row_is
 
 pub returns-in_default : goal.returns-in_default
-returns-in_default c = no_row_is (none_of _ _ c.in_default.rest)
+returns-in_default c = no_row_is (none_of _ _ c.in_default.in_default-own.rest)

@@ -5,7 +5,7 @@ use borrow.Author.Rules.{rules}
 use Rattle.kinds.proofs.with_log.Goals as goal
 
 pub returns-in-ALog : goal.returns-in-ALog
-returns-in-ALog c = has_log _ _ (ap (λ (r : Row). r.body) c.row_of_lem.ensures) c.enum_told-1.given.1
+returns-in-ALog c = has_log _ _ (ap (λ (r : Row). r.body) c.row_of-body.ensures) c.in-ALog.is
 
 pub returns-in_default : goal.returns-in_default
-returns-in_default c = not_log _ _ (ap (λ (r : Row). r.body) c.row_of_lem.ensures) c.in_default.keys2
+returns-in_default c = not_log _ _ (ap (λ (r : Row). r.body) c.row_of-body.ensures) c.in_default.in_default-own.keys2

@@ -1,0 +1,14 @@
+use mathlib.Core.Path.{◌≡◌}
+use Prim.Native.Nat.{ℕ, ◌≤◌, ◌<◌, ◌-◌}
+use lib.ListN.{length, get_or}
+use native.Mathlib.Omega.{arith}
+use Rattle.hashed.specs.Table.{Empty}
+use Rattle.hashed.proofs.Table.{FreeTo, free_none, free_more, free_all}
+use borrow.Author.Rules.{rules}
+use Rattle.hashed.proofs.empty.Given as goal
+
+abbrev pub invariant-loop-p : goal.invariant-loop-p
+invariant-loop-p l = (l.p ≤ length l.initial.table) × (length l.table ≡ length l.initial.table) × FreeTo l.table l.p
+
+abbrev pub decreases-loop-p : goal.decreases-loop-p
+decreases-loop-p l = length l.initial.table - l.p

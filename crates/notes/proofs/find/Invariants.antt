@@ -1,0 +1,15 @@
+use Prim.Native.Nat.{◌≤◌, ◌<◌, ◌+◌, ◌-◌}
+use mathlib.Core.Path.{◌≡◌, ◌∙◌}
+use native.Mathlib.Omega.{arith}
+use lib.ListN.{length, drop}
+use Rattle.notes.specs.Notes.{notes_at, row}
+use Rattle.notes.proofs.Notes.{inside, transaction_in}
+use Rattle.notes.proofs.Row.{row_start, row_pass, row_stop, row_end}
+use borrow.Author.Rules.{rules}
+use Rattle.notes.proofs.find.Given as goal
+
+abbrev pub invariant-loop-i : goal.invariant-loop-i
+invariant-loop-i l = (l.i ≤ l.n) × (row l.request l.coordinator (notes_at l.c l.s l.t) ≡ l.i + row l.request l.coordinator (drop l.i (notes_at l.c l.s l.t)))
+
+abbrev pub decreases-loop-i : goal.decreases-loop-i
+decreases-loop-i l = l.n - l.i

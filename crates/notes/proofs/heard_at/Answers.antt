@@ -1,0 +1,6 @@
+use Rattle.notes.proofs.Points.{heard_flag}
+use borrow.Author.Rules.{rules}
+use Rattle.notes.proofs.heard_at.Goals as goal
+
+pub returns : goal.returns
+returns c = heard_flag _ _ _ c.get8.ensures

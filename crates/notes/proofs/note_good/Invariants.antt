@@ -1,0 +1,13 @@
+use Prim.Native.Nat.{◌≤◌, ◌+◌, ◌-◌, ◌*◌}
+use mathlib.Core.Path.{◌≡◌, refl}
+use native.Mathlib.Omega.{arith}
+use lib.ListN.{length}
+use Rattle.notes.proofs.Tested.{good_points, heard_points, good_none, good_next, heard_none, heard_next, note_good}
+use borrow.Author.Rules.{rules}
+use Rattle.notes.proofs.note_good.Given as goal
+
+abbrev pub invariant-loop-j : goal.invariant-loop-j
+invariant-loop-j l = (l.j ≤ l.s) × (l.fine ≡ good_points l.t (l.at + 6) l.j) × (l.heard ≡ heard_points l.t (l.at + 6) l.j)
+
+abbrev pub decreases-loop-j : goal.decreases-loop-j
+decreases-loop-j l = l.s - l.j

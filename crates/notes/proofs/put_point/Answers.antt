@@ -1,0 +1,6 @@
+use Rattle.notes.proofs.Points.{put_stamp}
+use borrow.Author.Rules.{rules}
+use Rattle.notes.proofs.put_point.Goals as goal
+
+pub returns : goal.returns
+returns c = put_stamp _ _ _ _ _ c.requires c.put8.ensures c.put64.ensures
