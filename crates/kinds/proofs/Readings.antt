@@ -5,19 +5,14 @@ use mathlib.Core.Bool.{true, false}
 use mathlib.Core.List.{[], ◌∷◌}
 use lib.Dec.{leb}
 use borrow.Author.Tests.{leb-true}
-use denote.Enum.Declared as declared
-use types.Run.{OneOf, miss}
 use Rattle.rules.specs.Choice.{every}
 use Rattle.rules.specs.Kind.{Kind, kinds, row_of, numbers_in, with_one, with_log, from_outside, to_outside}
 use Rattle.rules.proofs.Tests.{each}
 use Rattle.rules.proofs.EachKind.{by_row, NoneOf, none_known, no_row}
-use Rattle.rules.specs.contracts.Body as bodies
 use Rattle.rules.specs.declared.Body.{Body}
 use Rattle.rules.specs.declared.Body.TheVariants.{NoBody, OneEntry, ALog}
-use Rattle.rules.specs.contracts.Sender as senders
 use Rattle.rules.specs.declared.Sender.{Sender}
 use Rattle.rules.specs.declared.Sender.TheVariants.{Outsider, OwnLeader, OwnReplica, OtherLeader, AnyReplica}
-use Rattle.rules.specs.contracts.Receiver as receivers
 use Rattle.rules.specs.declared.Receiver.{Receiver}
 use Rattle.rules.specs.declared.Receiver.TheVariants.{ALeader, AFollower, Anyone, Outsiders}
 use Rattle.rules.specs.declared.Views.TheVariants.{BothEqual}
@@ -28,8 +23,8 @@ module _ (k : ℕ) where
   pub from_outsider : (s : Sender) → s ≡ (row_of k).sender → s ≡ Outsider → true ≡ from_outside k
   from_outsider s e d = rw (sym e ∙ d)
 
-  pub from_other : (s : Sender) → s ≡ (row_of k).sender → OneOf (1 ∷ 2 ∷ 3 ∷ 4 ∷ []) (declared.tag_of senders.the_type s) → false ≡ from_outside k
-  from_other Outsider e o = absurd (miss (1 ∷ 2 ∷ 3 ∷ 4 ∷ []) 0 tt o)
+  pub from_other : (s : Sender) → s ≡ (row_of k).sender → (s ≡ Outsider → ⊥) → false ≡ from_outside k
+  from_other Outsider e o = absurd (o refl)
   from_other OwnLeader e o = rw (sym e)
   from_other OwnReplica e o = rw (sym e)
   from_other OtherLeader e o = rw (sym e)
@@ -38,27 +33,27 @@ module _ (k : ℕ) where
   pub to_outsiders : (r : Receiver) → r ≡ (row_of k).receiver → r ≡ Outsiders → true ≡ to_outside k
   to_outsiders r e d = rw (sym e ∙ d)
 
-  pub to_other : (r : Receiver) → r ≡ (row_of k).receiver → OneOf (0 ∷ 1 ∷ 2 ∷ []) (declared.tag_of receivers.the_type r) → false ≡ to_outside k
+  pub to_other : (r : Receiver) → r ≡ (row_of k).receiver → (r ≡ Outsiders → ⊥) → false ≡ to_outside k
   to_other ALeader e o = rw (sym e)
   to_other AFollower e o = rw (sym e)
   to_other Anyone e o = rw (sym e)
-  to_other Outsiders e o = absurd (miss (0 ∷ 1 ∷ 2 ∷ []) 3 tt o)
+  to_other Outsiders e o = absurd (o refl)
 
   pub has_one : (b : Body) → b ≡ (row_of k).body → b ≡ OneEntry → true ≡ with_one k
   has_one b e d = rw (sym e ∙ d)
 
-  pub not_one : (b : Body) → b ≡ (row_of k).body → OneOf (0 ∷ 2 ∷ []) (declared.tag_of bodies.the_type b) → false ≡ with_one k
+  pub not_one : (b : Body) → b ≡ (row_of k).body → (b ≡ OneEntry → ⊥) → false ≡ with_one k
   not_one NoBody e o = rw (sym e)
-  not_one OneEntry e o = absurd (miss (0 ∷ 2 ∷ []) 1 tt o)
+  not_one OneEntry e o = absurd (o refl)
   not_one ALog e o = rw (sym e)
 
   pub has_log : (b : Body) → b ≡ (row_of k).body → b ≡ ALog → true ≡ with_log k
   has_log b e d = rw (sym e ∙ d)
 
-  pub not_log : (b : Body) → b ≡ (row_of k).body → OneOf (0 ∷ 1 ∷ []) (declared.tag_of bodies.the_type b) → false ≡ with_log k
+  pub not_log : (b : Body) → b ≡ (row_of k).body → (b ≡ ALog → ⊥) → false ≡ with_log k
   not_log NoBody e o = rw (sym e)
   not_log OneEntry e o = rw (sym e)
-  not_log ALog e o = absurd (miss (0 ∷ 1 ∷ []) 2 tt o)
+  not_log ALog e o = absurd (o refl)
 
 pub few_numbers : (k : ℕ) → numbers_in k ≤ 3
 unfolding every

@@ -8,4 +8,4 @@ pub returns-in-Outsider : goal.returns-in-Outsider
 returns-in-Outsider c = from_outsider _ _ (ap (λ (r : Row). r.sender) c.row_of-sender.ensures) c.in-Outsider.is
 
 pub returns-in_default : goal.returns-in_default
-returns-in_default c = from_other _ _ (ap (λ (r : Row). r.sender) c.row_of-sender.ensures) c.in_default.in_default-own.keys2
+returns-in_default c = from_other _ _ (ap (λ (r : Row). r.sender) c.row_of-sender.ensures) c.in_default.not-Outsider

@@ -8,4 +8,4 @@ pub returns-in-ALog : goal.returns-in-ALog
 returns-in-ALog c = has_log _ _ (ap (λ (r : Row). r.body) c.row_of-body.ensures) c.in-ALog.is
 
 pub returns-in_default : goal.returns-in_default
-returns-in_default c = not_log _ _ (ap (λ (r : Row). r.body) c.row_of-body.ensures) c.in_default.in_default-own.keys2
+returns-in_default c = not_log _ _ (ap (λ (r : Row). r.body) c.row_of-body.ensures) c.in_default.not-ALog

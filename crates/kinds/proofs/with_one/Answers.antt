@@ -8,4 +8,4 @@ pub returns-in-OneEntry : goal.returns-in-OneEntry
 returns-in-OneEntry c = has_one _ _ (ap (λ (r : Row). r.body) c.row_of-body.ensures) c.in-OneEntry.is
 
 pub returns-in_default : goal.returns-in_default
-returns-in_default c = not_one _ _ (ap (λ (r : Row). r.body) c.row_of-body.ensures) c.in_default.in_default-own.keys2
+returns-in_default c = not_one _ _ (ap (λ (r : Row). r.body) c.row_of-body.ensures) c.in_default.not-OneEntry
