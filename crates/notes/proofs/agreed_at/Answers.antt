@@ -1,12 +1,10 @@
-use Prim.Native.Nat.{ℕ, ◌≤◌, ◌+◌, ◌-◌, ◌*◌}
+use Prim.Native.Nat.{ℕ, ◌+◌, ◌*◌}
 use mathlib.Core.Path.{◌≡◌, ap, ◌∙◌}
 use native.Mathlib.Omega.{arith}
 use Rattle.rules.specs.Choice.{is_some}
 use Rattle.rules.specs.State.{noted_to}
-use Rattle.notes.specs.Notes.{notes_at, note_in}
 use Rattle.notes.proofs.Notes.{inside, point_in}
 use Rattle.notes.proofs.Points.{noted_none, noted_next}
-use borrow.Author.Rules.{rules}
 use Rattle.notes.proofs.agreed_at.Goals as goal
 
 pub loop-j-init : goal.loop-j-init

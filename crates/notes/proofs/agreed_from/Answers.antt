@@ -4,7 +4,6 @@ use mathlib.Core.List.{List}
 use native.Mathlib.Omega.{arith}
 use Rattle.rules.specs.State.{noted_to}
 use Rattle.notes.proofs.Row.{ask_found, ask_none}
-use borrow.Author.Rules.{rules}
 use Rattle.notes.proofs.agreed_from.Goals as goal
 
 pub returns-then-count-i : goal.returns-then-count-i

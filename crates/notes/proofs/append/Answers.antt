@@ -3,7 +3,6 @@ use native.Mathlib.Omega.{arith}
 use lib.ListN.{length}
 use Rattle.notes.proofs.Notes.{inside}
 use Rattle.notes.proofs.Writes.{append_law}
-use borrow.Author.Rules.{rules}
 use Rattle.notes.proofs.append.Goals as goal
 
 pub put32-requires : goal.put32-requires

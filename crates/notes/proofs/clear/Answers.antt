@@ -1,5 +1,4 @@
 use Rattle.notes.proofs.Writes.{clear_law}
-use borrow.Author.Rules.{rules}
 use Rattle.notes.proofs.clear.Goals as goal
 
 pub returns : goal.returns

@@ -1,11 +1,10 @@
-use Prim.Native.Nat.{◌≤◌, ◌<◌, ◌+◌, ◌-◌}
-use mathlib.Core.Path.{◌≡◌, ◌∙◌}
+use Prim.Native.Nat.{◌<◌}
+use mathlib.Core.Path.{◌∙◌}
 use native.Mathlib.Omega.{arith}
-use lib.ListN.{length, drop}
-use Rattle.notes.specs.Notes.{notes_at, row}
+use lib.ListN.{length}
+use Rattle.notes.specs.Notes.{notes_at}
 use Rattle.notes.proofs.Notes.{inside, transaction_in}
 use Rattle.notes.proofs.Row.{row_start, row_pass, row_stop, row_end}
-use borrow.Author.Rules.{rules}
 use Rattle.notes.proofs.find.Goals as goal
 
 pub loop-i-init : goal.loop-i-init

@@ -1,11 +1,7 @@
-use Prim.Native.Nat.{◌≤◌, ◌<◌, ◌+◌, ◌-◌}
-use mathlib.Core.Path.{◌≡◌, ◌∙◌}
-use native.Mathlib.Omega.{arith}
-use lib.ListN.{length, drop}
+use Prim.Native.Nat.{◌≤◌, ◌+◌, ◌-◌}
+use mathlib.Core.Path.{◌≡◌}
+use lib.ListN.{drop}
 use Rattle.notes.specs.Notes.{notes_at, row}
-use Rattle.notes.proofs.Notes.{inside, transaction_in}
-use Rattle.notes.proofs.Row.{row_start, row_pass, row_stop, row_end}
-use borrow.Author.Rules.{rules}
 use Rattle.notes.proofs.find.Given as goal
 
 abbrev pub invariant-loop-i : goal.invariant-loop-i

@@ -5,7 +5,6 @@ use native.Mathlib.Omega.{arith}
 use Rattle.rules.specs.State.{greatest_to}
 use Rattle.notes.proofs.Points.{greatest_of_none}
 use Rattle.notes.proofs.Row.{ask_found, ask_none}
-use borrow.Author.Rules.{rules}
 use Rattle.notes.proofs.greatest.Goals as goal
 
 pub returns-then-count-i : goal.returns-then-count-i

@@ -1,11 +1,9 @@
-use Prim.Native.Nat.{ℕ, ◌≤◌, ◌+◌, ◌-◌, ◌*◌}
+use Prim.Native.Nat.{ℕ, ◌+◌, ◌*◌}
 use mathlib.Core.Path.{◌≡◌, ap, ◌∙◌}
 use native.Mathlib.Omega.{arith}
 use Rattle.rules.specs.State.{greatest_to}
-use Rattle.notes.specs.Notes.{notes_at, note_in}
 use Rattle.notes.proofs.Notes.{inside, point_in}
 use Rattle.notes.proofs.Points.{greatest_none, greatest_next}
-use borrow.Author.Rules.{rules}
 use Rattle.notes.proofs.greatest_at.Goals as goal
 
 pub loop-j-init : goal.loop-j-init

@@ -1,11 +1,7 @@
-use Prim.Native.Nat.{ℕ, ◌≤◌, ◌+◌, ◌-◌, ◌*◌}
-use mathlib.Core.Path.{◌≡◌, ap, ◌∙◌}
-use native.Mathlib.Omega.{arith}
+use Prim.Native.Nat.{◌≤◌, ◌-◌}
+use mathlib.Core.Path.{◌≡◌}
 use Rattle.rules.specs.State.{greatest_to}
 use Rattle.notes.specs.Notes.{notes_at, note_in}
-use Rattle.notes.proofs.Notes.{inside, point_in}
-use Rattle.notes.proofs.Points.{greatest_none, greatest_next}
-use borrow.Author.Rules.{rules}
 use Rattle.notes.proofs.greatest_at.Given as goal
 
 abbrev pub invariant-loop-j : goal.invariant-loop-j

@@ -3,7 +3,6 @@ use mathlib.Core.Path.{ap}
 use native.Mathlib.Omega.{arith}
 use Rattle.notes.proofs.Notes.{inside}
 use Rattle.notes.proofs.Writes.{hear_law}
-use borrow.Author.Rules.{rules}
 use Rattle.notes.proofs.hear.Goals as goal
 
 pub put_point-requires : goal.put_point-requires

@@ -1,5 +1,4 @@
 use Rattle.notes.proofs.Points.{heard_flag}
-use borrow.Author.Rules.{rules}
 use Rattle.notes.proofs.heard_at.Goals as goal
 
 pub returns : goal.returns

@@ -1,5 +1,4 @@
 use Rattle.notes.proofs.Points.{other_request, same_request}
-use borrow.Author.Rules.{rules}
 use Rattle.notes.proofs.is_of.Goals as goal
 
 pub returns-then-get32-request : goal.returns-then-get32-request

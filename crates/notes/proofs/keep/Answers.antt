@@ -4,7 +4,6 @@ use lib.ListN.{length}
 use Rattle.notes.specs.Notes.{notes_at}
 use Rattle.notes.proofs.Notes.{is_notes}
 use Rattle.notes.proofs.Writes.{keep_found, new_within, keep_new}
-use borrow.Author.Rules.{rules}
 use Rattle.notes.proofs.keep.Goals as goal
 
 pub hear-requires : goal.hear-requires

@@ -1,9 +1,8 @@
-use Prim.Native.Nat.{◌≤◌, ◌+◌, ◌-◌, ◌*◌}
-use mathlib.Core.Path.{◌≡◌, refl}
+use Prim.Native.Nat.{◌≤◌, ◌+◌, ◌*◌}
+use mathlib.Core.Path.{refl}
 use native.Mathlib.Omega.{arith}
 use lib.ListN.{length}
-use Rattle.notes.proofs.Tested.{good_points, heard_points, good_none, good_next, heard_none, heard_next, note_good}
-use borrow.Author.Rules.{rules}
+use Rattle.notes.proofs.Tested.{good_none, good_next, heard_none, heard_next, note_good}
 use Rattle.notes.proofs.note_good.Goals as goal
 
 pub loop-j-init : goal.loop-j-init

@@ -1,9 +1,6 @@
-use Prim.Native.Nat.{◌≤◌, ◌+◌, ◌-◌, ◌*◌}
-use mathlib.Core.Path.{◌≡◌, refl}
-use native.Mathlib.Omega.{arith}
-use lib.ListN.{length}
-use Rattle.notes.proofs.Tested.{good_points, heard_points, good_none, good_next, heard_none, heard_next, note_good}
-use borrow.Author.Rules.{rules}
+use Prim.Native.Nat.{◌≤◌, ◌+◌, ◌-◌}
+use mathlib.Core.Path.{◌≡◌}
+use Rattle.notes.proofs.Tested.{good_points, heard_points}
 use Rattle.notes.proofs.note_good.Given as goal
 
 abbrev pub invariant-loop-j : goal.invariant-loop-j

@@ -6,7 +6,6 @@ use mathlib.Core.Path.{refl}
 use mathlib.Core.Option.{none}
 use lib.ListN.{get_or}
 use Rattle.notes.proofs.Row.{ask_found, ask_none}
-use borrow.Author.Rules.{rules}
 use Rattle.notes.proofs.noted.Goals as goal
 
 pub returns-then-count-i : goal.returns-then-count-i

@@ -1,12 +1,10 @@
-use Prim.Native.Nat.{◌≤◌, ◌+◌, ◌-◌, ◌*◌}
-use mathlib.Core.Path.{◌≡◌}
+use Prim.Native.Nat.{◌≤◌, ◌+◌, ◌*◌}
 use native.Mathlib.Omega.{arith}
 use native.Mathlib.Nat.{mul-le-mul_left}
 use lib.ListN.{length}
 use Rattle.rules.specs.Image.{note_length}
 use Rattle.notes.proofs.Notes.{inside}
-use Rattle.notes.proofs.Tested.{good_notes, good_none, good_next, good_over, good_rest}
-use borrow.Author.Rules.{rules}
+use Rattle.notes.proofs.Tested.{good_none, good_next, good_over, good_rest}
 use Rattle.notes.proofs.notes_good.Goals as goal
 
 pub returns-then-c-n : goal.returns-then-c-n

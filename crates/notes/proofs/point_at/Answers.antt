@@ -1,5 +1,4 @@
 use Rattle.notes.proofs.Points.{not_heard, was_heard}
-use borrow.Author.Rules.{rules}
 use Rattle.notes.proofs.point_at.Goals as goal
 
 pub returns-then-get8-eq0 : goal.returns-then-get8-eq0

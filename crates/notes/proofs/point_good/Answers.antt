@@ -1,5 +1,4 @@
 use Rattle.notes.proofs.Tested.{unheard_good, heard_good}
-use borrow.Author.Rules.{rules}
 use Rattle.notes.proofs.point_good.Goals as goal
 
 pub returns-then-flag-eq0 : goal.returns-then-flag-eq0

@@ -1,5 +1,4 @@
 use Rattle.notes.proofs.Points.{put_stamp}
-use borrow.Author.Rules.{rules}
 use Rattle.notes.proofs.put_point.Goals as goal
 
 pub returns : goal.returns

@@ -1,6 +1,5 @@
 use borrow.Author.Tests.{not-true, not-false}
 use Rattle.notes.proofs.Points.{not_in_mask, in_mask_unheard, not_greater, greater}
-use borrow.Author.Rules.{rules}
 use Rattle.notes.proofs.raised.Goals as goal
 
 pub returns-then-not-held : goal.returns-then-not-held

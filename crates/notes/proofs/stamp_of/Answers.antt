@@ -2,7 +2,6 @@ use Prim.Native.Nat.{ℕ, ◌+◌, ◌*◌}
 use mathlib.Core.Path.{ap, ◌∙◌}
 use native.Mathlib.Omega.{arith}
 use Rattle.notes.proofs.Notes.{inside, point_in}
-use borrow.Author.Rules.{rules}
 use Rattle.notes.proofs.stamp_of.Goals as goal
 
 pub point_at-requires : goal.point_at-requires

@@ -1,10 +1,7 @@
-use Prim.Native.Nat.{◌≤◌, ◌-◌}
 use mathlib.Core.Path.{◌≡◌, ap, ◌∙◌}
-use mathlib.Core.List.{[]}
 use native.Mathlib.Omega.{arith}
 use Rattle.rules.specs.State.{noted_to}
 use Rattle.notes.proofs.Points.{noted_none, unmasked_next}
-use borrow.Author.Rules.{rules}
 use Rattle.notes.proofs.unmasked.Goals as goal
 
 pub loop-j-init : goal.loop-j-init
