@@ -1,0 +1,6 @@
+use Rattle.logs.proofs.Place.{fits_by}
+use borrow.Author.Rules.{rules}
+use Rattle.logs.proofs.entry_fits.Goals as goal
+
+pub returns : goal.returns
+returns c = fits_by _ _ _ c.some_of.ensures

@@ -1,0 +1,15 @@
+use Prim.Native.Nat.{◌≤◌, ◌-◌}
+use mathlib.Core.Path.{◌≡◌}
+use native.Mathlib.Omega.{arith}
+use Rattle.repeats.specs.Repeat.{first_to}
+use Rattle.repeats.proofs.Laws.{first_start, first_pass, first_stop, first_end}
+use Rattle.logs.specs.Place.{row_at, last_from, unfit_from}
+use Rattle.logs.proofs.Place.{unfit_row, from_start, from_next}
+use borrow.Author.Rules.{rules}
+use Rattle.logs.proofs.first_unfit.Given as goal
+
+abbrev pub invariant-loop-i : goal.invariant-loop-i
+invariant-loop-i l = (l.i ≤ l.count) × (l.lower ≡ last_from l.initial.lower (row_at l.b l.at) l.i) × (first_to (unfit_from l.s l.k l.j l.initial.lower (row_at l.b l.at)) l.i ≡ l.i)
+
+abbrev pub decreases-loop-i : goal.decreases-loop-i
+decreases-loop-i l = l.count - l.i

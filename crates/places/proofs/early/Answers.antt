@@ -1,0 +1,7 @@
+use native.Mathlib.Omega.{arith}
+use Rattle.places.proofs.Midway.{early_here, table_is}
+use borrow.Author.Rules.{rules}
+use Rattle.places.proofs.early.Goals as goal
+
+pub returns : goal.returns
+returns c = table_is (early_here c.requires _ _ c.places_of-layout.ensures.early c.places_of-layout.ensures.late)

@@ -1,0 +1,5 @@
+use borrow.Author.Rules.{rules}
+use Rattle.places.proofs.flag.Goals as goal
+
+pub returns : goal.returns
+returns c = rw c.get8.ensures

@@ -1,0 +1,6 @@
+use Rattle.places.proofs.Spots.{read_at}
+use borrow.Author.Rules.{rules}
+use Rattle.places.proofs.heard_point.Goals as goal
+
+pub returns : goal.returns
+returns c = read_at _ _ _ _ _ _ c.get64.ensures c.heard_place.ensures.at

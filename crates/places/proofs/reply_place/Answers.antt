@@ -1,0 +1,21 @@
+use Prim.Native.Nat.{◌+◌, ◌*◌}
+use native.Mathlib.Omega.{arith}
+use Rattle.rules.specs.Image.{reply_length}
+use Rattle.places.specs.Layout.{PlaceAt}
+use Rattle.places.proofs.Spots.{placed}
+use borrow.Author.Rules.{rules}
+use Rattle.places.proofs.reply_place.Goals as goal
+use Rattle.places.proofs.reply_place.Goals.{After-places_of-places}
+
+spot : (c : After-places_of-places) → PlaceAt c.args.shape 9 (reply_length c.args.shape.c) c.args.j (c.places_of-places.result.replies + c.places_of-places.result.reply * c.args.j)
+spot c =
+    placed c.args.shape 9 (reply_length c.args.shape.c) c.args.shape.s c.args.j c.places_of-places.result.replies c.places_of-places.result.reply c.places_of-places.ensures.replies c.places_of-places.ensures.reply (omega arith) c.requires.1
+
+pub overflow_mul-result : goal.overflow_mul-result
+overflow_mul-result c = omega (arith, (spot c.before).within, c.places_of-places.ensures.small)
+
+pub overflow_add-result : goal.overflow_add-result
+overflow_add-result c = omega (arith, (spot c.before.before).within, c.places_of-places.ensures.small)
+
+pub returns : goal.returns
+returns c = spot c.before.before
