@@ -1,0 +1,15 @@
+use Prim.Native.Nat.{◌≤◌, ◌-◌}
+use mathlib.Core.Path.{◌≡◌, ◌∙◌}
+use native.Mathlib.Omega.{arith}
+use lib.ListN.{length}
+use Rattle.rules.specs.Image.{table_at}
+use Rattle.repeats.proofs.Laws.{first_start}
+use Rattle.early.proofs.Leading.{Passed, due_stops, due_goes, due_ends}
+use borrow.Author.Rules.{rules}
+use Rattle.early.proofs.count_due.Given as goal
+
+abbrev pub invariant-loop-k : goal.invariant-loop-k
+invariant-loop-k l = (l.k ≤ l.n) × (l.n ≡ length (table_at l.c l.t 0)) × Passed l.time (table_at l.c l.t 0) l.k
+
+abbrev pub decreases-loop-k : goal.decreases-loop-k
+decreases-loop-k l = l.n - l.k

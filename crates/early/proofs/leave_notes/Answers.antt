@@ -1,0 +1,36 @@
+use Prim.Native.Nat.{◌≤◌, ◌-◌}
+use mathlib.Core.Path.{◌≡◌, refl, subst, ◌∙◌}
+use mathlib.Core.List.{List}
+use native.Mathlib.Omega.{arith}
+use lib.ListN.{length}
+use Rattle.rules.specs.State.{Note}
+use Rattle.notes.specs.Notes.{notes_at, NotesHold, Notes}
+use Rattle.early.specs.Listed.{listed_in, stays}
+use Rattle.early.proofs.Sifting.{Sifted, sift_start, sift_end}
+use Rattle.early.proofs.Noted.{notes_turn}
+use borrow.Author.Rules.{rules}
+use Rattle.early.proofs.leave_notes.Goals as goal
+
+pub count-n-requires : goal.count-n-requires
+count-n-requires c = omega (arith, c.requires.0.size)
+
+pub loop-i-init : goal.loop-i-init
+loop-i-init c = (omega arith, c.count-n.ensures ∙ c.requires.0.count, refl, c.requires.0, sift_start _ _)
+
+pub sift_note-kept-requires : goal.sift_note-kept-requires
+sift_note-kept-requires c = (c.loop-i.invariant.3, omega (arith, c.loop-i.invariant.4.long), c.loop-i.invariant.4.within, c.requires.1)
+
+pub overflow_add-i : goal.overflow_add-i
+overflow_add-i c = omega arith
+
+pub loop-i-smaller : goal.loop-i-smaller
+loop-i-smaller c = omega arith
+
+pub loop-i-preserved : goal.loop-i-preserved
+loop-i-preserved c = let l = c.loop-i in let k = c.sift_note-kept.ensures in let w = notes_turn _ _ l.i l.auto _ _ _ _ _ l.invariant.4 (omega arith) k.0 k.1 in (omega arith, l.invariant.1, search rules, w.0, w.1)
+
+pub truncate_notes-requires : goal.truncate_notes-requires
+truncate_notes-requires c = (c.loop-i.invariant.3, omega (arith, c.loop-i.invariant.4.long, c.loop-i.invariant.4.within))
+
+pub returns : goal.returns
+returns c = let l = c.loop-i in subst (λ (ds : List Note). NotesHold c.args.c c.args.s ds c.truncate_notes.new.t) (sift_end _ _ l.i l.auto _ l.invariant.4 (omega arith)) c.truncate_notes.ensures
