@@ -25,10 +25,10 @@ pub loop-i-smaller : goal.loop-i-smaller
 loop-i-smaller c = omega arith
 
 pub loop-i-preserved : goal.loop-i-preserved
-loop-i-preserved c = let l = c.loop-i in let k = c.sift-kept.ensures in let w = table_turn _ _ l.i l.auto _ _ _ _ l.invariant.4 (omega arith) k.0 k.1 in (omega arith, l.invariant.1, search rules, w.0, w.1)
+loop-i-preserved c = let l = c.loop-i in let k = c.sift-kept.ensures in let w = table_turn _ _ l.i l.kept _ _ _ _ l.invariant.4 (omega arith) k.0 k.1 in (omega arith, l.invariant.1, search rules, w.0, w.1)
 
 pub truncate-requires : goal.truncate-requires
 truncate-requires c = (c.loop-i.invariant.3, omega (arith, c.loop-i.invariant.4.long, c.loop-i.invariant.4.within))
 
 pub returns : goal.returns
-returns c = let l = c.loop-i in subst (λ (ds : List Entry). Holds c.args.c ds c.truncate.new.t) (sift_end _ _ l.i l.auto _ l.invariant.4 (omega arith)) c.truncate.ensures
+returns c = let l = c.loop-i in subst (λ (ds : List Entry). Holds c.args.c ds c.truncate.new.t) (sift_end _ _ l.i l.kept _ l.invariant.4 (omega arith)) c.truncate.ensures

@@ -27,10 +27,10 @@ pub loop-i-smaller : goal.loop-i-smaller
 loop-i-smaller c = omega arith
 
 pub loop-i-preserved : goal.loop-i-preserved
-loop-i-preserved c = let l = c.loop-i in let k = c.sift_note-kept.ensures in let w = notes_turn _ _ l.i l.auto _ _ _ _ _ l.invariant.4 (omega arith) k.0 k.1 in (omega arith, l.invariant.1, search rules, w.0, w.1)
+loop-i-preserved c = let l = c.loop-i in let k = c.sift_note-kept.ensures in let w = notes_turn _ _ l.i l.kept _ _ _ _ _ l.invariant.4 (omega arith) k.0 k.1 in (omega arith, l.invariant.1, search rules, w.0, w.1)
 
 pub truncate_notes-requires : goal.truncate_notes-requires
 truncate_notes-requires c = (c.loop-i.invariant.3, omega (arith, c.loop-i.invariant.4.long, c.loop-i.invariant.4.within))
 
 pub returns : goal.returns
-returns c = let l = c.loop-i in subst (λ (ds : List Note). NotesHold c.args.c c.args.s ds c.truncate_notes.new.t) (sift_end _ _ l.i l.auto _ l.invariant.4 (omega arith)) c.truncate_notes.ensures
+returns c = let l = c.loop-i in subst (λ (ds : List Note). NotesHold c.args.c c.args.s ds c.truncate_notes.new.t) (sift_end _ _ l.i l.kept _ l.invariant.4 (omega arith)) c.truncate_notes.ensures
