@@ -18,10 +18,10 @@ pub size_of-requires : goal.size_of-requires
 size_of-requires c = small c.args.n c.args.s c.args.m c.args.views.now c.args.entries.now c.args.out.now c.sizes_fit.result c.sizes_fit.ensures c.if-not-sizes_fit.false-raw c.parts_wrong-wrong.result c.parts_wrong-wrong.ensures.0 c.in-Fine.is c.parts_wrong-wrong.ensures.1
 
 pub returns-then-out-size_of : goal.returns-then-out-size_of
-returns-then-out-size_of c = no_room c.args.n c.args.s c.args.m c.args.views.now c.args.entries.now c.args.out.now c.sizes_fit.result c.sizes_fit.ensures c.if-not-sizes_fit.false-raw c.parts_wrong-wrong.result c.parts_wrong-wrong.ensures.0 c.in-Fine.is c.parts_wrong-wrong.ensures.1 (bytes_known c.args.views.now (λ i. (c.type_inv.views i).fits)) (bytes_known c.args.entries.now (λ i. (c.type_inv.entries i).fits)) c.type_size.result c.type_size.ensures c.if-out-size_of.true
+returns-then-out-size_of c = no_room c.args.n c.args.s c.args.m c.args.views.now c.args.entries.now c.args.out.now c.sizes_fit.result c.sizes_fit.ensures c.if-not-sizes_fit.false-raw c.parts_wrong-wrong.result c.parts_wrong-wrong.ensures.0 c.in-Fine.is c.parts_wrong-wrong.ensures.1 (bytes_known c.args.views.now (λ i. (c.type_inv.views i).fits)) (bytes_known c.args.entries.now (λ i. (c.type_inv.entries i).fits)) c.size_of.result c.size_of.ensures c.if-out-size_of.true
 
 pub put_message-end-requires : goal.put_message-end-requires
-put_message-end-requires c = room_for c.args.n c.args.s c.args.m c.args.views.now c.args.entries.now c.args.out.now c.sizes_fit.result c.sizes_fit.ensures c.if-not-sizes_fit.false-raw c.parts_wrong-wrong.result c.parts_wrong-wrong.ensures.0 c.in-Fine.is c.parts_wrong-wrong.ensures.1 c.type_size.result c.type_size.ensures c.if-out-size_of.false
+put_message-end-requires c = room_for c.args.n c.args.s c.args.m c.args.views.now c.args.entries.now c.args.out.now c.sizes_fit.result c.sizes_fit.ensures c.if-not-sizes_fit.false-raw c.parts_wrong-wrong.result c.parts_wrong-wrong.ensures.0 c.in-Fine.is c.parts_wrong-wrong.ensures.1 c.size_of.result c.size_of.ensures c.if-out-size_of.false
 
 pub returns : goal.returns
-returns c = all_done c.args.n c.args.s c.args.m c.args.views.now c.args.entries.now c.args.out.now c.sizes_fit.result c.sizes_fit.ensures c.if-not-sizes_fit.false-raw c.parts_wrong-wrong.result c.parts_wrong-wrong.ensures.0 c.in-Fine.is c.parts_wrong-wrong.ensures.1 (bytes_known c.args.views.now (λ i. (c.type_inv.views i).fits)) (bytes_known c.args.entries.now (λ i. (c.type_inv.entries i).fits)) c.type_size.result c.put_message-end.result _ c.type_size.ensures c.if-out-size_of.false c.put_message-end.ensures.0 c.put_message-end.ensures.1
+returns c = all_done c.args.n c.args.s c.args.m c.args.views.now c.args.entries.now c.args.out.now c.sizes_fit.result c.sizes_fit.ensures c.if-not-sizes_fit.false-raw c.parts_wrong-wrong.result c.parts_wrong-wrong.ensures.0 c.in-Fine.is c.parts_wrong-wrong.ensures.1 (bytes_known c.args.views.now (λ i. (c.type_inv.views i).fits)) (bytes_known c.args.entries.now (λ i. (c.type_inv.entries i).fits)) c.size_of.result c.put_message-end.result _ c.size_of.ensures c.if-out-size_of.false c.put_message-end.ensures.0 c.put_message-end.ensures.1

@@ -1,3 +1,4 @@
+use borrow.Enum.Refused.{opened}
 use mathlib.Core.Path.{sym, ap}
 use native.Mathlib.Omega.{arith}
 use lib.ListN.{length}
@@ -14,4 +15,4 @@ pub returns-in-Malformed : goal.returns-in-Malformed
 returns-in-Malformed c = (sym (ap answer_of c.in-Malformed.is), omega arith)
 
 pub returns-in_default : goal.returns-in_default
-returns-in_default c = (no_answer c.args.m (upwards 2 (length kinds)) c.in_default.keys3 tt tt, omega arith)
+returns-in_default c = (no_answer c.args.m (upwards 2 (length kinds)) (opened c.in_default.in_default-own.keys3) tt tt, omega arith)

@@ -58,4 +58,4 @@ unfolding case_at pick
 returns-in-23 c = search case_by
 
 pub returns-in_default : goal.returns-in_default
-returns-in_default c = no_case _ _ (none_of _ _ c.in_default.rest)
+returns-in_default c = no_case _ _ (none_of _ _ c.in_default.in_default-own.rest)

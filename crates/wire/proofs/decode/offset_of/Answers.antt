@@ -1,3 +1,4 @@
+use borrow.Enum.Refused.{opened}
 use mathlib.Core.Path.{sym, ap}
 use mathlib.Core.List.{◌∷◌}
 use lib.ListN.{length}
@@ -11,4 +12,4 @@ pub returns-in-Malformed : goal.returns-in-Malformed
 returns-in-Malformed c = sym (ap offset_in c.in-Malformed.is)
 
 pub returns-in_default : goal.returns-in_default
-returns-in_default c = no_offset c.args.m (0 ∷ upwards 2 (length kinds)) c.in_default.keys2 tt
+returns-in_default c = no_offset c.args.m (0 ∷ upwards 2 (length kinds)) (opened c.in_default.in_default-own.keys2) tt

@@ -1,0 +1,6 @@
+use Rattle.ballots.proofs.Counting.{counts_told}
+use borrow.Author.Rules.{rules}
+use Rattle.ballots.proofs.counted.Goals as goal
+
+pub returns : goal.returns
+returns c = λ msg. counts_told _ _ _ (c.ballot_of-ballot.ensures msg)

@@ -1,0 +1,6 @@
+use Rattle.good.proofs.Heads.{heard_is}
+use borrow.Author.Rules.{rules}
+use Rattle.good.proofs.heard_good.Goals as goal
+
+pub returns : goal.returns
+returns c = heard_is _ _ c.requires.sized.size _ _ _ _ _ _ c.places_of.ensures.log c.count_at-count.ensures c.get_status-status.ensures c.get_sync-sync.ensures c.leads-leading.ensures c.heard_within-within.ensures

@@ -1,0 +1,22 @@
+use Prim.Native.Nat.{◌-◌, ◌≤◌}
+use mathlib.Core.Path.{◌≡◌}
+use mathlib.Core.Bool.{◌&&◌, ◌||◌, not}
+use native.Mathlib.Omega.{arith}
+use lib.Dec.{leb}
+use Rattle.octets.specs.Bytes.{items}
+use Rattle.rules.specs.Choice.{every, passes}
+use Rattle.rules.specs.Image.{point_at, at_heard}
+use Rattle.places.specs.Layout.{start_of}
+use Rattle.good.proofs.Tables.{row_none}
+use Rattle.good.proofs.Heads.{heard_turn, points_form, form_none, form_turn, points_end}
+use borrow.Author.Rules.{rules}
+use Rattle.good.proofs.heard_within.Goals as goal
+
+pub loop-i-init : goal.loop-i-init
+loop-i-init c = (omega arith, form_none _ _, row_none _ _ _ _)
+
+pub loop-i-preserved : goal.loop-i-preserved
+loop-i-preserved c = (omega arith, form_turn _ _ _ c.loop-i.i _ _ c.places_of-at.ensures.heard (omega arith) c.loop-i.invariant.1 c.point_form-formed.ensures, heard_turn _ _ c.loop-i.i c.args.most _ c.args.asked c.args.leading _ _ c.loop-i.invariant.2 c.heard_point-point.ensures c.heard_flag.ensures)
+
+pub returns : goal.returns
+returns c = points_end _ _ c.args.asked c.args.leading c.args.most c.loop-i.i _ _ _ c.loop-i.invariant.0 c.loop-i-test.false c.loop-i.invariant.1 c.loop-i.invariant.2

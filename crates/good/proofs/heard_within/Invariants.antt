@@ -1,0 +1,19 @@
+use Prim.Native.Nat.{◌-◌, ◌≤◌}
+use mathlib.Core.Path.{◌≡◌}
+use mathlib.Core.Bool.{◌&&◌, ◌||◌, not}
+use native.Mathlib.Omega.{arith}
+use lib.Dec.{leb}
+use Rattle.octets.specs.Bytes.{items}
+use Rattle.rules.specs.Choice.{every, passes}
+use Rattle.rules.specs.Image.{point_at, at_heard}
+use Rattle.places.specs.Layout.{start_of}
+use Rattle.good.proofs.Tables.{row_none}
+use Rattle.good.proofs.Heads.{heard_turn, points_form, form_none, form_turn, points_end}
+use borrow.Author.Rules.{rules}
+use Rattle.good.proofs.heard_within.Given as goal
+
+abbrev pub invariant-loop-i : goal.invariant-loop-i
+invariant-loop-i l = (l.i ≤ l.shape.n) × (l.formed ≡ points_form l.state (start_of l.shape at_heard) l.i) × (l.within ≡ every (passes (λ p. not l.asked || (l.leading && leb p l.most))) (items (point_at l.state) 9 (start_of l.shape at_heard) l.i))
+
+abbrev pub decreases-loop-i : goal.decreases-loop-i
+decreases-loop-i l = l.shape.n - l.i

@@ -1,0 +1,18 @@
+use Prim.Native.Nat.{◌-◌, ◌≤◌}
+use mathlib.Core.Path.{◌≡◌, refl}
+use lib.ListN.{length}
+use native.Mathlib.Omega.{arith}
+use Rattle.octets.specs.Bytes.{items}
+use Rattle.rules.specs.Choice.{every, passes}
+use Rattle.rules.specs.State.{vote_good}
+use Rattle.rules.specs.Image.{vote_length, vote_at, state_of, at_votes}
+use Rattle.places.specs.Layout.{start_of}
+use Rattle.good.proofs.Tables.{row_none, row_next, row_end}
+use borrow.Author.Rules.{rules}
+use Rattle.good.proofs.votes_good.Given as goal
+
+abbrev pub invariant-loop-r : goal.invariant-loop-r
+invariant-loop-r l = (l.r ≤ l.shape.n) × (l.fine ≡ every (passes (vote_good l.shape (state_of l.shape l.state))) (items (vote_at l.shape.c l.state) (vote_length l.shape.c) (start_of l.shape at_votes) l.r)) × (length l.slots ≡ length l.initial.slots)
+
+abbrev pub decreases-loop-r : goal.decreases-loop-r
+decreases-loop-r l = l.shape.n - l.r

@@ -1,0 +1,15 @@
+use Prim.Native.Nat.{ℕ, ◌<◌, ◌≤◌, ◌-◌}
+use mathlib.Core.Path.{◌≡◌, refl}
+use native.Mathlib.Omega.{arith}
+use Rattle.rules.specs.Rebuild.{holders}
+use Rattle.ballots.specs.Ballots.{votes_in}
+use Rattle.rebuild.specs.Rebuild.{lower}
+use Rattle.ballots.proofs.Votes.{votes_long}
+use Rattle.rebuild.proofs.Holders.{holders_start, holders_same, held_here, held_nowhere}
+use Rattle.rebuild.proofs.held_below.Given as goal
+
+abbrev pub invariant-loop-r : goal.invariant-loop-r
+invariant-loop-r l = (l.r ≤ l.end) × (0 ≡ holders (lower l.count.top (votes_in l.shape l.state l.message l.count.cast) l.r) l.e)
+
+abbrev pub decreases-loop-r : goal.decreases-loop-r
+decreases-loop-r l = l.end - l.r

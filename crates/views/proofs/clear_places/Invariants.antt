@@ -1,0 +1,15 @@
+use Prim.Native.Nat.{◌+◌, ◌-◌, ◌*◌, ◌≤◌}
+use mathlib.Core.Path.{◌≡◌, refl}
+use native.Mathlib.Omega.{arith}
+use lib.ListN.{length, replicate}
+use Rattle.octets.specs.Bytes.{splice}
+use Rattle.places.proofs.Rows.{within}
+use Rattle.views.proofs.Cleared.{none_cleared, kept_still, places_turn, places_done}
+use borrow.Author.Rules.{rules}
+use Rattle.views.proofs.clear_places.Given as goal
+
+abbrev pub invariant-loop-i : goal.invariant-loop-i
+invariant-loop-i l = (l.i ≤ l.n) × (length l.state ≡ length l.initial.state) × (l.state ≡ splice l.initial.state l.at (replicate (l.size * l.i) 0))
+
+abbrev pub decreases-loop-i : goal.decreases-loop-i
+decreases-loop-i l = l.n - l.i
