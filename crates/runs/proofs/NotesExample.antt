@@ -10,7 +10,7 @@ use Rattle.rules.specs.Wire.{Wire}
 use Rattle.rules.specs.State.{State, fresh, stamps_of, noted_to, greatest_to}
 use Rattle.rules.specs.Log.{leader_stamp}
 use Rattle.rules.specs.Early.{lifted, keep_note}
-use Rattle.rules.specs.Step.{sends, view_right, countersRight, status_right, role_right, leader_takes, leader_releases, on_transaction, on_note, on_tick, handle, step}
+use Rattle.rules.specs.Step.{sends, view_right, status_right, role_right, leader_takes, leader_releases, on_transaction, on_note, on_tick, handle, step}
 use Rattle.rules.specs.declared.Entry.{Entry}
 use Rattle.rules.specs.declared.Shape.{Shape}
 use Rattle.rules.proofs.Unordered.{goes}
@@ -46,17 +46,17 @@ heard_of coordinator = due_at_nine 2 ∷ due_at_nine 5 ∷ noted_at_nine coordin
 
 -- early is the same whichever note was heard
 pub same_early : (after (heard_of 2)).waiting.early ≡ (after (heard_of 5)).waiting.early
-unfolding goes pick below same any keep before place place_all last_before row_of sends view_right countersRight status_right role_right leader_stamp leader_takes on_transaction on_note keep_note lifted stamps_of noted_to greatest_to handle step
+unfolding goes pick below same any keep before place place_all last_before row_of sends view_right status_right role_right leader_stamp leader_takes on_transaction on_note keep_note lifted stamps_of noted_to greatest_to handle step
 same_early = refl
 
 -- but the tick releases the first entry by the one
 pub one_goes : coordinators (after (heard_of 2 ++ (tick ∷ []))).logged.log ≡ 2 ∷ []
-unfolding goes pick below same any keep leading before place place_all last_before row_of sends view_right countersRight status_right role_right leader_stamp leader_takes leader_releases on_transaction on_note on_tick keep_note lifted stamps_of noted_to greatest_to handle step
+unfolding goes pick below same any keep leading before place place_all last_before row_of sends view_right status_right role_right leader_stamp leader_takes leader_releases on_transaction on_note on_tick keep_note lifted stamps_of noted_to greatest_to handle step
 one_goes = refl
 
 -- and none by the other
 pub none_goes : coordinators (after (heard_of 5 ++ (tick ∷ []))).logged.log ≡ []
-unfolding goes pick below same any keep leading before place place_all last_before row_of sends view_right countersRight status_right role_right leader_stamp leader_takes leader_releases on_transaction on_note on_tick keep_note lifted stamps_of noted_to greatest_to handle step
+unfolding goes pick below same any keep leading before place place_all last_before row_of sends view_right status_right role_right leader_stamp leader_takes leader_releases on_transaction on_note on_tick keep_note lifted stamps_of noted_to greatest_to handle step
 none_goes = refl
 
 -- and the notes stand in the order in which they came, whatever early's is
@@ -64,13 +64,13 @@ abbrev noting : List Wire → List ℕ
 noting ws = map (λ x. x.coordinator) (after ws).waiting.notes
 
 pub early_either_way : (after (due_at_nine 2 ∷ due_at_nine 5 ∷ [])).waiting.early ≡ (after (due_at_nine 5 ∷ due_at_nine 2 ∷ [])).waiting.early
-unfolding goes pick below same any keep before place place_all last_before row_of sends view_right countersRight status_right role_right leader_stamp leader_takes on_transaction keep_note lifted stamps_of noted_to greatest_to handle step
+unfolding goes pick below same any keep before place place_all last_before row_of sends view_right status_right role_right leader_stamp leader_takes on_transaction keep_note lifted stamps_of noted_to greatest_to handle step
 early_either_way = refl
 
 pub noted_as_they_came : noting (due_at_nine 2 ∷ due_at_nine 5 ∷ []) ≡ 2 ∷ 5 ∷ []
-unfolding goes pick below same any keep before place place_all last_before row_of sends view_right countersRight status_right role_right leader_stamp leader_takes on_transaction keep_note lifted stamps_of noted_to greatest_to handle step
+unfolding goes pick below same any keep before place place_all last_before row_of sends view_right status_right role_right leader_stamp leader_takes on_transaction keep_note lifted stamps_of noted_to greatest_to handle step
 noted_as_they_came = refl
 
 pub noted_the_other_way : noting (due_at_nine 5 ∷ due_at_nine 2 ∷ []) ≡ 5 ∷ 2 ∷ []
-unfolding goes pick below same any keep before place place_all last_before row_of sends view_right countersRight status_right role_right leader_stamp leader_takes on_transaction keep_note lifted stamps_of noted_to greatest_to handle step
+unfolding goes pick below same any keep before place place_all last_before row_of sends view_right status_right role_right leader_stamp leader_takes on_transaction keep_note lifted stamps_of noted_to greatest_to handle step
 noted_the_other_way = refl

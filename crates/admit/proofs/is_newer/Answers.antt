@@ -1,0 +1,6 @@
+use Rattle.admit.proofs.Ways.{newer_is}
+use borrow.Author.Rules.{rules}
+use Rattle.admit.proofs.is_newer.Goals as goal
+
+pub returns : goal.returns
+returns c = search newer_is

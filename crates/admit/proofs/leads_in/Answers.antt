@@ -1,0 +1,5 @@
+use borrow.Author.Rules.{rules}
+use Rattle.admit.proofs.leads_in.Goals as goal
+
+pub returns : goal.returns
+returns c = cc

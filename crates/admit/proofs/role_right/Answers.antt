@@ -1,0 +1,6 @@
+use Rattle.admit.proofs.Ways.{roles_are}
+use borrow.Author.Rules.{rules}
+use Rattle.admit.proofs.role_right.Goals as goal
+
+pub returns : goal.returns
+returns c = search roles_are

@@ -1,0 +1,16 @@
+use Prim.Native.Nat.{ℕ, ◌≤◌, ◌-◌}
+use mathlib.Core.Path.{◌≡◌, ◌∙◌, ap}
+use mathlib.Core.Bool.{Bool}
+use mathlib.Core.List.{List}
+use native.Mathlib.Omega.{arith}
+use Rattle.octets.specs.Bytes.{num, items}
+use Rattle.rules.specs.Choice.{same}
+use Rattle.admit.proofs.Ways.{views_next, views_none, views_in}
+use borrow.Author.Rules.{rules}
+use Rattle.admit.proofs.same_views.Given as goal
+
+abbrev pub invariant-loop-j : goal.invariant-loop-j
+invariant-loop-j l = (l.j ≤ l.shape.s) × (l.all ≡ same (items (λ a. num l.message a 4) 4 16 l.j) (items (λ a. num l.state a 4) 4 48 l.j))
+
+abbrev pub decreases-loop-j : goal.decreases-loop-j
+decreases-loop-j l = l.shape.s - l.j

@@ -1,0 +1,15 @@
+use Prim.Native.Nat.{◌≤◌, ◌-◌}
+use native.Mathlib.Omega.{arith}
+use Rattle.rules.specs.State.{agreed}
+use Rattle.rules.specs.Image.{table_at}
+use Rattle.repeats.proofs.Laws.{first_start}
+use Rattle.notes.specs.Notes.{sized, notes_at}
+use Rattle.releases.proofs.Run.{Passed, run_stops, run_goes, run_ends}
+use borrow.Author.Rules.{rules}
+use Rattle.releases.proofs.run_of.Given as goal
+
+abbrev pub invariant-loop-i : goal.invariant-loop-i
+invariant-loop-i l = (l.i ≤ l.due) × Passed (agreed (sized l.c l.s) (notes_at l.c l.s l.notes)) l.due (table_at l.c l.early 0) l.i
+
+abbrev pub decreases-loop-i : goal.decreases-loop-i
+decreases-loop-i l = l.due - l.i

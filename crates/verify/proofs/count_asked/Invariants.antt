@@ -1,0 +1,15 @@
+use Prim.Native.Nat.{◌-◌, ◌/◌, ◌≤◌}
+use mathlib.Core.Path.{◌≡◌, refl, sym, ap, ◌∙◌}
+use mathlib.Core.Logic.{⊎_elim}
+use native.Mathlib.Omega.{arith}
+use lib.ListN.{length}
+use Rattle.verify.specs.Asked.{asked_to}
+use Rattle.verify.proofs.Asked.{counted_none, counted_more, counted_same}
+use borrow.Author.Rules.{rules}
+use Rattle.verify.proofs.count_asked.Given as goal
+
+abbrev pub invariant-loop-i : goal.invariant-loop-i
+invariant-loop-i l = (l.i ≤ l.n) × (l.asked ≤ l.i) × (l.asked ≡ length (asked_to l.boundary l.asker l.t l.i)) × (l.n ≡ length l.t / 24)
+
+abbrev pub decreases-loop-i : goal.decreases-loop-i
+decreases-loop-i l = l.n - l.i

@@ -1,0 +1,5 @@
+use borrow.Author.Rules.{rules}
+use Rattle.verify.proofs.is_asked.Goals as goal
+
+pub returns : goal.returns
+returns c = rw c.holds.ensures
