@@ -17,7 +17,7 @@ pub overflow_add-end : goal.overflow_add-end
 overflow_add-end c = let l = c.loop-i in let r : l.end + 24 ≤ length l.out = gathered_room _ _ _ _ _ _ _ _ _ l.invariant.1 (search rules) c.requires _ c.entry_at-e.ensures (sym c.is_asked.ensures ∙ c.if-is_asked.true) in search rules
 
 pub loop-i-preserved : goal.loop-i-preserved
-loop-i-preserved c = let l = c.loop-i in (refl, elim c.if-is_asked.branch [ then-is_asked w ↦ gathered_next _ _ _ _ _ _ _ _ _ l.invariant.1 (search rules) c.requires _ c.entry_at-e.ensures (sym c.is_asked.ensures ∙ w.if-is_asked.true) _ _ w.6 (w.5 ∙ w.2.ensures) | else-is_asked w ↦ rw (w.WHAT-is, w.2) (gathered_skip _ _ _ _ _ _ _ _ _ l.invariant.1 (search rules) (sym (rw c.entry_at-e.ensures at c.is_asked.ensures) ∙ w.if-is_asked.false)) ])
+loop-i-preserved c = let l = c.loop-i in (refl, elim c.if-is_asked.branch [ then-is_asked w ↦ gathered_next _ _ _ _ _ _ _ _ _ l.invariant.1 (search rules) c.requires _ c.entry_at-e.ensures (sym c.is_asked.ensures ∙ w.if-is_asked.true) _ _ w.end-is (w.out-is ∙ w.put_entry.ensures) | else-is_asked w ↦ rw (w.out-is, w.end-is) (gathered_skip _ _ _ _ _ _ _ _ _ l.invariant.1 (search rules) (sym (rw c.entry_at-e.ensures at c.is_asked.ensures) ∙ w.if-is_asked.false)) ])
 
 pub returns : goal.returns
 returns c = gathered_all _ _ _ _ _ _ _ _ _ c.loop-i.invariant.1 (search rules)

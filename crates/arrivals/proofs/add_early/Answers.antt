@@ -1,0 +1,27 @@
+use native.Mathlib.Omega.{arith}
+use mathlib.Core.Path.{refl}
+use mathlib.Core.List.{List}
+use Rattle.rules.specs.Entry.{place}
+use Rattle.rules.specs.declared.Entry.{Entry}
+use Rattle.entries.proofs.Table.{decoded, is_table, and_then}
+use Rattle.places.proofs.Midway.{early_here, early_comes}
+use borrow.Author.Rules.{rules}
+use Rattle.arrivals.proofs.add_early.Goals as goal
+
+pub places_of-layout-requires : goal.places_of-layout-requires
+places_of-layout-requires c = c.requires.0.fits
+
+pub slice_bounds-put-count : goal.slice_bounds-put-count
+slice_bounds-put-count c = omega arith
+
+pub slice_bounds-put-start : goal.slice_bounds-put-start
+slice_bounds-put-start c = omega arith
+
+pub slice_bounds-put-end : goal.slice_bounds-put-end
+slice_bounds-put-end c = omega arith
+
+pub put-requires : goal.put-requires
+put-requires c = let h = early_here c.requires.0 _ _ c.places_of-layout.ensures.early c.places_of-layout.ensures.late in (is_table _ _ _ h, rw (decoded _ _ _ h) c.requires.1, rw (decoded _ _ _ h) c.requires.2)
+
+pub returns : goal.returns
+returns c = let h = early_here c.requires.0 _ _ c.places_of-layout.ensures.early c.places_of-layout.ensures.late in early_comes c.requires.0 _ _ _ (and_then _ _ _ h (λ (es : List Entry). place c.args.e es) _ c.put.ensures) c.places_of-layout.ensures.early c.places_of-layout.ensures.late refl

@@ -1,0 +1,26 @@
+use native.Mathlib.Omega.{arith}
+use mathlib.Core.Path.{refl}
+use mathlib.Core.List.{List, [], ◌∷◌, ◌++◌}
+use Rattle.rules.specs.declared.Entry.{Entry}
+use Rattle.entries.proofs.Table.{decoded, is_table, and_then}
+use Rattle.places.proofs.Midway.{late_here, late_comes}
+use borrow.Author.Rules.{rules}
+use Rattle.arrivals.proofs.add_late.Goals as goal
+
+pub places_of-layout-requires : goal.places_of-layout-requires
+places_of-layout-requires c = c.requires.0.fits
+
+pub slice_bounds-append-count : goal.slice_bounds-append-count
+slice_bounds-append-count c = omega arith
+
+pub slice_bounds-append-start : goal.slice_bounds-append-start
+slice_bounds-append-start c = omega arith
+
+pub slice_bounds-append-end : goal.slice_bounds-append-end
+slice_bounds-append-end c = omega arith
+
+pub append-requires : goal.append-requires
+append-requires c = let h = late_here c.requires.0 _ _ c.places_of-layout.ensures.late c.places_of-layout.ensures.notes in (is_table _ _ _ h, rw (decoded _ _ _ h) c.requires.1)
+
+pub returns : goal.returns
+returns c = let h = late_here c.requires.0 _ _ c.places_of-layout.ensures.late c.places_of-layout.ensures.notes in late_comes c.requires.0 _ _ _ (and_then _ _ _ h (λ (es : List Entry). es ++ (c.args.e ∷ [])) _ c.append.ensures) c.places_of-layout.ensures.late c.places_of-layout.ensures.notes refl

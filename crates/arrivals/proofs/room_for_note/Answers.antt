@@ -1,0 +1,14 @@
+use mathlib.Core.Path.{ap, ◌∙◌}
+use mathlib.Core.List.{List}
+use Prim.Native.Nat.{ℕ}
+use lib.Dec.{ltb}
+use Rattle.rules.specs.State.{Note}
+use Rattle.notes.specs.Notes.{row}
+use borrow.Author.Rules.{rules}
+use Rattle.arrivals.proofs.room_for_note.Goals as goal
+
+pub find-requires : goal.find-requires
+find-requires c = c.notes.ensures.0
+
+pub returns : goal.returns
+returns c = ap (λ (i : ℕ). ltb i c.args.shape.c) (c.find.ensures ∙ ap (λ (xs : List Note). row c.args.e.request c.args.e.coordinator xs) c.notes.ensures.1)

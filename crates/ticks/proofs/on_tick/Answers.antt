@@ -1,0 +1,27 @@
+use borrow.Enum.Refused.{opened}
+use mathlib.Core.Path.{refl}
+use Rattle.rules.specs.Step.{on_tick}
+use Rattle.handler.proofs.Closes.{handled_other}
+use Rattle.handler.proofs.OtherKind.{not_tag}
+use Rattle.releases.proofs.Way.{on_way}
+use Rattle.ticks.proofs.Tick.{too_early, led, followed}
+use borrow.Author.Rules.{rules}
+use Rattle.ticks.proofs.on_tick.Goals as goal
+
+pub returns-in_default : goal.returns-in_default
+returns-in_default c = handled_other 23 on_tick _ _ _ _ _ (not_tag 23 c.args.m refl (opened c.in_default.in_default-own.keys2) tt)
+
+pub returns-then-time-get_clock : goal.returns-then-time-get_clock
+returns-then-time-get_clock c = too_early _ _ _ _ _ _ _ c.requires c.in-Tick.is _ c.get_clock.ensures c.if-time-get_clock.true
+
+pub leader_releases-requires : goal.leader_releases-requires
+leader_releases-requires c = on_way c.requires.stands
+
+pub returns-then-leads : goal.returns-then-leads
+returns-then-leads c = led _ _ _ _ _ _ _ c.requires c.in-Tick.is _ c.get_clock.ensures c.if-time-get_clock.false _ c.leads.ensures c.if-leads.true _ c.leader_releases.ensures
+
+pub follower_releases-requires : goal.follower_releases-requires
+follower_releases-requires c = on_way c.requires.stands
+
+pub returns : goal.returns
+returns c = followed _ _ _ _ _ _ _ c.requires c.in-Tick.is _ c.get_clock.ensures c.if-time-get_clock.false _ c.leads.ensures c.if-leads.false _ c.follower_releases.ensures
