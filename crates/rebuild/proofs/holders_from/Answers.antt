@@ -26,7 +26,7 @@ pub loop-r-smaller : goal.loop-r-smaller
 loop-r-smaller c = omega arith
 
 pub loop-r-preserved : goal.loop-r-preserved
-loop-r-preserved c = elim c.if-holds_at.branch [ then-holds_at w ↦ (omega arith, omega arith, holders_more _ _ c.args.e _ _ _ _ c.args.shape.n (votes_long _ _ _ _ c.requires.0.given.sent) c.loop-r-test.true c.loop-r.invariant.2 _ c.holds_at.ensures w.if-holds_at.true w.WHAT-is) | else-holds_at w ↦ (omega arith, omega arith, holders_same _ _ c.args.e _ _ _ _ c.args.shape.n (votes_long _ _ _ _ c.requires.0.given.sent) c.loop-r-test.true c.loop-r.invariant.2 _ c.holds_at.ensures w.if-holds_at.false w.WHAT-is) ]
+loop-r-preserved c = elim c.if-holds_at.branch [ then-holds_at w ↦ (omega arith, omega arith, holders_more _ _ c.args.e _ _ _ _ c.args.shape.n (votes_long _ _ _ _ c.requires.0.given.sent) c.loop-r-test.true c.loop-r.invariant.2 _ c.holds_at.ensures w.if-holds_at.true w.sum-is) | else-holds_at w ↦ (omega arith, omega arith, holders_same _ _ c.args.e _ _ _ _ c.args.shape.n (votes_long _ _ _ _ c.requires.0.given.sent) c.loop-r-test.true c.loop-r.invariant.2 _ c.holds_at.ensures w.if-holds_at.false w.sum-is) ]
 
 pub returns : goal.returns
 returns c = holders_end _ _ c.args.e _ _ _ c.loop-r.invariant.0 c.loop-r-test.false c.loop-r.invariant.2

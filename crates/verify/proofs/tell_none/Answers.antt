@@ -11,4 +11,4 @@ pub tell-requires : goal.tell-requires
 tell-requires c = (c.requires.0, refl, omega arith, omega arith)
 
 pub returns : goal.returns
-returns c = let a = c.args in let e : c.headed-h.result ≡ headed_in a.state.now 19 a.to-group (only a.to) = c.headed-h.ensures ∙ rw c.only-mask.ensures in let t = rw e at c.tell.ensures in (none_ends a.shape a.state.now _ _ c.requires.0 (bytes_known a.state.now (λ i. (c.type_inv.state i).fits)) t.0, t.1)
+returns c = let a = c.args in let e : c.headed-h.result ≡ headed_in a.state.now 19 a.to_group (only a.to) = c.headed-h.ensures ∙ rw c.only-mask.ensures in let t = rw e at c.tell.ensures in (none_ends a.shape a.state.now _ _ c.requires.0 (bytes_known a.state.now (λ i. (c.type_inv.state i).fits)) t.0, t.1)
