@@ -1,0 +1,6 @@
+use Rattle.rooms.proofs.Ordering.{wrong_length}
+use borrow.Author.Rules.{rules}
+use Rattle.rooms.proofs.orderable.Goals as goal
+
+pub returns-then-not-has_length : goal.returns-then-not-has_length
+returns-then-not-has_length c = search wrong_length
