@@ -1,5 +1,5 @@
-//! Links the core: the archive that `rt staticlib replica` writes, the archive or object that JALLUMERE_CORE names, or the
-//! C model where JALLUMERE_CORE is `model`.
+//! Links the core: the archive that `./jallumere` builds of the crate `replica_c`, the archive or object that JALLUMERE_CORE
+//! names, or the C model where JALLUMERE_CORE is `model`.
 //!
 //! Checking and documenting need no core, and a build script cannot tell them from building. So where there is none it
 //! warns and goes on; the functions then have names that tell the linker's user what is missing (src/raw.rs).
@@ -61,8 +61,8 @@ fn find_core(root: &Path) -> Option<PathBuf> {
     let path = root.join("target/staticlib/libreplica.a");
     println!("cargo:rerun-if-changed={}", path.display());
     if !path.is_file() {
-        let words = "missing: target/staticlib/libreplica.a; build it by 'rt staticlib replica' at the repository's root, \
-                     or name another archive in JALLUMERE_CORE";
+        let words = "missing: target/staticlib/libreplica.a; build it by './jallumere simulate' at the repository's root, or as \
+                     docs/HOSTS.md says, or name another archive in JALLUMERE_CORE";
         go_without("missing", words);
         return None;
     }

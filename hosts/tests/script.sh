@@ -16,29 +16,27 @@ make_rt() {
     cp "$(command -v sleep)" "$room/bin/rattle"
     cat >"$room/bin/rt" <<'END'
 #!/usr/bin/env bash
-# Proves a crate by sleeping; says what rt says.
+# Proves the crate in whose folder it is by sleeping, if its files or those below have changed; says what rt says.
 room=$(dirname "$(dirname "$0")")
 [ "$1" != version ] || { cat "$room/tree/KIT"; exit; }
-echo "rt $*" >>"$room/calls"
-[ "$1" != ci ] || { "$room/bin/rattle" "$(cat "$room/pause")"; echo "3 passed, 0 failed"; exit; }
-[ ! -e "$room/broken" ] || { echo "rt: octets NOT PROVED (exit 1, 0 s)"; exit 1; }
-mkdir -p target/stamp target/staticlib target/bin
-below='group places' seen=''
-[ "$2" != replay ] || below="$below replica replay"
-for crate in $below; do
-    stamp=$(cat crates/$crate/src/*.rt $seen | sha256sum)
-    seen="$seen target/stamp/$crate"
-    if [ "$(cat target/stamp/$crate 2>/dev/null)" = "$stamp" ]; then
-        echo "rt: $crate proved (unchanged since it was last proved)"
-        continue
-    fi
+crate=${PWD##*/}
+echo "rt $* $crate" >>"$room/calls"
+[ "$1" != ci ] || { "$room/bin/rattle" "$(cat "$room/pause")"; cat "$room/gate"; exit; }
+[ ! -e "$room/broken" ] || { echo "error: no proof is found"; exit 1; }
+mkdir -p out
+stamp=$(for below in $(sed -n "s/^$crate[^:]*://p" ../../crates.txt); do cat "../$below/out/stamp"; done | cat - src/*.rt | sha256sum)
+if [ "$(cat out/stamp 2>/dev/null)" != "$stamp" ]; then
     "$room/bin/rattle" "$(cat "$room/pause")" || exit 2
-    echo "$stamp" >target/stamp/$crate
-    echo "rt: $crate proved (1 s)"
-done
-printf '#!/bin/sh\nls traces.bin\necho "9098 steps, 0 differences"\n' >target/bin/replay
-chmod +x target/bin/replay
-[ "$1" != staticlib ] || "$room/bin/rattle" "$(cat "$room/pause")" && cp "$room/model.a" target/staticlib/libreplica.a
+    echo "$stamp" >out/stamp
+    printf 'fn %s::%s: proved\nlogic=proved functions=1\n' "$crate" "$crate"
+fi
+case $crate in
+replica_c) echo "logic=proved functions=1" && cp "$room/model.a" out/libreplica_c.a ;;
+replay)
+    printf '#!/bin/sh\nls traces.bin && echo "9098 steps, 0 differences"\n' >out/replay
+    chmod +x out/replay && echo "$stamp" >out/replay.stamp && echo "rt: running out/replay" && out/replay
+    ;;
+esac
 END
     chmod +x "$room/bin/rt"
     gcc -O0 -I "$tree/include" -I "$tree/hosts/common" -Djallumere_is_model=of_the_model -c -o "$room/model.o" "$tree/hosts/model/core.c"
@@ -77,17 +75,20 @@ fresh_tree() {
     rm -rf "$room/tree" "$room/broken"
     mkdir -p "$room/tree/crates"
     cp -R "$tree/jallumere" "$tree/hosts" "$tree/include" "$tree/KIT" "$tree/.ci" "$room/tree"
-    echo 'group:
+    echo '# the crates
+group:
 places: group
 replica: group places
+replica_c staticlib: replica
 replay: replica' >"$room/tree/crates.txt"
-    for crate in group places replica replay; do
+    for crate in group places replica replica_c replay; do
         mkdir -p "$room/tree/crates/$crate/src" "$room/tree/crates/$crate/data"
         echo "fn $crate() {}" >"$room/tree/crates/$crate/src/lib.rt"
     done
     : >"$room/tree/crates/replay/data/traces.bin"
     : >"$room/calls"
     echo 0.1 >"$room/pause"
+    echo '3 passed, 0 failed' >"$room/gate"
     cd "$room" || exit 2
 }
 
@@ -211,11 +212,11 @@ test_first_command() {
     check "the first command ends well" is_status 0
     check "it runs twice" runs_printed 2
     check "it says that the first is the model" said 'First the same run on the C model'
-    check "it tells how far the proof is" said 'crate [0-9] of 3 proved'
-    check "it names a crate" said 'crate [12] of 3 proved ([a-z]*), [0-9]* s gone'
+    check "it tells how far the proof is" said 'crate [0-9] of 4 proved'
+    check "it names a crate" said 'crate [123] of 4 proved ([a-z]*), [0-9]* s gone'
     check "the model is built before anything is proved" [ "$(first_call simulate-model)" -lt "$(first_call '^rt ')" ]
     check "no program is linked with libm" not grep -q -e -lm "$room/calls"
-    check "the times are kept" grep -q '^places 1$' "$room/tree/target/hosts/times.txt"
+    check "the times are kept" grep -q '^places [1-9][0-9]*$' "$room/tree/target/hosts/times.txt"
     jallumere --version
     check "--version tells that the core is built" printed '^core: built'
     test_nothing_changed
@@ -229,7 +230,7 @@ test_nothing_changed() {
     check "a second run ends well" is_status 0
     check "with nothing changed it runs once" runs_printed 1
     check "with nothing changed nothing is compiled, however new the files are" not called gcc
-    check "with nothing changed no archive is made" not grep -q '^rt staticlib' "$room/calls"
+    check "with nothing changed nothing is proved" not called rt
     check "with nothing changed nothing is said" [ ! -s "$room/said" ]
 }
 
@@ -239,16 +240,16 @@ test_changes() {
     echo 4 >"$room/pause" # the script shows the model after five seconds
     jallumere simulate --steps 30
     echo 0.1 >"$room/pause"
-    check "a changed crate is proved again, however old the file is" grep -q '^rt: places proved (1 s)' "$room/tree/target/hosts/replica.log"
-    check "a crate below a changed one is not" grep -q '^rt: group proved (unchanged' "$room/tree/target/hosts/replica.log"
+    check "a changed crate is proved again, however old the file is" grep -q '^jallumere: places proved ([0-9]* s)' "$room/tree/target/hosts/replica_c.log"
+    check "a crate below a changed one is not" grep -q '^jallumere: group proved (unchanged' "$room/tree/target/hosts/replica_c.log"
     check "with a changed crate the model is shown meanwhile" runs_printed 2
-    check "the archive is made again" grep -q '^rt staticlib' "$room/calls"
+    check "the archive is made again" grep -q '^rt lib replica_c' "$room/calls"
     : >"$room/calls"
     echo '/* more */' >>"$room/tree/hosts/simulate/simulate.c"
     touch -d yesterday "$room/tree/hosts/simulate/simulate.c"
     jallumere simulate --steps 30
     check "a changed host program is compiled again" called gcc
-    check "a changed host program needs no proof" not grep -q '^rt staticlib' "$room/calls"
+    check "a changed host program needs no proof" not called rt
     echo damaged >"$room/tree/target/staticlib/libreplica.a"
     jallumere simulate --steps 30
     check "another archive in its place is noticed" is_status 0
@@ -259,7 +260,9 @@ test_not_proved() {
     touch "$room/broken"
     jallumere simulate --steps 30
     check "what is not proved does not run" is_status 2
-    check "what is not proved is shown" said 'octets NOT PROVED'
+    check "what is not proved is shown" said 'group NOT PROVED'
+    check "what rt says of it is shown" said 'error: no proof is found'
+    check "what is above it is not tried" [ "$(calls_of rt)" -eq 1 ]
     rm "$room/broken"
     echo 'not C' >>"$room/tree/hosts/model/core.c"
     : >"$room/calls"
@@ -614,7 +617,7 @@ test_lock() { # with flock, or without it
     check "$1 flock: a second run ends well" is_status 0
     check "$1 flock: a second run says that it waits" said 'another run of ./jallumere builds in .*; waiting'
     check "$1 flock: a second run goes on" runs_printed 1
-    check "$1 flock: one of two runs proves" eval '[ "$(grep -c "^rt staticlib" "$room/calls")" -eq 1 ]'
+    check "$1 flock: one of two runs proves" eval '[ "$(grep -c "^rt lib replica_c" "$room/calls")" -eq 1 ]'
     wait "$first"
     status=$?
     check "$1 flock: the first run ends well" is_status 0
@@ -690,7 +693,7 @@ test_read_only() {
     chmod -R u+w "$room/tree"
     mkdir -p "$room/elsewhere/else/crates"
     JALLUMERE_BUILD=$room/elsewhere/else jallumere simulate
-    check "a folder with crates of its own is not built in" said 'is there and is no link'
+    check "a folder with crates of its own is not built in" said 'is there and is no copy'
 }
 
 # A stand-in that measures nothing: it prints the figures of two steps, and fails with --turns 3.
@@ -759,6 +762,11 @@ test_replay_and_gate() {
     check "replay comes back where its program is gone" printed '9098 steps, 0 differences'
     jallumere test
     check "the gate's last line is printed" printed '3 passed, 0 failed'
+    check "the gate passes where rt passes" is_status 0
+    printf 'rt: ok; handles allowed: none; must-fail edits: 7 refused, 2 bad; every proof was done\n3 passed, 0 failed\n' >"$room/gate"
+    jallumere test
+    check "the gate fails where an edit is bad" is_status 1
+    check "then too its last line is rt's" eval '[ "$(tail -n 1 "$room/out")" = "3 passed, 0 failed" ]'
     echo 60 >"$room/pause"
     PATH=$room/bin:$PATH "$room/tree/jallumere" test >"$room/out" 2>"$room/said" &
     check "the gate runs a prover" within 10 prover_runs
@@ -795,7 +803,7 @@ test_terminal() {
     fresh_tree
     if ! command -v script >/dev/null; then return; fi
     PATH=$room/bin:$PATH script -qec "$room/tree/jallumere compare --help; $room/tree/jallumere simulate --quiet --steps 30" /dev/null >"$room/said" 2>&1 </dev/null
-    check "on a terminal one line is written over" eval 'grep -q "$(printf "\r\033\[Kjallumere: crate . of 3 proved")" "$room/said"'
+    check "on a terminal one line is written over" eval 'grep -q "$(printf "\r\033\[Kjallumere: crate . of 4 proved")" "$room/said"'
 }
 
 # What stands in for the core is native code: but where a check says otherwise, every machine is called an x86-64 one.

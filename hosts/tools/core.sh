@@ -6,33 +6,76 @@
 have_core() { # NAME WORDS...
     build "$1" model -O0 "$built/$1-model"
     first_sight=("$@")
-    prove replica make_core "$archive"
+    prove replica_c make_core "$archive"
 }
 
-# Proves the core and makes its archive, which is one step of rt; what is below it rt proves first, several crates at a time.
-# If rt says of these that nothing has changed, and the crate itself has not, the archive stays.
-make_core() {
-    local began
-    cd "$place" || return
-    # shellcheck disable=SC2046
-    rt check $(needs_of replica) || return
-    [ "$(made_of)" != "$(cat "$archive.made-of" 2>/dev/null)" ] || return 0
-    began=$SECONDS
-    rt staticlib replica && made_of >"$archive.made-of" && echo "jallumere: replica proved ($((SECONDS - began)) s)"
+# The core's archive: rt writes it as out/libreplica_c.a, and hosts link it under the core's name.
+make_core() { make_of replica_c "$archive"; }
+
+# Has rt prove a crate and all below it, and copies what it has built of the crate, unless that is made of the same already.
+make_of() { # CRATE MADE
+    local contents began=$SECONDS
+    set +m # so that what is started here ends with this
+    contents=$(proved_of "$1")
+    if [ "$(made_with "$contents" "$2")" = "$(cat "$2.made-of" 2>/dev/null)" ]; then return; fi
+    mkdir -p "${2%/*}" && rm -f "$2.made-of" && prove_below "$1" && began=$SECONDS && "build_$1" "$2.new" || return
+    mv "$2.new" "$2" && made_with "$contents" "$2" >"$2.made-of" && echo "jallumere: $1 proved ($((SECONDS - began)) s)"
 }
 
-needs_of() { sed -n "s/#.*//; s/^$1: *//p" "$tree/crates.txt"; }
+build_replica_c() { (cd "$place/crates/replica_c" && rt lib && cp out/libreplica_c.a "$1"); }
 
-# What the archive is made of: rt's stamps of the crates that the core needs, which tell the content of all crates below
-# them and the kit (without one, the answer is never the same); the core's own files; and the archive, in case that something
-# else stands in its place.
-made_of() {
-    local crate
-    for crate in $(needs_of replica); do cat "$place/target/stamp/$crate" || date; done
-    needs_of replica
-    digests_of crates/replica/src crates/replica/specs crates/replica/proofs
-    "$digest" <"$archive"
+# All that a crate's proof stands on: the kit, what each crate needs, and their files.
+proved_of() {
+    local crate part parts=()
+    for crate in $(crates_below "$1"); do
+        for part in src specs proofs; do
+            [ ! -d "$tree/crates/$crate/$part" ] || parts+=("crates/$crate/$part")
+        done
+    done
+    rt version
+    sed 's/#.*//' "$tree/crates.txt"
+    digests_of "${parts[@]}"
+}
+
+# With what was made, in case that something else stands in its place.
+made_with() { # CONTENTS MADE
+    printf '%s\n' "$1" | "$digest"
+    "$digest" <"$2"
 } 2>/dev/null
+
+# Has rt prove the crates below one, several at a time: first those that need none, then those that need these alone, and so on.
+prove_below() { # CRATE
+    local crate crates running=0 failed=no
+    rm -f "$built/failed"
+    while read -r -a crates; do
+        for crate in "${crates[@]}"; do
+            [ "$running" -lt "${RT_JOBS:-4}" ] || one_less
+            prove_one "$crate" &
+            running=$((running + 1))
+        done
+        while [ "$running" -gt 0 ]; do one_less; done
+        [ "$failed" = no ] || { cat "$built/failed" && return 1; }
+    done < <(ranks_below "$1")
+}
+
+one_less() {
+    wait -n || failed=yes
+    running=$((running - 1))
+}
+
+# Of a library that has not changed rt says nothing.
+prove_one() {
+    local said began=$SECONDS
+    said=$(cd "$place/crates/$1" && rt lib 2>&1) || {
+        printf '%s\njallumere: %s NOT PROVED\n' "$said" "$1" >>"$built/failed"
+        return 1
+    }
+    if [ -z "$said" ]; then
+        echo "jallumere: $1 proved (unchanged since it was last proved)"
+    else
+        printf '%s\njallumere: %s proved (%s s)\n' "$said" "$1" $((SECONDS - began))
+    fi
+}
 
 # What simulate has to show before the core is proved: the same run on the C model.
 show_model() {
@@ -42,9 +85,8 @@ show_model() {
     say "that was the C model. Now the core is proved, and then the same run is made on it"
 }
 
-# prove CRATE TASK MADE: runs a task of rt that makes the file MADE. Whether something has changed since the last time is
-# rt's to say; where it says in a moment that nothing has, nothing is told. Meanwhile the shell only waits: then it takes
-# a signal at once.
+# prove CRATE TASK MADE: runs a task that has rt prove the crate and makes the file MADE. Where it is done in a moment, since
+# nothing has changed since the last time, nothing is told. Meanwhile the shell only waits: then it takes a signal at once.
 prove() {
     local log=$built/$1.log made=$3 patience=5 began=$SECONDS status
     if [ ! -e "$made" ]; then
@@ -56,7 +98,7 @@ prove() {
     count_lines "$1" >"$built/crates"
     : >"$log"
     start tell "$log" "$patience"
-    RT_JOBS=${RT_JOBS:-4} start "$2" >"$log" 2>&1
+    start "$2" >"$log" 2>&1
     finished
     status=$?
     end_children
@@ -101,18 +143,25 @@ count_lines() {
         END { for (crate in lines) print crate, lines[crate] }' <(crates_below "$1") -
 }
 
-crates_below() {
+# The crate and all that it needs, each below those that it needs.
+crates_below() { ranks_below "$1" | sed 's/ /\n/g' && echo "$1"; }
+
+# All that a crate needs, a line for each rank: those of a line need only crates of the lines above it.
+ranks_below() {
     awk -v wanted="$1" '
-        function visit(name, parts, count, i) {
-            if (name in seen || !(name in needs)) return
-            seen[name]
+        function visit(name, parts, count, i, own) {
+            if (name in rank || !(name in needs)) return
             count = split(needs[name], parts, " ")
-            for (i = 1; i <= count; i++) visit(parts[i])
-            print name
+            for (i = 1; i <= count; i++) {
+                visit(parts[i])
+                if (parts[i] in rank && rank[parts[i]] >= own) own = rank[parts[i]] + 1
+            }
+            rank[name] = own + 0
+            if (name != wanted) line[own + 0] = line[own + 0] (line[own + 0] == "" ? "" : " ") name
         }
         { sub(/#.*/, ""); colon = index($0, ":") }
-        colon { needs[substr($0, 1, colon - 1)] = substr($0, colon + 1) }
-        END { visit(wanted) }' "$tree/crates.txt"
+        colon { split(substr($0, 1, colon - 1), words, " "); needs[words[1]] = substr($0, colon + 1) }
+        END { visit(wanted); for (i = 0; i in line; i++) print line[i] }' "$tree/crates.txt"
 }
 
 # On a terminal one line that changes every second; elsewhere a line when a crate is proved, but not at every second, or
@@ -153,18 +202,18 @@ keep_times() { # LOG GONE
 
 # ---- the tasks that need no host program
 
-# The gate's program over its traces. rt runs it once when it is proved; here it runs every time.
+# The gate's program over its traces.
 replay() {
     local program loader=() home
     has_rt || exit 2
     if ! on_x86 && ! find_emulator; then stop "missing: the emulator qemu-x86_64: apt-get install qemu-user"; fi
     open_place
     program=$place/target/bin/replay
-    [ -x "$program" ] || rm -f "$place/target/stamp/replay"
     first_sight=()
     prove replay make_replay "$program"
     if ! on_x86; then
         home=$(kit_home)/on/$(uname -m)/toolchain/lib
+        [ -d "$home" ] || home=$(kit_home)/toolchain/lib
         loader=("${emulator[@]}" "$home/ld-linux-x86-64.so.2" --library-path "$home")
     fi
     release_lock
@@ -172,22 +221,21 @@ replay() {
     exec ${loader[@]+"${loader[@]}"} "$program"
 }
 
-make_replay() { cd "$place" && rt check replay; }
+make_replay() { make_of replay "$program"; }
 
-# The gate removes all of target/ first. Where another folder is to be built in, it runs there over a copy of the crates.
+# rt also runs the program, without its traces, so that it fails; that it is proved and built is told by rt's stamp.
+build_replay() { (cd "$place/crates/replay" && { rt run || [ -s out/replay.stamp ]; } && cp out/replay "$1"); }
+
+# Where another folder is to be built in, the gate runs there over the copy of the crates. (rt takes the folder of .git for the top.)
 gate() {
-    local root=$tree part
     has_rt || exit 2
     open_place
     if [ "$place" != "$tree" ]; then
-        root=$place/gate
-        mkdir -p "$root" && chmod -R u+w "$root" || exit 2
-        for part in crates crates.txt KIT .ci; do
-            rm -rf "${root:?}/$part" && cp -R "$tree/$part" "$root/$part" || stop "'$root/$part' cannot be made"
-        done
+        mkdir -p "$place/.git" && rm -rf "${place:?}/.ci" && cp -R "$tree/.ci" "$place/.ci" || stop "'$place/.ci' cannot be made"
+        chmod -R u+w "$place/.ci"
     fi
-    say "the gate proves everything from nothing: this takes long"
-    start "$root/.ci/run"
+    say "the gate proves all that no run of it on this machine has proved: the first takes long"
+    start "$place/.ci/run"
     finished
     exit
 }

@@ -72,23 +72,39 @@ name_place() {
     archive=$place/target/staticlib/libreplica.a
 }
 
-# Takes the lock and makes the folders. Elsewhere than in the tree, rt finds links to what it reads there.
+# Takes the lock and makes the folders.
 open_place() {
-    local part
     name_place
     mkdir -p "$place" 2>/dev/null
     [ -d "$place" ] && [ -w "$place" ] || stop "the folder '$place' cannot be written to; JALLUMERE_BUILD=DIR builds in DIR"
     take_lock
     mkdir -p "$built" || stop "'$built' cannot be made; JALLUMERE_BUILD=DIR builds in DIR"
-    [ "$place" != "$tree" ] || return 0
-    for part in crates crates.txt KIT; do
-        [ -L "$place/$part" ] || [ ! -e "$place/$part" ] ||
-            stop "JALLUMERE_BUILD: '$place/$part' is there and is no link; a folder is wanted that has nothing else in it"
-        ln -sfn "$tree/$part" "$place/$part" || stop "JALLUMERE_BUILD: '$place/$part' cannot be made"
+    [ "$place" = "$tree" ] || copy_crates
+}
+
+# rt writes beside what it reads, each crate's out/. So elsewhere than in the tree it reads a copy, which is made again for
+# each run but for what rt has written there.
+copy_crates() {
+    local crate name
+    [ -L "$place/crates" ] && rm "$place/crates" "$place/crates.txt" "$place/KIT" # links, as this script once made them
+    [ -e "$place/target/hosts/copied" ] || [ ! -e "$place/crates" ] ||
+        stop "JALLUMERE_BUILD: '$place/crates' is there and is no copy of this tree's; a folder is wanted that has nothing else in it"
+    : >"$place/target/hosts/copied" && mkdir -p "$place/crates" && cp -f "$tree/crates.txt" "$tree/KIT" "$place" ||
+        stop "JALLUMERE_BUILD: '$place/crates' cannot be made"
+    chmod u+w "$place/crates.txt" "$place/KIT"
+    for crate in "$place"/crates/*/; do
+        name=${crate%/}
+        [ -d "$tree/crates/${name##*/}" ] || rm -rf "$crate"
+    done
+    for crate in "$tree"/crates/*/; do
+        name=$place/crates/$(basename "$crate")
+        mkdir -p "$name" && find "$name" -mindepth 1 -maxdepth 1 ! -name out -exec rm -rf {} + &&
+            find "$crate" -mindepth 1 -maxdepth 1 ! -name out -exec cp -R {} "$name" \; &&
+            find "$name" -mindepth 1 -maxdepth 1 ! -name out -exec chmod -R u+w {} + || stop "JALLUMERE_BUILD: '$name' cannot be made"
     done
 }
 
-# One run builds at a time. The lock is on the folder itself, since the gate removes target/, and ends with its holder.
+# One run builds at a time. The lock is on the folder itself and ends with its holder.
 take_lock() {
     local told=no
     if has flock; then exec 9<"$place"; fi

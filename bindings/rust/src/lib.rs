@@ -6,7 +6,7 @@
 //! example `host` keeps to it.
 //!
 //! Checking and documenting this crate needs no core. A program that calls it links `target/staticlib/libreplica.a` of
-//! the repository, which `rt staticlib replica` proves and builds, or the archive or object that the environment
+//! the repository, which `./jallumere simulate` proves and builds, or the archive or object that the environment
 //! variable `JALLUMERE_CORE` names at build time, or with `JALLUMERE_CORE=model` the C model; where there is none, the
 //! linker says so in the name of what it misses. [`core()`] tells which it is.
 //!

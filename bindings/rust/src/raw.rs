@@ -9,7 +9,7 @@ macro_rules! functions {
             $(
                 #[cfg_attr(
                     jallumere_core = "missing",
-                    link_name = "MISSING_target_staticlib_libreplica_a__build_it_by_rt_staticlib_replica_or_set_JALLUMERE_CORE"
+                    link_name = "MISSING_target_staticlib_libreplica_a__build_it_by_jallumere_simulate_or_set_JALLUMERE_CORE"
                 )]
                 #[cfg_attr(
                     jallumere_core = "other_machine",

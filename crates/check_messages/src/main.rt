@@ -21,17 +21,17 @@ mod ticks;
 use rules::Message;
 use samples::{answer_of, told_by};
 use scripts::Row;
+use std::io;
 
 // Bytes that are no message: the answer, and the offset of the first wrong field.
-fn none(text: &[u8], row: Row, m: Message) -> u64 {
-    scripts::write_name(text, row);
-    io::write_all(1, b": answer 2");
-    let failed = scripts::same(answer_of(m), 2);
+fn none(rt: &impl Print, text: &[u8], row: Row, m: Message) -> io::Result<u64> {
+    scripts::write_name(rt, text, row)?;
+    print!(rt; ": answer 2")?;
+    let failed = scripts::same(rt, answer_of(m), 2)?;
     let offset = told_by(m).first;
-    scripts::write_name(text, row);
-    io::write_all(1, b": offset ");
-    io::print_decimal(1, offset);
-    scripts::more(failed, scripts::same(offset, row.want))
+    scripts::write_name(rt, text, row)?;
+    print!(rt; ": offset {offset}")?;
+    Ok(scripts::more(failed, scripts::same(rt, offset, row.want)?))
 }
 
 // A kind's message with two of its bytes changed.
@@ -61,38 +61,39 @@ fn read_of(row: Row) -> Message {
 }
 
 // Does what a row says, and answers how many of its checks failed.
-fn check(text: &[u8], row: Row) -> u64 {
+fn check(rt: &impl Print, text: &[u8], row: Row) -> io::Result<u64> {
     let asks = row.asks;
     match asks {
-        b'k' => rounds::check(row.first, row.second),
-        b'o' | b'b' | b't' => none(text, row, read_of(row)),
-        b'A'..=b'Z' => scripts::told(text, row, ticks::ask(row)),
-        _ => scripts::told(text, row, known::ask(text, row)),
+        b'k' => rounds::check(rt, row.first, row.second),
+        b'o' | b'b' | b't' => none(rt, text, row, read_of(row)),
+        b'A'..=b'Z' => scripts::told(rt, text, row, ticks::ask(row)),
+        _ => scripts::told(rt, text, row, known::ask(text, row)),
     }
 }
 
 // Runs a script, and answers how many of its checks failed.
-fn run(text: &[u8]) -> u64 {
+fn run(rt: &impl Print, text: &[u8]) -> io::Result<u64> {
     let mut failed = 0;
     let mut at = 0;
     while at < text.len() {
         let row = scripts::row_at(text, at);
-        failed = scripts::more(failed, check(text, row));
+        failed = scripts::more(failed, check(rt, text, row)?);
         let end = row.end;
         if end < at {
-            return 1000;
+            return Ok(1000);
         }
         if text.len() <= end {
-            return failed;
+            return Ok(failed);
         }
         at = end + 1;
     }
-    failed
+    Ok(failed)
 }
 
 // Published vectors and worked numbers.
-fn published() -> u64 {
+fn published(rt: &impl Print) -> io::Result<u64> {
     run(
+        rt,
         b"\
 n|xcbf29ce484222325|digest of nothing
 d|xaf63dc4c8601ec8c|digest of a
@@ -123,8 +124,9 @@ c 5 2|2|commit, none heard, 2 before
 }
 
 // Every kind and the length of its message.
-fn kinds() -> u64 {
+fn kinds(rt: &impl Print) -> io::Result<u64> {
     run(
+        rt,
         b"\
 k 1 64
 k 3 56
@@ -144,8 +146,9 @@ k 23 32
 }
 
 // What is refused of every kind alike.
-fn heads() -> u64 {
+fn heads(rt: &impl Print) -> io::Result<u64> {
     run(
+        rt,
         b"\
 o 11 0 0|0|kind 0
 o 11 0 2|0|kind 2
@@ -164,12 +167,13 @@ o 11 12 3|12|three views
 }
 
 // Kinds 1 and 3.
-fn transactions() -> u64 {
+fn transactions(rt: &impl Print) -> io::Result<u64> {
     run(
+        rt,
         b"\
 b 1 20 0 28 0|28|kind 1, due 0
 o 1 27 128|28|kind 1, due past 2^63
-o 1 8 1|8|kind 1, g_view 1
+o 1 8 1|8|kind 1, gView 1
 o 1 12 1|12|kind 1, a view
 o 1 36 2|36|kind 1, two entries
 o 1 40 1|40|kind 1, timestamp 1
@@ -186,8 +190,9 @@ o 3 39 128|32|kind 3, timestamp past 2^63
 }
 
 // Kinds 5 and 6.
-fn replies() -> u64 {
+fn replies(rt: &impl Print) -> io::Result<u64> {
     run(
+        rt,
         b"\
 o 5 28 2|28|kind 5, placed 2
 o 5 28 0|36|kind 5, not placed, position 9
@@ -200,14 +205,15 @@ o 6 1 0|1|kind 6, to group 0
 }
 
 // The kinds with a log.
-fn logs() -> u64 {
+fn logs(rt: &impl Print) -> io::Result<u64> {
     run(
+        rt,
         b"\
 o 4 56 4|56|kind 4, timestamps fall
 o 4 78 2|56|kind 4, second not of its group
 o 4 28 3|80|kind 4, three entries
 o 4 28 1|56|kind 4, one entry
-o 8 28 3|28|kind 8, last normal 3 in g_view 3
+o 8 28 3|28|kind 8, last normal 3 in gView 3
 o 8 36 3|44|kind 8, sync point 3 of 2
 o 9 72 1|56|kind 9, a transaction twice
 o 9 72 0|72|kind 9, request 0
@@ -217,8 +223,9 @@ o 19 78 1|78|kind 19, second not of the sender's group
 }
 
 // The kinds with no entry.
-fn others() -> u64 {
+fn others(rt: &impl Print) -> io::Result<u64> {
     run(
+        rt,
         b"\
 o 7 3 0|3|kind 7, from group 0
 o 7 4 0|4|kind 7, from replica 0
@@ -227,15 +234,16 @@ o 10 24 2|24|kind 10, two numbers
 o 11 24 0|24|kind 11, no number
 o 18 36 1|36|kind 18, an entry
 o 23 27 128|20|kind 23, time 2^63
-o 23 8 1|8|kind 23, g_view 1
+o 23 8 1|8|kind 23, gView 1
 o 23 4 0|4|kind 23, from replica 0
 ",
     )
 }
 
 // The tick of document 01, one byte fewer and one more, and sizes that are not permitted.
-fn ticks_and_sizes() -> u64 {
+fn ticks_and_sizes(rt: &impl Print) -> io::Result<u64> {
     run(
+        rt,
         b"\
 A|0|tick of document 01
 K|23|its kind
@@ -262,14 +270,14 @@ O 3 9|1|S = 9, written
     )
 }
 
-fn main() {
-    let mut failed = published();
-    failed = scripts::more(failed, kinds());
-    failed = scripts::more(failed, heads());
-    failed = scripts::more(failed, transactions());
-    failed = scripts::more(failed, replies());
-    failed = scripts::more(failed, logs());
-    failed = scripts::more(failed, others());
-    failed = scripts::more(failed, ticks_and_sizes());
-    scripts::total(failed);
+fn main(rt: HostRuntime) -> io::Result<()> {
+    let mut failed = published(&rt)?;
+    failed = scripts::more(failed, kinds(&rt)?);
+    failed = scripts::more(failed, heads(&rt)?);
+    failed = scripts::more(failed, transactions(&rt)?);
+    failed = scripts::more(failed, replies(&rt)?);
+    failed = scripts::more(failed, logs(&rt)?);
+    failed = scripts::more(failed, others(&rt)?);
+    failed = scripts::more(failed, ticks_and_sizes(&rt)?);
+    scripts::total(&rt, failed)
 }

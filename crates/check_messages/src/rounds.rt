@@ -3,6 +3,7 @@ use crate::samples::{
     Told, answer_of, length_of, message_of, number_of, read_first, same_header, told_by, write_in,
 };
 use rules::Message;
+use std::io;
 
 // The writer's number where the buffer has `room` bytes, 1000 for more than any message has.
 fn number_in(kind: u8, room: usize) -> u64 {
@@ -41,7 +42,7 @@ fn written_again(m: Message, bytes: &[u8], length: usize) -> bool {
     let views = &bytes[16..upto];
     let entries = &bytes[from..length];
     let answer = wire::write(3, 2, m, views, entries, &mut out, &mut slots);
-    (number_of(answer) == 0) & check::same(&out, bytes)
+    (number_of(answer) == 0) & (out.as_slice() == bytes)
 }
 
 // What a row asks of the message read back: the answer, the same case with the same numbers, and with the views and entries the same bytes.
@@ -77,36 +78,35 @@ fn ask(asks: u8, kind: u8, length: usize) -> u64 {
 }
 
 // Prints what the line of a kind begins with.
-fn write_kind(kind: u8) {
-    io::write_all(1, b"kind ");
-    io::print_decimal(1, kind as u64);
-    io::write_all(1, b", ");
+fn write_kind(rt: &impl Print, kind: u8) -> io::Result<()> {
+    print!(rt; "kind {kind}, ")
 }
 
 // Runs the script on a kind, and answers how many of its checks failed.
-fn run(text: &[u8], kind: u8, length: usize) -> u64 {
+fn run(rt: &impl Print, text: &[u8], kind: u8, length: usize) -> io::Result<u64> {
     let mut failed = 0;
     let mut at = 0;
     while at < text.len() {
         let row = scripts::row_at(text, at);
-        write_kind(kind);
+        write_kind(rt, kind)?;
         let got = ask(row.asks, kind, length);
-        failed = scripts::more(failed, scripts::told(text, row, got));
+        failed = scripts::more(failed, scripts::told(rt, text, row, got)?);
         let end = row.end;
         if end < at {
-            return 1000;
+            return Ok(1000);
         }
         if text.len() <= end {
-            return failed;
+            return Ok(failed);
         }
         at = end + 1;
     }
-    failed
+    Ok(failed)
 }
 
 // A kind, whose message has that length.
-pub fn check(kind: u64, length: u64) -> u64 {
+pub fn check(rt: &impl Print, kind: u64, length: u64) -> io::Result<u64> {
     run(
+        rt,
         b"\
 w|0|written
 l|1|length

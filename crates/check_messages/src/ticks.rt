@@ -46,7 +46,7 @@ fn written_as(asks: u8) -> u64 {
     if asks == b'L' {
         return length_of(answer) as u64;
     }
-    check::same(&out, &bytes) as u64
+    (out == bytes) as u64
 }
 
 // The writer's number for sizes that are not permitted.

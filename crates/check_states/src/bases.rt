@@ -158,7 +158,7 @@ p 255 0 1 1 2
 p 231 0 2 1 1
 p 8 0 2 1 2
 p 16 0 2 1 3
-# g_view 5, the last normal g_view, clock 50, sync point, commit point, boundary 10.
+# gView 5, the last normal gView, clock 50, sync point, commit point, boundary 10.
 p 254 0 8 4 5
 p 230 0 12 4 5
 p 24 0 12 4 4
@@ -206,7 +206,7 @@ p 254 6 70 4 8
 p 254 6 74 2 7
 p 254 6 94 1 1
 p 254 6 95 8 40
-# The vote of replica 0, with last normal g_view 3 and sync point 1. Nothing forbids a vote, a draft or a reply in any status.
+# The vote of replica 0, with last normal gView 3 and sync point 1. Nothing forbids a vote, a draft or a reply in any status.
 p 254 7 0 1 1
 p 254 7 1 4 3
 p 254 7 5 8 1

@@ -1,8 +1,10 @@
 // Each conjunct of a good state, broken alone by one number, and numbers at their bounds.
+use std::io;
 
 // The head, the views, the points and the points heard.
-fn heads(memory: &mut [u8], out: &mut [u8]) -> u64 {
+fn heads(rt: &impl Print, memory: &mut [u8], out: &mut [u8]) -> io::Result<u64> {
     crate::run(
+        rt,
         b"\
 # The own numbers. With entries, a group S would also be in none of their masks.
 g 0 0 0 1 3|0|fresh, broken: own group S
@@ -21,13 +23,13 @@ g 1 0 16 8 x8000000000000000|0|leader, broken: clock 2^63
 g 1 0 16 8 x7fffffffffffffff|1|leader, good: clock 2^63 - 1
 g 1 0 40 8 x8000000000000000|0|leader, broken: boundary 2^63
 g 1 0 40 8 x7fffffffffffffff|1|leader, good: boundary 2^63 - 1
-# The last normal g_view, where g_view is 5.
-g 1 0 12 4 4|0|leader, broken: last normal below g_view
-g 1 0 12 4 6|0|leader, broken: last normal above g_view
-g 3 0 12 4 5|0|view change, broken: last normal equal to g_view
-g 3 0 12 4 6|0|view change, broken: last normal above g_view
-g 4 0 12 4 5|0|cross-shard, broken: last normal equal to g_view
-g 4 0 12 4 6|0|cross-shard, broken: last normal above g_view
+# The last normal gView, where gView is 5.
+g 1 0 12 4 4|0|leader, broken: last normal below gView
+g 1 0 12 4 6|0|leader, broken: last normal above gView
+g 3 0 12 4 5|0|view change, broken: last normal equal to gView
+g 3 0 12 4 6|0|view change, broken: last normal above gView
+g 4 0 12 4 5|0|cross-shard, broken: last normal equal to gView
+g 4 0 12 4 6|0|cross-shard, broken: last normal above gView
 # The leader, by the own group's view.
 g 4 1 4 4 6|0|cross-shard, broken: at a follower
 g 3 1 4 4 6|1|view change, good: at a follower
@@ -50,12 +52,13 @@ g 2 2 0 2 257|0|follower, broken: heard 1
 }
 
 // Votes and replies kept, the notes, and what a leader's early entries have to do with them.
-fn kept(memory: &mut [u8], out: &mut [u8]) -> u64 {
+fn kept(rt: &impl Print, memory: &mut [u8], out: &mut [u8]) -> io::Result<u64> {
     crate::run(
+        rt,
         b"\
 # Votes: that of replica 0, and an empty one of replica 1, with which there are F + 1.
-g 3 7 1 4 5|0|view change, broken: vote, last normal g_view
-g 3 7 1 4 4|1|view change, good: vote, last normal g_view - 1
+g 3 7 1 4 5|0|view change, broken: vote, last normal gView
+g 3 7 1 4 4|1|view change, good: vote, last normal gView - 1
 g 3 7 5 8 3|0|view change, broken: vote, sync above its length
 g 3 7 5 8 2|1|view change, good: vote, sync equal to its length
 g 3 7 401 1 1|0|view change, broken: F + 1 votes
@@ -93,8 +96,9 @@ g 1 6 61 2 8705|1|leader, good: noted past its mask
 }
 
 // The entries of each log.
-fn logs(memory: &mut [u8], out: &mut [u8]) -> u64 {
+fn logs(rt: &impl Print, memory: &mut [u8], out: &mut [u8]) -> io::Result<u64> {
     crate::run(
+        rt,
         b"\
 # A log: its first entry out of range, at its bounds, or not of the own group (an empty mask also lacks it); the last timestamp that is in
 # range, and the next, of an entry after which none stands; order, and a transaction that stands twice. In the log itself such a
@@ -153,8 +157,9 @@ g 4 9 21 4 2|0|cross-shard, reply: transaction twice
 }
 
 // The entries of the early buffer and of the late one.
-fn buffers(memory: &mut [u8], out: &mut [u8]) -> u64 {
+fn buffers(rt: &impl Print, memory: &mut [u8], out: &mut [u8]) -> io::Result<u64> {
     crate::run(
+        rt,
         b"\
 # Early entries. Without a log, since an early timestamp 0 would also be below the log's last.
 g 6 4 4 8 0|0|no log, early: timestamp 0
@@ -196,9 +201,9 @@ g 2 5 4 8 21|1|follower, good: late above the log
 }
 
 // All of these.
-pub fn check(memory: &mut [u8], out: &mut [u8]) -> u64 {
-    let mut failed = heads(memory, out);
-    failed = scripts::more(failed, kept(memory, out));
-    failed = scripts::more(failed, logs(memory, out));
-    scripts::more(failed, buffers(memory, out))
+pub fn check(rt: &impl Print, memory: &mut [u8], out: &mut [u8]) -> io::Result<u64> {
+    let mut failed = heads(rt, memory, out)?;
+    failed = scripts::more(failed, kept(rt, memory, out)?);
+    failed = scripts::more(failed, logs(rt, memory, out)?);
+    Ok(scripts::more(failed, buffers(rt, memory, out)?))
 }

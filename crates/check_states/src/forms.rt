@@ -1,6 +1,10 @@
 // The form of the bytes: flags 0 or 1, zeros behind an unset flag, free places zero, counts within C, and the length.
-pub fn check(memory: &mut [u8], out: &mut [u8]) -> u64 {
+use std::io;
+
+// Every row of the topic.
+pub fn check(rt: &impl Print, memory: &mut [u8], out: &mut [u8]) -> io::Result<u64> {
     crate::run(
+        rt,
         b"\
 # The states as they are: a number is put over itself.
 g 0 0 0 1 1|1|fresh, good: unchanged

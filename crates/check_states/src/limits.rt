@@ -1,6 +1,10 @@
 // The room of a log and of what is sent, through the whole step.
-pub fn check(memory: &mut [u8], out: &mut [u8]) -> u64 {
+use std::io;
+
+// Every row of the topic.
+pub fn check(rt: &impl Print, memory: &mut [u8], out: &mut [u8]) -> io::Result<u64> {
     crate::run(
+        rt,
         b"\
 # Replica 1 of one group, a follower in view 0, takes 16 transactions, each due at the time of its request, and releases them at 100. Its log
 # begins at 79, and early at 467.

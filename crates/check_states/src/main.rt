@@ -36,6 +36,7 @@ mod steps;
 
 use rules::Shape;
 use scripts::Row;
+use std::io;
 
 // Whether a state is good with a number put over what stood there.
 fn good_with(row: Row, memory: &mut [u8]) -> bool {
@@ -81,37 +82,38 @@ fn ask(row: Row, memory: &mut [u8], out: &mut [u8]) -> u64 {
 }
 
 // Runs a script, and answers how many of its checks failed.
-pub fn run(text: &[u8], memory: &mut [u8], out: &mut [u8]) -> u64 {
+pub fn run(rt: &impl Print, text: &[u8], memory: &mut [u8], out: &mut [u8]) -> io::Result<u64> {
     let mut failed = 0;
     let mut at = 0;
     while at < text.len() {
         let row = scripts::row_at(text, at);
         let got = ask(row, memory, out);
-        failed = scripts::more(failed, scripts::told(text, row, got));
+        failed = scripts::more(failed, scripts::told(rt, text, row, got)?);
         let end = row.end;
         if end < at {
-            return 1000;
+            return Ok(1000);
         }
         if text.len() <= end {
-            return failed;
+            return Ok(failed);
         }
         at = end + 1;
     }
-    failed
+    Ok(failed)
 }
 
 // Every topic, on one memory.
-fn check(memory: &mut [u8; 2187587], out: &mut [u8; 2080]) -> u64 {
-    let mut failed = starts::check(memory, out);
-    failed = scripts::more(failed, conjuncts::check(memory, out));
-    failed = scripts::more(failed, forms::check(memory, out));
-    failed = scripts::more(failed, limits::check(memory, out));
-    scripts::more(failed, questions::check(memory, out))
+fn check(rt: &impl Print, memory: &mut [u8], out: &mut [u8]) -> io::Result<u64> {
+    let mut failed = starts::check(rt, memory, out)?;
+    failed = scripts::more(failed, conjuncts::check(rt, memory, out)?);
+    failed = scripts::more(failed, forms::check(rt, memory, out)?);
+    failed = scripts::more(failed, limits::check(rt, memory, out)?);
+    Ok(scripts::more(failed, questions::check(rt, memory, out)?))
 }
 
-// The memory has one byte more than the greatest state. It is made here alone, since it is long.
-fn main() {
-    let mut memory = [0u8; 2187587];
+// The memory has one byte more than the greatest state. It is long, so it lies on the heap.
+fn main(rt: HostRuntime) -> io::Result<()> {
+    let mut memory = vec![in rt.alloc(); 0u8; 2187587]?;
     let mut out = [255u8; 2080];
-    scripts::total(check(&mut memory, &mut out));
+    let failed = check(&rt, memory.as_mut_slice(), &mut out)?;
+    scripts::total(&rt, failed)
 }

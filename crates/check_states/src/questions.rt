@@ -1,6 +1,10 @@
 // What a host asks of states and of outgoing bytes.
-pub fn check(memory: &mut [u8], out: &mut [u8]) -> u64 {
+use std::io;
+
+// Every row of the topic.
+pub fn check(rt: &impl Print, memory: &mut [u8], out: &mut [u8]) -> io::Result<u64> {
     crate::run(
+        rt,
         b"\
 i|20100|version
 m|0|is the model
@@ -10,17 +14,17 @@ f 3 2 16 4004 1|1|own group
 f 3 2 16 4004 2|1|own replica
 f 3 2 16 4004 3|1|status
 f 3 2 16 4004 4|0|gView
-f 3 2 16 4004 5|0|last normal g_view
+f 3 2 16 4004 5|0|last normal gView
 f 3 2 16 4004 6|0|clock
 f 3 2 16 4004 9|0|log length
 f 3 2 16 4004 10|0|leader
 v 3 2 16 4004 0|0|view of group 0
 v 3 2 16 4004 1|0|view of group 1
-# It is told to enter view 4 with g_vec 5 and 7, and leads its group there: 7 mod 3 is 1.
+# It is told to enter view 4 with gVec 5 and 7, and leads its group there: 7 mod 3 is 1.
 c|0|view 4 entered
 f 3 2 16 4004 3|2|status
 f 3 2 16 4004 4|4|gView
-f 3 2 16 4004 5|0|last normal g_view
+f 3 2 16 4004 5|0|last normal gView
 f 3 2 16 4004 10|1|leader
 v 3 2 16 4004 0|5|view of group 0
 v 3 2 16 4004 1|7|view of group 1

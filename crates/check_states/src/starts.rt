@@ -1,6 +1,10 @@
 // Fresh states of every shape, and what a start refuses.
-pub fn check(memory: &mut [u8], out: &mut [u8]) -> u64 {
+use std::io;
+
+// Every row of the topic.
+pub fn check(rt: &impl Print, memory: &mut [u8], out: &mut [u8]) -> io::Result<u64> {
     crate::run(
+        rt,
         b"\
 # The lengths that are worked out by hand, and none for sizes that are not permitted.
 l 3 1 16|3467|least state

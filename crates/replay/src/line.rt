@@ -1,4 +1,5 @@
 // What is printed, and counts.
+use std::io;
 
 // One more; a count that would wrap stays.
 pub fn one_more(count: u64) -> u64 {
@@ -8,35 +9,43 @@ pub fn one_more(count: u64) -> u64 {
     count
 }
 
-// A number between two texts.
-pub fn number(before: &[u8], value: u64, after: &[u8]) {
-    io::write_all(1, before);
-    io::print_decimal(1, value);
-    io::write_all(1, after);
+// How numbers are printed: in decimal, or in sixteen hexadecimal digits.
+#[derive(Clone, Copy)]
+pub enum Form {
+    Decimal,
+    Digest,
 }
 
-// A number in that many hexadecimal digits, in decimal where that is 0.
-fn value(n: u64, digits: usize) {
-    if digits == 0 {
-        io::print_decimal(1, n);
-        return;
+// Prints that a number is not the wanted one.
+fn tell(
+    rt: &impl Print,
+    record: u64,
+    name: &str,
+    form: Form,
+    got: u64,
+    want: u64,
+) -> io::Result<()> {
+    match form {
+        Form::Decimal => println!(rt; "record {record}: {name} {got}, want {want}"),
+        Form::Digest => println!(rt; "record {record}: {name} {got:016x}, want {want:016x}"),
     }
-    io::print_hex(1, n, digits);
 }
 
 // Whether two numbers differ; where they do and `loud`, a line says so.
-pub fn differ(loud: bool, record: u64, name: &[u8], digits: usize, got: u64, want: u64) -> bool {
+pub fn differ(
+    rt: &impl Print,
+    loud: bool,
+    record: u64,
+    name: &str,
+    form: Form,
+    got: u64,
+    want: u64,
+) -> io::Result<bool> {
     if got == want {
-        return false;
+        return Ok(false);
     }
     if loud {
-        number(b"record ", record, b": ");
-        io::write_all(1, name);
-        io::write_all(1, b" ");
-        value(got, digits);
-        io::write_all(1, b", want ");
-        value(want, digits);
-        io::write_all(1, b"\n");
+        tell(rt, record, name, form, got, want)?;
     }
-    true
+    Ok(true)
 }

@@ -14,26 +14,33 @@ mod readings;
 mod records;
 mod table;
 
+use std::rt::Files;
+use std::{fs, io};
+
 // All records of a file.
-fn replay(name: &[u8], state: &mut [u8], counts: &mut [u64]) -> records::Run {
-    let fd = os::open_read(name);
-    let run = records::replay(fd, state, counts);
-    if 0 <= fd {
-        libc::close(fd);
-    }
-    run
+fn replay<R: Files + Alloc + Print>(
+    rt: &R,
+    name: &str,
+    state: &mut [u8],
+    counts: &mut [u64],
+) -> io::Result<records::Run> {
+    let bytes = fs::read(rt, name)?;
+    records::replay(rt, bytes.as_slice(), state, counts)
 }
 
-// The greatest state here is that of n = 7, S = 8, C = 64.
-fn main() {
-    let mut state = [0u8; 36000];
+// The greatest state here is that of n = 7, S = 8, C = 64. A file that cannot be read ends the program with an error.
+fn main(rt: HostRuntime) -> io::Result<()> {
+    let mut state = vec![in rt.alloc(); 0u8; 36000]?;
     let mut counts = [0u64; 275];
-    let run = replay(b"l08.bin", &mut state, &mut counts);
-    line::number(b"starts: ", run.starts, b"\n");
-    table::print(&counts);
-    line::number(b"", run.steps, b" steps, ");
-    line::number(b"", run.differences, b" differences\n");
-    let read = replay(b"l07.bin", &mut state, &mut counts);
-    line::number(b"", read.readings, b" readings, ");
-    line::number(b"", read.differences, b" differences\n");
+    let run = replay(&rt, "l08.bin", state.as_mut_slice(), &mut counts)?;
+    let starts = run.starts;
+    println!(rt; "starts: {starts}")?;
+    table::print(&rt, &counts)?;
+    let steps = run.steps;
+    let differences = run.differences;
+    println!(rt; "{steps} steps, {differences} differences")?;
+    let read = replay(&rt, "l07.bin", state.as_mut_slice(), &mut counts)?;
+    let readings = read.readings;
+    let differences = read.differences;
+    println!(rt; "{readings} readings, {differences} differences")
 }

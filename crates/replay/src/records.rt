@@ -1,6 +1,8 @@
 // The records of a file, one after the other.
+use crate::line::Form;
 use crate::{line, readings, table};
 use rules::{Answer, Shape};
+use std::io;
 
 // How far it went: the sizes and the state's length since the last start, and how many there were; `over` at the file's end.
 #[derive(Clone, Copy)]
@@ -38,12 +40,11 @@ pub fn with_difference(mut run: Run, differs: bool) -> Run {
 }
 
 // A record that cannot be run is a difference, and the last record.
-pub fn broken(mut run: Run, why: &[u8]) -> Run {
-    line::number(b"record ", run.records, b": ");
-    io::write_all(1, why);
-    io::write_all(1, b"\n");
+pub fn broken(rt: &impl Print, mut run: Run, why: &str) -> io::Result<Run> {
+    let record = run.records;
+    println!(rt; "record {record}: {why}")?;
     run.over = true;
-    with_difference(run, true)
+    Ok(with_difference(run, true))
 }
 
 // The number of an answer.
@@ -70,12 +71,11 @@ fn length_of(answer: Answer) -> usize {
     }
 }
 
-// Fills the first `length` bytes, and answers whether there were as many.
-pub fn read_first(fd: i32, buffer: &mut [u8], length: usize) -> bool {
-    if buffer.len() < length {
-        return false;
-    }
-    io::read_full(fd, &mut buffer[0..length]) == length
+// The next `length` bytes of what is left of a file, none where there are fewer.
+pub fn next<'a>(left: &mut &'a [u8], length: usize) -> Option<&'a [u8]> {
+    let (front, rest) = left.split_at_checked(length)?;
+    *left = rest;
+    Some(front)
 }
 
 // The digest of the first `length` bytes, 0 where there are fewer.
@@ -87,32 +87,46 @@ fn digest_first(bytes: &[u8], length: usize) -> u64 {
 }
 
 // Starts a replica of these sizes on the state's bytes.
-fn start_on(mut run: Run, shape: Shape, group: u64, replica: u64, state: &mut [u8]) -> Run {
+fn start_on(
+    rt: &impl Print,
+    mut run: Run,
+    shape: Shape,
+    group: u64,
+    replica: u64,
+    state: &mut [u8],
+) -> io::Result<Run> {
     let length = fresh::state_length(shape.n, shape.s, shape.c) as usize;
     if state.len() < length {
-        return broken(run, b"no room for the state");
+        return broken(rt, run, "no room for the state");
     }
     let number = number_of(fresh::start(shape, group, replica, &mut state[0..length]));
     run.shape = shape;
     run.length = length;
     run.starts = line::one_more(run.starts);
     let loud = run.differences == 0;
-    let differs = line::differ(loud, run.records, b"start", 0, number as u64, 0);
-    with_difference(run, differs)
+    let differs = line::differ(
+        rt,
+        loud,
+        run.records,
+        "start",
+        Form::Decimal,
+        number as u64,
+        0,
+    )?;
+    Ok(with_difference(run, differs))
 }
 
 // A record of a start.
-fn start_record(fd: i32, run: Run, state: &mut [u8]) -> Run {
-    let mut sizes = [0u8; 6];
-    if !read_first(fd, &mut sizes, 6) {
-        return broken(run, b"cut short");
-    }
-    let n = octets::look8(&sizes, 0) as u64;
-    let s = octets::look8(&sizes, 1) as u64;
-    let c = octets::look16(&sizes, 2) as u64;
-    let group = octets::look8(&sizes, 4) as u64;
-    let replica = octets::look8(&sizes, 5) as u64;
-    start_on(run, Shape { n, s, c }, group, replica, state)
+fn start_record(rt: &impl Print, left: &mut &[u8], run: Run, state: &mut [u8]) -> io::Result<Run> {
+    let Some(sizes) = next(left, 6) else {
+        return broken(rt, run, "cut short");
+    };
+    let n = octets::look8(sizes, 0) as u64;
+    let s = octets::look8(sizes, 1) as u64;
+    let c = octets::look16(sizes, 2) as u64;
+    let group = octets::look8(sizes, 4) as u64;
+    let replica = octets::look8(sizes, 5) as u64;
+    start_on(rt, run, Shape { n, s, c }, group, replica, state)
 }
 
 // What a step answered and left.
@@ -140,105 +154,138 @@ fn step_on(shape: Shape, state: &mut [u8], message: &[u8], out: &mut [u8]) -> Ca
 }
 
 // What came, held to what is wanted.
-fn held(mut run: Run, came: Came, want: &[u8]) -> Run {
+fn held(rt: &impl Print, mut run: Run, came: Came, want: &[u8]) -> io::Result<Run> {
     run.steps = line::one_more(run.steps);
     let at = run.records;
     let loud = run.differences == 0;
     let number = octets::look8(want, 0) as u64;
     let offset = octets::look32(want, 1) as u64;
     let length = octets::look32(want, 5) as u64;
-    let a = line::differ(loud, at, b"number", 0, came.number as u64, number);
-    let o = line::differ(loud, at, b"offset", 0, came.offset, offset);
-    let b = line::differ(loud, at, b"outgoing length", 0, came.length as u64, length);
-    let c = line::differ(
+    let a = line::differ(
+        rt,
         loud,
         at,
-        b"outgoing digest",
-        16,
+        "number",
+        Form::Decimal,
+        came.number as u64,
+        number,
+    )?;
+    let o = line::differ(rt, loud, at, "offset", Form::Decimal, came.offset, offset)?;
+    let b = line::differ(
+        rt,
+        loud,
+        at,
+        "outgoing length",
+        Form::Decimal,
+        came.length as u64,
+        length,
+    )?;
+    let c = line::differ(
+        rt,
+        loud,
+        at,
+        "outgoing digest",
+        Form::Digest,
         came.sent,
         octets::look64(want, 9),
-    );
+    )?;
     let d = line::differ(
+        rt,
         loud,
         at,
-        b"state digest",
-        16,
+        "state digest",
+        Form::Digest,
         came.left,
         octets::look64(want, 17),
-    );
-    with_difference(run, a | o | b | c | d)
+    )?;
+    Ok(with_difference(run, a | o | b | c | d))
 }
 
 // One step on the first bytes of the state, with that much room.
 fn step_in(
+    rt: &impl Print,
     run: Run,
     state: &mut [u8],
     message: &[u8],
     room: usize,
     want: &[u8],
     counts: &mut [u64],
-) -> Run {
+) -> io::Result<Run> {
     let mut out = [0u8; 4000];
     let length = run.length;
     if state.len() < length {
-        return broken(run, b"no state");
+        return broken(rt, run, "no state");
     }
     if 4000 < room {
-        return broken(run, b"no such room");
+        return broken(rt, run, "no such room");
     }
     let came = step_on(run.shape, &mut state[0..length], message, &mut out[0..room]);
     table::count(counts, octets::look8(message, 0), came.number);
-    held(run, came, want)
+    held(rt, run, came, want)
 }
 
 // A record of a step.
-fn step_record(fd: i32, run: Run, state: &mut [u8], counts: &mut [u64]) -> Run {
-    let mut sizes = [0u8; 8];
-    let mut message = [0u8; 1800];
-    let mut want = [0u8; 25];
-    if !read_first(fd, &mut sizes, 8) {
-        return broken(run, b"cut short");
-    }
-    let room = octets::look32(&sizes, 0) as usize;
-    let size = octets::look32(&sizes, 4) as usize;
+fn step_record(
+    rt: &impl Print,
+    left: &mut &[u8],
+    run: Run,
+    state: &mut [u8],
+    counts: &mut [u64],
+) -> io::Result<Run> {
+    let Some(sizes) = next(left, 8) else {
+        return broken(rt, run, "cut short");
+    };
+    let room = octets::look32(sizes, 0) as usize;
+    let size = octets::look32(sizes, 4) as usize;
     if 1800 < size {
-        return broken(run, b"no room for the message");
+        return broken(rt, run, "no room for the message");
     }
-    if !read_first(fd, &mut message, size) {
-        return broken(run, b"cut short");
-    }
-    if !read_first(fd, &mut want, 25) {
-        return broken(run, b"cut short");
-    }
-    step_in(run, state, &message[0..size], room, &want, counts)
+    let Some(message) = next(left, size) else {
+        return broken(rt, run, "cut short");
+    };
+    let Some(want) = next(left, 25) else {
+        return broken(rt, run, "cut short");
+    };
+    step_in(rt, run, state, message, room, want, counts)
 }
 
 // The next record, or the file's end.
-fn record(fd: i32, mut run: Run, state: &mut [u8], counts: &mut [u64]) -> Run {
-    let mut tag = [0u8; 1];
-    if !read_first(fd, &mut tag, 1) {
+fn record(
+    rt: &impl Print,
+    left: &mut &[u8],
+    mut run: Run,
+    state: &mut [u8],
+    counts: &mut [u64],
+) -> io::Result<Run> {
+    let Some(tag) = next(left, 1) else {
         run.over = true;
-        return run;
-    }
+        return Ok(run);
+    };
     run.records = line::one_more(run.records);
-    match octets::look8(&tag, 0) {
-        1 => start_record(fd, run, state),
-        2 => step_record(fd, run, state, counts),
-        5 => readings::record(fd, run, state),
-        _ => broken(run, b"neither a start, a step nor a reading"),
+    match octets::look8(tag, 0) {
+        1 => start_record(rt, left, run, state),
+        2 => step_record(rt, left, run, state, counts),
+        5 => readings::record(rt, left, run, state),
+        _ => broken(rt, run, "neither a start, a step nor a reading"),
     }
 }
 
-// All records, at most a million: nothing says that a file ends.
-pub fn replay(fd: i32, state: &mut [u8], counts: &mut [u64]) -> Run {
+// All records of a file's bytes, at most a million.
+pub fn replay(
+    rt: &impl Print,
+    bytes: &[u8],
+    state: &mut [u8],
+    counts: &mut [u64],
+) -> io::Result<Run> {
+    let mut left = bytes;
     let mut run = fresh();
     let mut turns: u64 = 0;
     while turns < 1000000 {
-        run = record(fd, run, state, counts);
+        run = record(rt, &mut left, run, state, counts)?;
         if run.over {
-            return run;
+            return Ok(run);
         }
         turns += 1;
     }
-    broken(run, b"not the last")
+    broken(rt, run, "not the last")
 }

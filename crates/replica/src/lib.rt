@@ -1,4 +1,4 @@
-// The public face: a site's start and step on lent bytes, and the functions that hosts link.
+// The public face: a site's start and step on lent bytes, and the functions that hosts link by `replica_c`.
 #![tactic(auto)]
 
 ghost use Rattle.std.specs.Prelude.{◌≡◌, ◌≤◌};
@@ -24,7 +24,7 @@ pub fn step(shape: Shape, state: &mut [u8], message: &[u8], out: &mut [u8]) -> A
     rooms::step(shape, state, message, out)
 }
 
-// ---- for hosts: the same under C names, every number one of 64 bits, a slice as a pointer and a length
+// ---- for hosts, which link them by `replica_c`: the same with every number one of 64 bits
 
 // The number of the table with what stands beside it, the outgoing length or the offset, 256 times.
 fn coded(number: u8, beside: usize) -> u64
@@ -47,55 +47,42 @@ fn code(answer: Answer) -> u64
 const PROVED: u64 = 0;
 
 // The version of the interface: major * 10000 + minor * 100 + patch.
-#[unsafe(no_mangle)]
-pub extern "C" fn jallumere_version() -> u64
+pub fn jallumere_version() -> u64
     ensures { IsVersion result }
 {
     20100
 }
 
 // 0: this is the proved core, and not the implementation that it is compared with.
-#[unsafe(no_mangle)]
-pub extern "C" fn jallumere_is_model() -> u64
+pub fn jallumere_is_model() -> u64
     ensures { IsCore result }
 {
     PROVED
 }
 
 // The state's length, 0 for wrong sizes.
-#[unsafe(no_mangle)]
-pub extern "C" fn jallumere_state_length(n: u64, s: u64, c: u64) -> u64
+pub fn jallumere_state_length(n: u64, s: u64, c: u64) -> u64
     ensures { Measures (record { n = n; s = s; c = c }) result }
 {
     fresh::state_length(n, s, c)
 }
 
 // 0 and the fresh state's bytes, or 1 and all as it came.
-#[unsafe(no_mangle)]
-pub extern "C" fn jallumere_start(
-    n: u64,
-    s: u64,
-    c: u64,
-    group: u64,
-    replica: u64,
-    state: &mut [u8],
-) -> u64
+pub fn jallumere_start(n: u64, s: u64, c: u64, group: u64, replica: u64, state: &mut [u8]) -> u64
     ensures { Starts (record { n = n; s = s; c = c }) group replica state.old result state.new }
 {
     code(fresh::start(Shape { n, s, c }, group, replica, state))
 }
 
 // 0 and the older state's bytes with early in order, or 1 and all as it came where they are not those of a state good but for that order.
-#[unsafe(no_mangle)]
-pub extern "C" fn jallumere_order(n: u64, s: u64, c: u64, state: &mut [u8]) -> u64
+pub fn jallumere_order(n: u64, s: u64, c: u64, state: &mut [u8]) -> u64
     ensures { Orders (record { n = n; s = s; c = c }) state.old result state.new }
 {
     code(rooms::order(Shape { n, s, c }, state))
 }
 
 // One step: the number of the table, and 256 times the outgoing length or, with 2, the offset of the first wrong field.
-#[unsafe(no_mangle)]
-pub extern "C" fn jallumere_step(
+pub fn jallumere_step(
     n: u64,
     s: u64,
     c: u64,
@@ -110,8 +97,7 @@ pub extern "C" fn jallumere_step(
 }
 
 // 0 where the bytes are those of a good state, else 1.
-#[unsafe(no_mangle)]
-pub extern "C" fn jallumere_good(n: u64, s: u64, c: u64, state: &[u8]) -> u64
+pub fn jallumere_good(n: u64, s: u64, c: u64, state: &[u8]) -> u64
     ensures { Judges (record { n = n; s = s; c = c }) state.now result }
 {
     if rooms::good(Shape { n, s, c }, state) {
@@ -121,8 +107,7 @@ pub extern "C" fn jallumere_good(n: u64, s: u64, c: u64, state: &[u8]) -> u64
 }
 
 // 0 for a message, 1 for wrong sizes, 2 for bytes that are none, and 256 times the offset of the first wrong field.
-#[unsafe(no_mangle)]
-pub extern "C" fn jallumere_read(n: u64, s: u64, message: &[u8]) -> u64
+pub fn jallumere_read(n: u64, s: u64, message: &[u8]) -> u64
     ensures { Reads n s message.now result }
 {
     let m = rooms::read(n, s, message);
@@ -130,47 +115,35 @@ pub extern "C" fn jallumere_read(n: u64, s: u64, message: &[u8]) -> u64
 }
 
 // The length of the message that the bytes begin with, 0 where they begin with none.
-#[unsafe(no_mangle)]
-pub extern "C" fn jallumere_message_length(n: u64, s: u64, bytes: &[u8]) -> u64
+pub fn jallumere_message_length(n: u64, s: u64, bytes: &[u8]) -> u64
     ensures { MeasuresFirst n s bytes.now result }
 {
     readers::message_length(n, s, bytes)
 }
 
 // A field of the state by its number, or nothing.
-#[unsafe(no_mangle)]
-pub extern "C" fn jallumere_field(n: u64, s: u64, c: u64, field: u64, state: &[u8]) -> u64
+pub fn jallumere_field(n: u64, s: u64, c: u64, field: u64, state: &[u8]) -> u64
     ensures { TellsField (record { n = n; s = s; c = c }) field state.now result }
 {
     readers::field(Shape { n, s, c }, field, state)
 }
 
 // The view of a group in the state's gVec, or nothing.
-#[unsafe(no_mangle)]
-pub extern "C" fn jallumere_group_view(n: u64, s: u64, c: u64, group: u64, state: &[u8]) -> u64
+pub fn jallumere_group_view(n: u64, s: u64, c: u64, group: u64, state: &[u8]) -> u64
     ensures { TellsView (record { n = n; s = s; c = c }) group state.now result }
 {
     readers::group_view(Shape { n, s, c }, group, state)
 }
 
 // A field of the log's entry at a position, from 1 on, or nothing.
-#[unsafe(no_mangle)]
-pub extern "C" fn jallumere_entry(
-    n: u64,
-    s: u64,
-    c: u64,
-    position: u64,
-    field: u64,
-    state: &[u8],
-) -> u64
+pub fn jallumere_entry(n: u64, s: u64, c: u64, position: u64, field: u64, state: &[u8]) -> u64
     ensures { TellsEntry (record { n = n; s = s; c = c }) position field state.now result }
 {
     readers::entry(Shape { n, s, c }, position, field, state)
 }
 
 // FNV-1a run on from `start`.
-#[unsafe(no_mangle)]
-pub extern "C" fn jallumere_digest(start: u64, bytes: &[u8]) -> u64
+pub fn jallumere_digest(start: u64, bytes: &[u8]) -> u64
     ensures { DigestsOn start bytes.now result }
 {
     digest::digest_on(start, bytes)
@@ -234,8 +207,7 @@ fn count_at(s: u64, kind: u8) -> usize
 
 // Writes the message of these fields: 0, 1, 2 or 9, and 256 times its length or, with 2, the offset of its first wrong field. The numbers are all
 // that the kind has.
-#[unsafe(no_mangle)]
-pub extern "C" fn jallumere_write(
+pub fn jallumere_write(
     n: u64,
     s: u64,
     kind: u64,

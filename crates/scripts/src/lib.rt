@@ -7,6 +7,8 @@
 // with # is a comment.
 #![tactic(auto)]
 
+use std::io;
+use std::io::Write;
 
 // A row: its letter, its numbers, the wanted answer, and where its name begins and ends.
 #[derive(Clone, Copy)]
@@ -137,39 +139,35 @@ pub fn row_at(text: &[u8], at: usize) -> Row {
 }
 
 // Prints the name of a row.
-pub fn write_name(text: &[u8], row: Row) {
+pub fn write_name(rt: &impl Print, text: &[u8], row: Row) -> io::Result<()> {
     let from = row.name;
     let upto = row.end;
     if upto < from {
-        return;
+        return Ok(());
     }
     if text.len() < upto {
-        return;
+        return Ok(());
     }
-    io::write_all(1, &text[from..upto]);
+    io::writer(rt).write_all(&text[from..upto])
 }
 
 // Prints whether the answer is the wanted one, with both where they differ, and answers 1 where they do.
-pub fn same(got: u64, want: u64) -> u64 {
+pub fn same(rt: &impl Print, got: u64, want: u64) -> io::Result<u64> {
     if got == want {
-        io::write_all(1, b": ok\n");
-        return 0;
+        println!(rt; ": ok")?;
+        return Ok(0);
     }
-    io::write_all(1, b": DIFFERENT, got ");
-    io::print_hex(1, got, 16);
-    io::write_all(1, b", want ");
-    io::print_hex(1, want, 16);
-    io::write_all(1, b"\n");
-    1
+    println!(rt; ": DIFFERENT, got {got:016x}, want {want:016x}")?;
+    Ok(1)
 }
 
 // Prints the line of a row that has a name, and answers 1 where its check failed.
-pub fn told(text: &[u8], row: Row, got: u64) -> u64 {
+pub fn told(rt: &impl Print, text: &[u8], row: Row, got: u64) -> io::Result<u64> {
     if (row.asks == b'#') | (row.end <= row.name) {
-        return 0;
+        return Ok(0);
     }
-    write_name(text, row);
-    same(got, row.want)
+    write_name(rt, text, row)?;
+    same(rt, got, row.want)
 }
 
 // Both counts of failed checks; a count that would wrap stays.
@@ -183,8 +181,6 @@ pub fn more(failed: u64, here: u64) -> u64 {
 }
 
 // The last line: how many checks failed.
-pub fn total(failed: u64) {
-    io::write_all(1, b"failed: ");
-    io::print_decimal(1, failed);
-    io::write_all(1, b"\n");
+pub fn total(rt: &impl Print, failed: u64) -> io::Result<()> {
+    println!(rt; "failed: {failed}")
 }

@@ -1,7 +1,6 @@
 -- `scripts::line_end` is safe and ends: the bytes that are left grow fewer. Assumes nothing.
 use Prim.Native.Nat.{◌≤◌, ◌-◌}
 use lib.ListN.{length}
-use borrow.Author.Rules.{rules}
 use Rattle.scripts.proofs.line_end.Given as goal
 
 abbrev pub invariant-loop-at : goal.invariant-loop-at
