@@ -1,5 +1,5 @@
 -- Of keys in a row: the first that repeats an earlier one, and the first that is a given one.
-use Rattle.std.specs.Prelude.{ℕ, zero, suc, ◌<◌, ◌≡◌, Bool, true, false, ◌&&◌, ◌||◌, not, eqb}
+use Rattle.std.specs.Prelude.{ℕ, zero, suc, ◌<◌, ◌≡◌, Bool, false, ◌&&◌, ◌||◌, not, eqb}
 use Rattle.rules.specs.Choice.{pick}
 
 -- one of the first j keys is x

@@ -1,30 +1,29 @@
 -- A state with early in order: what that leaves as it is, what is asked of one that is good but for that order, and what the call leaves that orders an older
 -- state: no entry lost, good bytes as they are, and a good state from which every message is answered as before. Assumes nothing.
 use Prim.Native.Nat.{ℕ}
-use mathlib.Core.Path.{◌≡◌, refl, sym, subst, ap, ap₂, ◌∙◌}
-use mathlib.Core.Bool.{Bool, true, false, ◌&&◌, not}
+use mathlib.Core.Path.{◌≡◌, refl, sym, ap, ◌∙◌}
+use mathlib.Core.Bool.{true, false, ◌&&◌}
 use mathlib.Core.List.{List, [], ◌∷◌, ◌++◌}
 use lib.ListN.{length}
-use lib.Dec.{eqb, leb}
-use Rattle.octets.proofs.Codecs.{All}
-use Rattle.rules.specs.Choice.{pick, when, all_of, every}
+use lib.Dec.{eqb}
+use Rattle.rules.specs.Choice.{pick, all_of, every}
 use Rattle.rules.specs.Group.{holds, shape_fits}
 use Rattle.rules.specs.Entry.{entry_fits, before, ordered}
 use Rattle.rules.specs.Log.{held_of, last_of, follows_last, rise_from, all_hold, distinct}
 use Rattle.rules.specs.Read.{entry_wide}
-use Rattle.rules.specs.State.{State, with_waiting, in_order, leads, view_good, heard_good, vote_good, reply_good, kept_good, counts_good, buffers_good, early_good, ranges_good, places_good, good}
+use Rattle.rules.specs.State.{State, with_waiting, in_order, view_good, heard_good, vote_good, reply_good, kept_good, counts_good, buffers_good, early_good, ranges_good, places_good, good}
 use Rattle.rules.specs.Wire.{Wire}
 use Rattle.rules.specs.Image.{image, state_of, canonical, good_bytes, orderable, state_length}
-use Rattle.rules.specs.Bytes.{Left, leaves, order_bytes}
+use Rattle.rules.specs.Bytes.{leaves, order_bytes}
 use Rattle.rules.specs.Step.{step}
 use Rattle.rules.specs.declared.Entry.{Entry}
 use Rattle.rules.specs.declared.Shape.{Shape}
-use Rattle.rules.proofs.Choice.{Pairs, truth, pairs_map, pairs_front, pairs_back, every_all, all_every, and_left, and_right, and_both}
+use Rattle.rules.proofs.Choice.{Pairs, truth, pairs_map, pairs_front, pairs_back, every_all, all_every, and_left, and_right}
 use Rattle.rules.proofs.Tests.{split, join, ◌also◌, same_true}
 use Rattle.rules.proofs.Order.{Perm, perm_back, perm_same, perm_behind, perm_front, perm_all, perm_pairs, perm_every, before_asym, ordered_perm, ordered_sorted, ordered_same, ordered_length}
 use Rattle.rules.proofs.Logs.{Apart, apart_turns, Rising, sorted_rises, rise_pairs, pairs_rise, distinct_pairs, pairs_distinct}
 use Rattle.rules.proofs.Conjuncts.{good_is}
-use Rattle.rules.proofs.Good.{GoodBytes, good_bytes_lem, state_image, image_good}
+use Rattle.rules.proofs.Good.{good_bytes_lem, state_image, image_good}
 use Rattle.rules.proofs.Unordered.{Alike, Agree, step_before, same_step}
 
 -- ---- entries

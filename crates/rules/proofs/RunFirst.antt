@@ -16,7 +16,7 @@ use Rattle.rules.specs.Kind.{row_of, from_outside}
 use Rattle.rules.specs.Wire.{Wire}
 use Rattle.rules.specs.State.{Vote, State}
 use Rattle.rules.specs.Rebuild.{top_from}
-use Rattle.rules.specs.Step.{Outcome, refused, done, newer, equal, entered, vote_in, leads_by, view_right, status_right, role_right, started, starts, verifies, keeps_vote, on_vote, handle, step}
+use Rattle.rules.specs.Step.{Outcome, refused, done, newer, equal, entered, vote_in, leads_by, view_right, status_right, role_right, starts, verifies, keeps_vote, on_vote, handle, step}
 use Rattle.rules.specs.declared.Entry.{Entry}
 use Rattle.rules.specs.declared.Shape.{Shape}
 use Rattle.rules.proofs.Tests.{get_d_replicate}

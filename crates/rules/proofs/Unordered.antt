@@ -12,7 +12,7 @@ use Rattle.octets.proofs.Codecs.{All}
 use Rattle.rules.specs.Choice.{pick, keep, leading, is_some}
 use Rattle.rules.specs.Group.{holds, shape_fits}
 use Rattle.rules.specs.Read.{formed}
-use Rattle.rules.specs.Entry.{latest, same_txn, among, place, ordered, same_key, without, before}
+use Rattle.rules.specs.Entry.{latest, same_txn, among, place, ordered, same_key, before}
 use Rattle.rules.specs.Log.{held_of, length_of, last_of, appended, follows_last, leader_stamp, raised}
 use Rattle.rules.specs.Kind.{row_of, to_outside, Statuses, any_status, one_of, if_equal}
 use Rattle.rules.specs.declared.Sender.{Sender}
@@ -23,7 +23,7 @@ use Rattle.rules.specs.declared.Views.{Views}
 use Rattle.rules.specs.declared.Views.TheVariants.{AnyView, Greater, GreaterOrEqual, BothEqual}
 use Rattle.rules.specs.Wire.{Wire, first_entry, number, log_in}
 use Rattle.rules.specs.State.{State, Note, with_waiting, leads, noted, agreed, good}
-use Rattle.rules.specs.Early.{keep_note, lifted, put_early, due_of, stays_early, falls_late}
+use Rattle.rules.specs.Early.{keep_note, lifted, due_of, falls_late}
 use Rattle.rules.specs.Step.{Outcome, refused, done, within, sends, send_leader, other_groups, known_to, at_due, entered, newer, here, view_fits, status_fits, receiver_fits, sender_fits, view_right, status_right, role_right}
 use Rattle.rules.specs.Step.{fitting, released, placed_reply, placed_replies, unplaced_reply, leader_tells, leader_takes, follower_takes, on_transaction, on_note, leader_releases, follower_releases, on_tick, on_replica_sync, on_sync_status, on_commit}
 use Rattle.rules.specs.Step.{on_change_view, starts, verifies, keeps_vote, vote_in, on_vote, on_start_view, on_verify_request, on_verify_reply, handle, step}

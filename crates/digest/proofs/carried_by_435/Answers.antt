@@ -1,4 +1,4 @@
-use Rattle.std.proofs.Common.{arith, rules}
+use Rattle.std.proofs.Common.{arith}
 use Rattle.digest.proofs.Laws.{carried}
 use Rattle.digest.proofs.carried_by_435.Goals as goal
 

@@ -1,4 +1,4 @@
-use Rattle.std.proofs.Common.{◌≡◌, ℕ, ◌+◌, ◌-◌, ◌*◌, ◌%◌, ◌^◌, ◌<◌, ◌≤◌, length, drop, sym, ap, ◌∙◌, div-add-mod', arith, rules}
+use Rattle.std.proofs.Common.{◌≡◌, ℕ, ◌+◌, ◌*◌, ◌%◌, ◌^◌, sym, ap, ◌∙◌, div-add-mod', arith, rules}
 use Rattle.rules.specs.Digest.{digest_from}
 use Rattle.digest.specs.Halves.{whole_of}
 use Rattle.digest.proofs.Laws.{digest_more, digest_done}

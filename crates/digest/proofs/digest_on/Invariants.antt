@@ -1,7 +1,6 @@
-use Rattle.std.proofs.Common.{◌≡◌, ℕ, ◌+◌, ◌-◌, ◌*◌, ◌%◌, ◌^◌, ◌<◌, ◌≤◌, length, drop, sym, ap, ◌∙◌, div-add-mod', arith, rules}
+use Rattle.std.proofs.Common.{◌≡◌, ◌-◌, ◌^◌, ◌<◌, ◌≤◌, length, drop}
 use Rattle.rules.specs.Digest.{digest_from}
 use Rattle.digest.specs.Halves.{whole_of}
-use Rattle.digest.proofs.Laws.{digest_more, digest_done}
 use Rattle.digest.proofs.digest_on.Given as goal
 
 abbrev pub invariant-loop-i : goal.invariant-loop-i

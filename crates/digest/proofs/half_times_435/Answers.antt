@@ -1,4 +1,4 @@
-use Rattle.std.proofs.Common.{◌^◌, refl, rules}
+use Rattle.std.proofs.Common.{◌^◌, refl}
 use Rattle.digest.proofs.Laws.{plus, plus_one}
 use Rattle.digest.proofs.half_times_435.Goals as goal
 

@@ -1,5 +1,4 @@
 use Rattle.digest.proofs.Laws.{by_halves}
-use Rattle.std.proofs.Common.{rules}
 use Rattle.digest.proofs.times_435.Goals as goal
 
 pub returns : goal.returns

@@ -1,4 +1,4 @@
-use Rattle.std.proofs.Common.{arith, rules}
+use Rattle.std.proofs.Common.{arith}
 use Rattle.digest.proofs.Laws.{prime_apart}
 use Rattle.digest.proofs.times_prime.Goals as goal
 

@@ -1,9 +1,6 @@
 use mathlib.Core.Path.{◌∙◌, sym}
-use Prim.Native.Nat.{◌-◌}
 use native.Mathlib.Omega.{arith}
-use Rattle.group.specs.Points.{points}
-use Rattle.group.proofs.Commit.{Between, begins, rises, falls, ends}
-use borrow.Author.Rules.{rules}
+use Rattle.group.proofs.Commit.{begins, rises, falls, ends}
 use Rattle.group.proofs.commit_point.Goals as goal
 
 pub loop-low-init : goal.loop-low-init

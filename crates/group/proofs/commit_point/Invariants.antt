@@ -1,9 +1,6 @@
-use mathlib.Core.Path.{◌∙◌, sym}
 use Prim.Native.Nat.{◌-◌}
-use native.Mathlib.Omega.{arith}
 use Rattle.group.specs.Points.{points}
-use Rattle.group.proofs.Commit.{Between, begins, rises, falls, ends}
-use borrow.Author.Rules.{rules}
+use Rattle.group.proofs.Commit.{Between}
 use Rattle.group.proofs.commit_point.Given as goal
 
 abbrev pub invariant-loop-low : goal.invariant-loop-low

@@ -1,5 +1,4 @@
 use Rattle.group.proofs.Commit.{own_reached, unheard, heard_reached}
-use borrow.Author.Rules.{rules}
 use Rattle.group.proofs.has_reached.Goals as goal
 
 pub returns-then-i-own : goal.returns-then-i-own

@@ -1,6 +1,5 @@
 use native.Mathlib.Omega.{arith}
 use Rattle.group.proofs.Masks.{none_past}
-use borrow.Author.Rules.{rules}
 use Rattle.group.proofs.holds.Goals as goal
 
 pub returns-then-j-ge16 : goal.returns-then-j-ge16

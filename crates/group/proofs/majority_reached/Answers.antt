@@ -1,5 +1,4 @@
 use Rattle.group.specs.Points.{held}
-use borrow.Author.Rules.{rules}
 use Rattle.group.proofs.majority_reached.Goals as goal
 
 pub returns : goal.returns

@@ -1,5 +1,4 @@
 use Rattle.group.proofs.Masks.{shifted}
-use borrow.Author.Rules.{rules}
 use Rattle.group.proofs.only.Goals as goal
 
 pub returns : goal.returns

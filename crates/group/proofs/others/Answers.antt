@@ -1,6 +1,5 @@
 use native.Mathlib.Omega.{arith}
 use Rattle.group.proofs.Masks.{positive, rises_more}
-use borrow.Author.Rules.{rules}
 use Rattle.group.proofs.others.Goals as goal
 
 pub overflow_sub-result : goal.overflow_sub-result

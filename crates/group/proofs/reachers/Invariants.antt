@@ -1,12 +1,8 @@
-use mathlib.Core.Path.{◌≡◌, ◌∙◌, ap}
-use mathlib.Core.Logic.{⊎_elim}
+use mathlib.Core.Path.{◌≡◌}
 use Prim.Native.Nat.{◌≤◌, ◌-◌}
-use native.Mathlib.Omega.{arith}
 use Rattle.rules.specs.Choice.{count}
 use Rattle.rules.specs.Commit.{reached}
 use Rattle.group.specs.Points.{points}
-use Rattle.group.proofs.Commit.{reached_told, count_none, count_more, count_same}
-use borrow.Author.Rules.{rules}
 use Rattle.group.proofs.reachers.Given as goal
 
 abbrev pub invariant-loop-i : goal.invariant-loop-i

@@ -1,10 +1,9 @@
-use mathlib.Core.Path.{◌≡◌, ap}
+use mathlib.Core.Path.{ap}
 use mathlib.Core.Bool.{◌&&◌}
 use Prim.Native.Nat.{ℕ}
 use native.Mathlib.Omega.{arith}
 use lib.Dec.{ltb}
 use Rattle.group.proofs.Masks.{all_past, shifted}
-use borrow.Author.Rules.{rules}
 use Rattle.group.proofs.some_of.Goals as goal
 
 pub returns-then-k-ge16 : goal.returns-then-k-ge16

@@ -1,9 +1,5 @@
-use mathlib.Core.Path.{◌≡◌}
-use Prim.Native.Nat.{ℕ, ◌≤◌, ◌<◌, ◌-◌}
-use lib.ListN.{length, get_or}
 use native.Mathlib.Omega.{arith}
-use Rattle.hashed.specs.Table.{Empty}
-use Rattle.hashed.proofs.Table.{FreeTo, free_none, free_more, free_all}
+use Rattle.hashed.proofs.Table.{free_none, free_more, free_all}
 use borrow.Author.Rules.{rules}
 use Rattle.hashed.proofs.empty.Goals as goal
 

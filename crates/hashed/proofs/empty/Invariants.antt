@@ -1,10 +1,7 @@
 use mathlib.Core.Path.{◌≡◌}
-use Prim.Native.Nat.{ℕ, ◌≤◌, ◌<◌, ◌-◌}
-use lib.ListN.{length, get_or}
-use native.Mathlib.Omega.{arith}
-use Rattle.hashed.specs.Table.{Empty}
-use Rattle.hashed.proofs.Table.{FreeTo, free_none, free_more, free_all}
-use borrow.Author.Rules.{rules}
+use Prim.Native.Nat.{◌≤◌, ◌-◌}
+use lib.ListN.{length}
+use Rattle.hashed.proofs.Table.{FreeTo}
 use Rattle.hashed.proofs.empty.Given as goal
 
 abbrev pub invariant-loop-p : goal.invariant-loop-p

@@ -2,7 +2,6 @@ use mathlib.Core.Path.{◌∙◌}
 use native.Mathlib.Omega.{arith}
 use Rattle.repeats.specs.Rows.{count_of, key_of}
 use Rattle.hashed.proofs.Table.{find_out, find_free, find_row}
-use borrow.Author.Rules.{rules}
 use Rattle.hashed.proofs.find.Goals as goal
 
 pub returns-then-table-p : goal.returns-then-table-p

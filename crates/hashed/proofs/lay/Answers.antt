@@ -1,11 +1,7 @@
-use mathlib.Core.Logic.{⊎_elim}
-use mathlib.Core.Path.{◌≡◌, refl}
-use Prim.Native.Nat.{ℕ, ◌≤◌, ◌+◌, ◌*◌, ◌-◌}
-use lib.ListN.{length}
+use mathlib.Core.Path.{refl}
 use native.Mathlib.Omega.{arith}
 use Rattle.repeats.specs.Rows.{count_of, key_of}
-use Rattle.hashed.specs.Table.{Holds, Empty}
-use Rattle.hashed.proofs.Table.{Free, free_first, free_further, Only, only_none, only_more, holds_more, laid_full, laid_again, laid_all}
+use Rattle.hashed.proofs.Table.{Free, free_first, free_further, only_none, only_more, holds_more, laid_full, laid_again, laid_all}
 use borrow.Author.Rules.{rules}
 use Rattle.hashed.proofs.lay.Goals as goal
 use Rattle.hashed.proofs.lay.Goals.{then-row-m+else-table-p+else-row-m-2+else-i-passed, else-row-m}

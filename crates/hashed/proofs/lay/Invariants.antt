@@ -1,12 +1,9 @@
-use mathlib.Core.Logic.{⊎_elim}
-use mathlib.Core.Path.{◌≡◌, refl}
-use Prim.Native.Nat.{ℕ, ◌≤◌, ◌+◌, ◌*◌, ◌-◌}
+use mathlib.Core.Path.{◌≡◌}
+use Prim.Native.Nat.{◌≤◌, ◌+◌, ◌*◌, ◌-◌}
 use lib.ListN.{length}
-use native.Mathlib.Omega.{arith}
 use Rattle.repeats.specs.Rows.{count_of, key_of}
 use Rattle.hashed.specs.Table.{Holds, Empty}
-use Rattle.hashed.proofs.Table.{Free, free_first, free_further, Only, only_none, only_more, holds_more, laid_full, laid_again, laid_all}
-use borrow.Author.Rules.{rules}
+use Rattle.hashed.proofs.Table.{Only}
 use Rattle.hashed.proofs.lay.Given as goal
 
 abbrev pub invariant-loop-i : goal.invariant-loop-i

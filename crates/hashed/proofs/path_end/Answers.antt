@@ -1,8 +1,7 @@
-use mathlib.Core.Path.{◌≡◌, ◌∙◌, sym}
-use Prim.Native.Nat.{◌+◌, ◌-◌, ◌≤◌}
+use mathlib.Core.Path.{◌∙◌, sym}
+use Prim.Native.Nat.{◌+◌, ◌-◌}
 use native.Mathlib.Omega.{arith}
 use Rattle.repeats.specs.Rows.{count_of, key_of}
-use Rattle.hashed.specs.Table.{stop, slot_at}
 use Rattle.hashed.proofs.Table.{stop_none, path_starts, path_free, path_row, path_on}
 use borrow.Author.Rules.{rules}
 use Rattle.hashed.proofs.path_end.Goals as goal

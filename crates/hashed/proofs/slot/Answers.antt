@@ -4,7 +4,6 @@ use mathlib.Core.Path.{ap}
 use native.Mathlib.Nat.{mul-le-mul_left, mul-le-mul_right}
 use native.Mathlib.Omega.{arith}
 use Rattle.hashed.specs.Table.{slot_of}
-use borrow.Author.Rules.{rules}
 use Rattle.hashed.proofs.slot.Goals as goal
 
 share : (h n : ℕ) → h < 4294967296 → h * n / 4294967296 ≤ n

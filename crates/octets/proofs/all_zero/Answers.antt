@@ -1,11 +1,9 @@
-use Prim.Native.Nat.{◌+◌, ◌-◌, ◌%◌}
+use Prim.Native.Nat.{◌%◌}
 use mathlib.Core.Bool.{true, false}
 use mathlib.Core.Path.{refl, sym, ◌∙◌}
 use native.Mathlib.Omega.{arith}
 use borrow.Author.Tests.{not-true, not-false}
-use Rattle.octets.specs.Bytes.{part, zeros}
 use Rattle.octets.proofs.Turns.{zeros_both}
-use borrow.Author.Rules.{rules}
 use Rattle.octets.proofs.all_zero.Goals as goal
 
 pub returns-then-not-zero_blocks : goal.returns-then-not-zero_blocks

@@ -1,6 +1,5 @@
 use native.Mathlib.Omega.{arith}
 use Rattle.octets.proofs.Turns.{copy_all}
-use borrow.Author.Rules.{rules}
 use Rattle.octets.proofs.copy_in.Goals as goal
 
 pub returns : goal.returns

@@ -1,8 +1,4 @@
-use Prim.Native.Nat.{◌≤◌, ◌%◌, ◌-◌}
-use mathlib.Core.Path.{◌≡◌}
 use native.Mathlib.Omega.{arith}
-use lib.ListN.{length}
-use Rattle.octets.specs.Bytes.{part, splice}
 use Rattle.octets.proofs.Turns.{none_yet, copy_turn, all_done}
 use borrow.Author.Rules.{rules}
 use Rattle.octets.proofs.copy_words.Goals as goal

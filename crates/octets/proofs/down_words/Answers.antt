@@ -1,8 +1,5 @@
-use Prim.Native.Nat.{◌≤◌, ◌%◌, ◌-◌}
-use mathlib.Core.Path.{◌≡◌, refl}
+use mathlib.Core.Path.{refl}
 use native.Mathlib.Omega.{arith}
-use lib.ListN.{length}
-use Rattle.octets.specs.Bytes.{part, splice}
 use Rattle.octets.proofs.Turns.{none_yet, down_next, all_done}
 use borrow.Author.Rules.{rules}
 use Rattle.octets.proofs.down_words.Goals as goal

@@ -1,8 +1,5 @@
-use Prim.Native.Nat.{◌≤◌, ◌%◌, ◌-◌}
-use mathlib.Core.Path.{◌≡◌, refl, sym}
+use mathlib.Core.Path.{refl, sym}
 use native.Mathlib.Omega.{arith}
-use lib.ListN.{length, replicate}
-use Rattle.octets.specs.Bytes.{splice}
 use Rattle.octets.proofs.Laws.{splice_none}
 use Rattle.octets.proofs.Turns.{fill_turn, fill_done}
 use borrow.Author.Rules.{rules}

@@ -1,11 +1,7 @@
 use Prim.Native.Nat.{◌≤◌, ◌%◌, ◌-◌}
-use mathlib.Core.Path.{◌≡◌, refl, sym}
-use native.Mathlib.Omega.{arith}
+use mathlib.Core.Path.{◌≡◌}
 use lib.ListN.{length, replicate}
 use Rattle.octets.specs.Bytes.{splice}
-use Rattle.octets.proofs.Laws.{splice_none}
-use Rattle.octets.proofs.Turns.{fill_turn, fill_done}
-use borrow.Author.Rules.{rules}
 use Rattle.octets.proofs.fill_words.Given as goal
 
 abbrev pub invariant-loop-i : goal.invariant-loop-i

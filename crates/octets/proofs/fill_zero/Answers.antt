@@ -1,7 +1,6 @@
 use Prim.Native.Nat.{◌-◌, ◌%◌}
 use native.Mathlib.Omega.{arith}
 use Rattle.octets.proofs.Turns.{fill_next}
-use borrow.Author.Rules.{rules}
 use Rattle.octets.proofs.fill_zero.Goals as goal
 
 pub returns : goal.returns

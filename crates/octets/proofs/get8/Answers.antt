@@ -1,5 +1,4 @@
 use Rattle.octets.proofs.Laws.{num_one}
-use borrow.Author.Rules.{rules}
 use Rattle.octets.proofs.get8.Goals as goal
 
 pub returns : goal.returns

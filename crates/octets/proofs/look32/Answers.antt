@@ -1,7 +1,6 @@
 use mathlib.Core.Path.{sym}
 use native.Mathlib.Omega.{arith}
 use Rattle.octets.proofs.Laws.{num_past_end, get_low, get_two}
-use borrow.Author.Rules.{rules}
 use Rattle.octets.proofs.look32.Goals as goal
 
 pub returns-then-s-at : goal.returns-then-s-at

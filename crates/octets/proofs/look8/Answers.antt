@@ -1,6 +1,5 @@
 use mathlib.Core.Path.{sym}
 use Rattle.octets.proofs.Laws.{num_past_end}
-use borrow.Author.Rules.{rules}
 use Rattle.octets.proofs.look8.Goals as goal
 
 pub returns-then-s-at : goal.returns-then-s-at

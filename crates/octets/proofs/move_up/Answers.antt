@@ -1,6 +1,5 @@
 use native.Mathlib.Omega.{arith}
 use Rattle.octets.proofs.Turns.{up_next}
-use borrow.Author.Rules.{rules}
 use Rattle.octets.proofs.move_up.Goals as goal
 
 pub returns : goal.returns

@@ -1,6 +1,5 @@
 use native.Mathlib.Omega.{arith}
 use Rattle.octets.proofs.Turns.{written}
-use borrow.Author.Rules.{rules}
 use Rattle.octets.proofs.move_word.Goals as goal
 
 pub returns : goal.returns

@@ -1,6 +1,5 @@
 use native.Mathlib.Omega.{arith}
 use Rattle.octets.proofs.Laws.{put_two}
-use borrow.Author.Rules.{rules}
 use Rattle.octets.proofs.put64.Goals as goal
 
 pub returns : goal.returns

@@ -1,10 +1,7 @@
 use Prim.Native.Nat.{◌≤◌, ◌-◌, ◌+◌}
 use mathlib.Core.Path.{◌≡◌}
-use native.Mathlib.Omega.{arith}
 use lib.ListN.{length}
 use Rattle.octets.specs.Bytes.{part, splice}
-use Rattle.octets.proofs.Turns.{up_none, up_turn, up_done}
-use borrow.Author.Rules.{rules}
 use Rattle.octets.proofs.up_bytes.Given as goal
 
 abbrev pub invariant-loop-i : goal.invariant-loop-i

@@ -1,7 +1,6 @@
 use Prim.Native.Nat.{◌+◌}
 use native.Mathlib.Omega.{arith}
 use Rattle.octets.proofs.Turns.{zeros_joint, zeros_pair}
-use borrow.Author.Rules.{rules}
 use Rattle.octets.proofs.zero_block.Goals as goal
 
 pub returns : goal.returns

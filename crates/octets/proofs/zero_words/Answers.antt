@@ -1,8 +1,4 @@
-use Prim.Native.Nat.{◌≤◌, ◌%◌, ◌-◌}
-use mathlib.Core.Bool.{true}
-use mathlib.Core.Path.{◌≡◌}
 use native.Mathlib.Omega.{arith}
-use Rattle.octets.specs.Bytes.{part, zeros}
 use Rattle.octets.proofs.Turns.{zeros_none, zeros_pass, zeros_stop, zeros_done}
 use borrow.Author.Rules.{rules}
 use Rattle.octets.proofs.zero_words.Goals as goal

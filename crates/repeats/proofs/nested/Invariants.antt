@@ -1,13 +1,8 @@
-use mathlib.Core.Path.{◌≡◌, ◌∙◌, ap, sym}
+use mathlib.Core.Path.{◌≡◌}
 use mathlib.Core.Bool.{false}
-use Prim.Native.Nat.{ℕ, ◌≤◌, ◌<◌, ◌-◌, ◌+◌, ◌*◌}
-use native.Mathlib.Omega.{arith}
-use borrow.Author.Tests.{eqb-true, eqb-false}
-use Rattle.repeats.specs.Rows.{count_of, key_of}
+use Prim.Native.Nat.{◌≤◌, ◌<◌, ◌-◌, ◌+◌, ◌*◌}
+use Rattle.repeats.specs.Rows.{key_of}
 use Rattle.repeats.specs.Repeat.{seen_key, repeat_place}
-use Rattle.repeats.proofs.Places.{spot_in, key_parts}
-use Rattle.repeats.proofs.Laws.{seen_start, seen_more, seen_hit, repeat_start, repeat_next, repeat_here}
-use borrow.Author.Rules.{rules}
 use Rattle.repeats.proofs.nested.Given as goal
 
 abbrev pub invariant-loop-j : goal.invariant-loop-j

@@ -1,6 +1,5 @@
 use native.Mathlib.Omega.{arith}
 use Rattle.repeats.proofs.Places.{spot_in, same_not, same_when}
-use borrow.Author.Rules.{rules}
 use Rattle.repeats.proofs.same.Goals as goal
 
 pub spot-at-requires : goal.spot-at-requires

@@ -1,9 +1,8 @@
 use mathlib.Core.Path.{◌≡◌, ◌∙◌, ap, sym}
-use Prim.Native.Nat.{ℕ, ◌≤◌, ◌-◌, ◌+◌, ◌*◌, ◌/◌, ◌%◌}
+use Prim.Native.Nat.{◌+◌, ◌*◌, ◌/◌, ◌%◌}
 use native.Mathlib.Omega.{arith}
 use lib.Dec.{eqb}
 use Rattle.repeats.specs.Rows.{count_of, key_of}
-use Rattle.repeats.specs.Repeat.{row_of}
 use Rattle.repeats.proofs.Laws.{row_start, row_pass, row_stop, row_end}
 use borrow.Author.Rules.{rules}
 use Rattle.repeats.proofs.search.Goals as goal

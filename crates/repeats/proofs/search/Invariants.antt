@@ -1,11 +1,7 @@
-use mathlib.Core.Path.{◌≡◌, ◌∙◌, ap, sym}
-use Prim.Native.Nat.{ℕ, ◌≤◌, ◌-◌, ◌+◌, ◌*◌, ◌/◌, ◌%◌}
-use native.Mathlib.Omega.{arith}
-use lib.Dec.{eqb}
-use Rattle.repeats.specs.Rows.{count_of, key_of}
+use mathlib.Core.Path.{◌≡◌}
+use Prim.Native.Nat.{◌≤◌, ◌-◌}
+use Rattle.repeats.specs.Rows.{key_of}
 use Rattle.repeats.specs.Repeat.{row_of}
-use Rattle.repeats.proofs.Laws.{row_start, row_pass, row_stop, row_end}
-use borrow.Author.Rules.{rules}
 use Rattle.repeats.proofs.search.Given as goal
 
 abbrev pub invariant-loop-i : goal.invariant-loop-i

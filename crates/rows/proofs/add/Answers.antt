@@ -1,7 +1,6 @@
 use native.Mathlib.Omega.{arith}
 use Rattle.repeats.specs.Rows.{count_of, key_of}
 use Rattle.rows.proofs.Slots.{unserved}
-use borrow.Author.Rules.{rules}
 use Rattle.rows.proofs.add.Goals as goal
 
 pub returns-then-by-ge-BY_NEITHER : goal.returns-then-by-ge-BY_NEITHER

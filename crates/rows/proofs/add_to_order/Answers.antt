@@ -2,7 +2,6 @@ use mathlib.Core.Path.{◌∙◌}
 use native.Mathlib.Omega.{arith}
 use Rattle.repeats.specs.Rows.{count_of, key_of}
 use Rattle.rows.proofs.Slots.{unserved, by_order}
-use borrow.Author.Rules.{rules}
 use Rattle.rows.proofs.add_to_order.Goals as goal
 
 pub add-requires : goal.add-requires

@@ -3,7 +3,6 @@ use native.Mathlib.Omega.{arith}
 use Prim.Native.Nat.{◌-◌}
 use Rattle.repeats.specs.Rows.{count_of, key_of}
 use Rattle.rows.proofs.Slots.{served_room, served_part, served_wider, part_length, filled_still}
-use borrow.Author.Rules.{rules}
 use Rattle.rows.proofs.add_to_table.Goals as goal
 
 pub bounds-slots-1 : goal.bounds-slots-1

@@ -3,7 +3,6 @@ use lib.ListN.{length}
 use native.Mathlib.Omega.{arith}
 use Rattle.repeats.specs.Rows.{count_of, key_of}
 use Rattle.rows.proofs.Slots.{unserved, part_length, filled_now}
-use borrow.Author.Rules.{rules}
 use Rattle.rows.proofs.fill.Goals as goal
 
 pub returns-then-m-place : goal.returns-then-m-place

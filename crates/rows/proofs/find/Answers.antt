@@ -1,7 +1,6 @@
 use native.Mathlib.Omega.{arith}
 use Rattle.repeats.specs.Rows.{count_of, key_of}
-use Rattle.rows.proofs.Slots.{served_room, served_part, served_holds}
-use borrow.Author.Rules.{rules}
+use Rattle.rows.proofs.Slots.{served_part, served_holds}
 use Rattle.rows.proofs.find.Goals as goal
 
 pub find-requires : goal.find-requires

@@ -1,7 +1,6 @@
 use native.Mathlib.Omega.{arith}
 use Rattle.repeats.specs.Rows.{count_of, key_of}
 use Rattle.rows.proofs.Slots.{unserved}
-use borrow.Author.Rules.{rules}
 use Rattle.rows.proofs.index.Goals as goal
 
 pub returns-then-size-lt-PATH : goal.returns-then-size-lt-PATH

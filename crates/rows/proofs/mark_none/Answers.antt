@@ -1,6 +1,5 @@
 use native.Mathlib.Omega.{arith}
 use Rattle.rows.proofs.Slots.{marked, unmarked}
-use borrow.Author.Rules.{rules}
 use Rattle.rows.proofs.mark_none.Goals as goal
 
 pub returns-then-slots-gt0 : goal.returns-then-slots-gt0

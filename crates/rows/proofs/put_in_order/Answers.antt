@@ -1,7 +1,6 @@
 use native.Mathlib.Omega.{arith}
 use Rattle.repeats.specs.Rows.{count_of, key_of}
 use Rattle.rows.proofs.Slots.{unserved, ordered_now}
-use borrow.Author.Rules.{rules}
 use Rattle.rows.proofs.put_in_order.Goals as goal
 
 pub bounds-slots-0 : goal.bounds-slots-0

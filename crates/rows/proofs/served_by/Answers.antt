@@ -1,7 +1,6 @@
 use native.Mathlib.Omega.{arith}
 use mathlib.Core.Path.{refl}
 use Rattle.rows.proofs.Slots.{served_none, served_first}
-use borrow.Author.Rules.{rules}
 use Rattle.rows.proofs.served_by.Goals as goal
 
 pub returns-then-slots-eq0 : goal.returns-then-slots-eq0

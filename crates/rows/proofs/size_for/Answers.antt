@@ -1,6 +1,4 @@
-use mathlib.Core.Logic.{⊎_elim}
 use native.Mathlib.Omega.{arith}
-use borrow.Author.Rules.{rules}
 use Rattle.rows.proofs.size_for.Goals as goal
 use Rattle.rows.proofs.size_for.Goals.{else-rows, then-rows}
 
