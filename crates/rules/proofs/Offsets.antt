@@ -1,5 +1,5 @@
 -- Where a message is wrong, apart from the fold that finds it: a well-formed message that is cut gives its length (cut), bytes behind it give where they begin (behind),
--- and bytes that are its own up to a field that is wrong give where that field begins (first-wrong). Assumes nothing.
+-- and bytes that are its own up to a field that is wrong give where that field begins (first_wrong_lem). Assumes nothing.
 use Prim.Native.Nat.{ℕ, zero, suc, ◌+◌, ◌*◌, ◌≤◌, ◌<◌, min}
 use mathlib.Core.Path.{◌≡◌, refl, sym, ap, subst, ◌∙◌}
 use mathlib.Core.Bool.{Bool, true, false, ◌&&◌, true≢false}

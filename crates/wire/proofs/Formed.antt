@@ -5,12 +5,12 @@ use mathlib.Core.Bool.{Bool, true, false, ◌&&◌, not, and-false}
 use mathlib.Core.List.{List, [], ◌∷◌}
 use native.Mathlib.Omega.{arith}
 use lib.ListN.{length, take, get_or}
-use lib.Dec.{eqb, ltb, leb}
+use lib.Dec.{eqb, ltb}
 use borrow.Author.Tests.{lt-ltb, ltb-true, le-leb, lt-leb, not-true, not-false}
 use Rattle.octets.specs.Bytes.{num, items, splice}
 use Rattle.octets.proofs.Laws.{Bytes, num_lt}
 use Rattle.octets.proofs.Codecs.{length_items, get_or_items}
-use Rattle.rules.specs.Choice.{pick, all_of, every}
+use Rattle.rules.specs.Choice.{pick, every}
 use Rattle.rules.specs.Entry.{no_entry, entry_of}
 use Rattle.rules.specs.Group.{sizes_fit}
 use Rattle.rules.specs.Wire.{wire_bytes, numbers_of}
@@ -18,8 +18,7 @@ use Rattle.rules.specs.Kind.{bare, views_in}
 use Rattle.rules.specs.Wire as Wires
 use Rattle.rules.specs.Read.{entry_at, entries_at, ◌to◌is◌, head_rows, body_rows, first_wrong, and_then, entries_wrong, entry_wide, wide, is_fine}
 use Rattle.rules.specs.Read as Reads
-use Rattle.rules.specs.Write.{wire_from, whole, parts_wrong, parts_formed, Written, writes}
-use Rattle.rules.specs.declared.Entry.{Entry}
+use Rattle.rules.specs.Write.{wire_from, whole, parts_wrong, parts_formed, writes}
 use Rattle.rules.specs.declared.Message.{Message}
 use Rattle.rules.specs.declared.Verdict.{Verdict}
 use Rattle.rules.specs.declared.Verdict.TheVariants.{Fine, Wrong}

@@ -1,19 +1,15 @@
 -- The parts of a message, as the reader finds them and as the writer is given them.
-use Rattle.std.specs.Prelude.{ℕ, ◌+◌, ◌/◌, ◌^◌, min, Bool, ◌&&◌, List, length, eqb, ltb, leb}
+use Rattle.std.specs.Prelude.{ℕ, ◌+◌, min, List, eqb, leb}
 use Rattle.octets.specs.Bytes.{num, items}
-use Rattle.rules.specs.Choice.{pick, every}
+use Rattle.rules.specs.Choice.{pick}
 use Rattle.rules.specs.Kind.{numbers_in}
-use Rattle.rules.specs.Wire.{numbers_of}
-use Rattle.rules.specs.Wire as Wires
-use Rattle.rules.specs.Read.{numbers_at, entries_at, is_fine}
+use Rattle.rules.specs.Read.{numbers_at, entries_at}
 use Rattle.rules.specs.declared.Header.{Header}
 use Rattle.rules.specs.declared.Message.{Message}
 use Rattle.rules.specs.declared.Message.TheVariants.{Malformed}
 use Rattle.rules.specs.declared.Verdict.{Verdict}
 use Rattle.rules.specs.declared.Verdict.TheVariants.{Fine, Wrong}
 use Rattle.fields.specs.declared.Parts.{Parts}
-use Rattle.verdicts.specs.declared.Look.{Look}
-use Rattle.verdicts.specs.Rows.{wrong_in}
 
 -- ---- as they stand in bytes
 

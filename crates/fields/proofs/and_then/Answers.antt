@@ -1,5 +1,4 @@
 use Rattle.rules.specs.Read.{and_then}
-use borrow.Author.Rules.{rules}
 use Rattle.fields.proofs.and_then.Goals as goal
 
 pub returns-in-Fine : goal.returns-in-Fine

@@ -3,7 +3,6 @@ use Prim.Native.Nat.{ℕ}
 use native.Mathlib.Omega.{arith}
 use lib.Dec.{ltb}
 use Rattle.group.proofs.Masks.{shifted}
-use borrow.Author.Rules.{rules}
 use Rattle.fields.proofs.below.Goals as goal
 
 pub returns : goal.returns

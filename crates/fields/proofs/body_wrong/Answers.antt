@@ -1,6 +1,5 @@
 use Rattle.fields.specs.Parts.{fields_of}
 use Rattle.fields.proofs.Rows.{body_rows_lem}
-use borrow.Author.Rules.{rules}
 use Rattle.fields.proofs.body_wrong.Goals as goal
 
 pub returns : goal.returns

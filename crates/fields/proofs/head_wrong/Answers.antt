@@ -1,5 +1,4 @@
 use Rattle.rules.specs.Read.{first_wrong}
-use borrow.Author.Rules.{rules}
 use Rattle.fields.proofs.head_wrong.Goals as goal
 
 pub returns : goal.returns

@@ -1,5 +1,4 @@
 use Rattle.fields.proofs.Rows.{all_three}
-use borrow.Author.Rules.{rules}
 use Rattle.fields.proofs.mask_right.Goals as goal
 
 pub returns : goal.returns

@@ -1,5 +1,4 @@
 use Rattle.fields.proofs.Rows.{all_five}
-use borrow.Author.Rules.{rules}
 use Rattle.fields.proofs.number_fits.Goals as goal
 
 pub returns : goal.returns

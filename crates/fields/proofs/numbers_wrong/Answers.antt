@@ -1,11 +1,6 @@
-use Prim.Native.Nat.{◌≤◌, ◌-◌, ◌^◌}
-use mathlib.Core.Path.{◌≡◌, sym, ◌∙◌}
 use native.Mathlib.Omega.{arith}
-use Rattle.rules.specs.Read.{first_wrong, number_rows}
-use Rattle.rules.specs.declared.Verdict.TheVariants.{Fine}
 use Rattle.fields.specs.Parts.{fields_of}
 use Rattle.fields.proofs.Rows.{none_wrong, next_fine, next_wrong, all_fine}
-use borrow.Author.Rules.{rules}
 use Rattle.fields.proofs.numbers_wrong.Goals as goal
 
 pub loop-i-init : goal.loop-i-init

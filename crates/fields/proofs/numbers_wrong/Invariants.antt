@@ -1,11 +1,8 @@
 use Prim.Native.Nat.{◌≤◌, ◌-◌, ◌^◌}
-use mathlib.Core.Path.{◌≡◌, sym, ◌∙◌}
-use native.Mathlib.Omega.{arith}
+use mathlib.Core.Path.{◌≡◌}
 use Rattle.rules.specs.Read.{first_wrong, number_rows}
 use Rattle.rules.specs.declared.Verdict.TheVariants.{Fine}
 use Rattle.fields.specs.Parts.{fields_of}
-use Rattle.fields.proofs.Rows.{none_wrong, next_fine, next_wrong, all_fine}
-use borrow.Author.Rules.{rules}
 use Rattle.fields.proofs.numbers_wrong.Given as goal
 
 abbrev pub invariant-loop-i : goal.invariant-loop-i

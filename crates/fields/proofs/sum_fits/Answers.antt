@@ -2,7 +2,6 @@ use mathlib.Core.Path.{sym}
 use native.Mathlib.Omega.{arith}
 use Prim.Native.Nat.{◌+◌}
 use Rattle.fields.proofs.Rows.{too_late}
-use borrow.Author.Rules.{rules}
 use Rattle.fields.proofs.sum_fits.Goals as goal
 
 pub returns-then-t-gt-LATEST : goal.returns-then-t-gt-LATEST

@@ -1,7 +1,6 @@
 use mathlib.Core.Path.{ap}
 use Rattle.kinds.specs.declared.Row.{Row}
 use Rattle.kinds.proofs.Readings.{from_outsider, from_other}
-use borrow.Author.Rules.{rules}
 use Rattle.kinds.proofs.from_outside.Goals as goal
 
 pub returns-in-Outsider : goal.returns-in-Outsider

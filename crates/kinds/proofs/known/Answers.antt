@@ -1,6 +1,5 @@
 use mathlib.Core.Path.{ap}
 use Rattle.kinds.specs.declared.Row.{Row}
-use borrow.Author.Rules.{rules}
 use Rattle.kinds.proofs.known.Goals as goal
 
 pub returns : goal.returns

@@ -1,9 +1,7 @@
-use Prim.Native.Nat.{◌≤◌, ℕ}
 use mathlib.Core.Path.{◌≡◌, ap}
 use Rattle.rules.specs.Kind.{numbers_in}
 use Rattle.kinds.specs.declared.Row.{Row}
 use Rattle.kinds.proofs.Readings.{few_numbers}
-use borrow.Author.Rules.{rules}
 use Rattle.kinds.proofs.numbers_in.Goals as goal
 
 pub returns : goal.returns

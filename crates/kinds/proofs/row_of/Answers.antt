@@ -2,7 +2,6 @@ use Rattle.rules.specs.Choice.{any}
 use Rattle.rules.specs.Kind.{row_of}
 use Rattle.rules.proofs.EachKind.{none_of}
 use Rattle.kinds.proofs.Readings.{row_is, no_row_is}
-use borrow.Author.Rules.{rules}
 use Rattle.kinds.proofs.row_of.Goals as goal
 
 pub returns-in-1 : goal.returns-in-1

@@ -1,7 +1,6 @@
 use mathlib.Core.Path.{ap}
 use Rattle.kinds.specs.declared.Row.{Row}
 use Rattle.kinds.proofs.Readings.{to_outsiders, to_other}
-use borrow.Author.Rules.{rules}
 use Rattle.kinds.proofs.to_outside.Goals as goal
 
 pub returns-in-Outsiders : goal.returns-in-Outsiders

@@ -1,6 +1,5 @@
 use native.Mathlib.Omega.{arith}
 use Rattle.rules.specs.Choice.{pick}
-use borrow.Author.Rules.{rules}
 use Rattle.kinds.proofs.views_in.Goals as goal
 
 pub returns-then-bare : goal.returns-then-bare

@@ -1,7 +1,6 @@
 use mathlib.Core.Path.{ap}
 use Rattle.kinds.specs.declared.Row.{Row}
 use Rattle.kinds.proofs.Readings.{has_log, not_log}
-use borrow.Author.Rules.{rules}
 use Rattle.kinds.proofs.with_log.Goals as goal
 
 pub returns-in-ALog : goal.returns-in-ALog

@@ -1,7 +1,6 @@
 use mathlib.Core.Path.{ap}
 use Rattle.kinds.specs.declared.Row.{Row}
 use Rattle.kinds.proofs.Readings.{has_one, not_one}
-use borrow.Author.Rules.{rules}
 use Rattle.kinds.proofs.with_one.Goals as goal
 
 pub returns-in-OneEntry : goal.returns-in-OneEntry

@@ -1,14 +1,8 @@
-use Prim.Native.Nat.{◌-◌, ◌≤◌}
-use mathlib.Core.Path.{◌≡◌, sym, ap, ◌∙◌}
-use mathlib.Core.Bool.{true}
+use mathlib.Core.Path.{sym, ap, ◌∙◌}
 use native.Mathlib.Omega.{arith}
 use borrow.Author.Tests.{not-true, not-false}
-use Rattle.octets.specs.Bytes.{items}
-use Rattle.rules.specs.Choice.{every}
-use Rattle.rules.specs.Read.{entry_at}
 use Rattle.logs.specs.Place.{fits}
 use Rattle.logs.proofs.Every.{every_start, every_next, every_stop, every_end}
-use borrow.Author.Rules.{rules}
 use Rattle.logs.proofs.all_fit.Goals as goal
 
 pub loop-i-init : goal.loop-i-init

@@ -1,14 +1,10 @@
 use Prim.Native.Nat.{◌-◌, ◌≤◌}
-use mathlib.Core.Path.{◌≡◌, sym, ap, ◌∙◌}
+use mathlib.Core.Path.{◌≡◌}
 use mathlib.Core.Bool.{true}
-use native.Mathlib.Omega.{arith}
-use borrow.Author.Tests.{not-true, not-false}
 use Rattle.octets.specs.Bytes.{items}
 use Rattle.rules.specs.Choice.{every}
 use Rattle.rules.specs.Read.{entry_at}
 use Rattle.logs.specs.Place.{fits}
-use Rattle.logs.proofs.Every.{every_start, every_next, every_stop, every_end}
-use borrow.Author.Rules.{rules}
 use Rattle.logs.proofs.all_fit.Given as goal
 
 abbrev pub invariant-loop-i : goal.invariant-loop-i

@@ -1,5 +1,4 @@
 use Rattle.logs.proofs.Apart.{three_distinct}
-use borrow.Author.Rules.{rules}
 use Rattle.logs.proofs.distinct3.Goals as goal
 
 pub returns : goal.returns

@@ -1,5 +1,4 @@
 use Rattle.logs.proofs.Place.{fits_by}
-use borrow.Author.Rules.{rules}
 use Rattle.logs.proofs.entry_fits.Goals as goal
 
 pub returns : goal.returns

@@ -1,11 +1,7 @@
 use Prim.Native.Nat.{◌≤◌, ◌-◌}
 use mathlib.Core.Path.{◌≡◌}
-use native.Mathlib.Omega.{arith}
 use Rattle.repeats.specs.Repeat.{first_to}
-use Rattle.repeats.proofs.Laws.{first_start, first_pass, first_stop, first_end}
 use Rattle.logs.specs.Place.{row_at, last_from, unfit_from}
-use Rattle.logs.proofs.Place.{unfit_row, from_start, from_next}
-use borrow.Author.Rules.{rules}
 use Rattle.logs.proofs.first_unfit.Given as goal
 
 abbrev pub invariant-loop-i : goal.invariant-loop-i

@@ -1,5 +1,4 @@
 use Rattle.logs.proofs.Place.{all_by}
-use borrow.Author.Rules.{rules}
 use Rattle.logs.proofs.fits_after.Goals as goal
 
 pub returns : goal.returns

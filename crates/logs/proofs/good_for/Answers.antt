@@ -1,7 +1,6 @@
 use native.Mathlib.Omega.{arith}
 use Rattle.logs.proofs.Place.{run_inside}
 use Rattle.logs.proofs.Apart.{unfit_for, fit_for}
-use borrow.Author.Rules.{rules}
 use Rattle.logs.proofs.good_for.Goals as goal
 
 pub returns-then-not-rows_fit : goal.returns-then-not-rows_fit

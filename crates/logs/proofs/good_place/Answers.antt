@@ -1,7 +1,5 @@
-use Prim.Native.Nat.{◌≤◌}
 use native.Mathlib.Omega.{arith}
 use Rattle.logs.proofs.Place.{run_inside, fit_low, good_run, first_none}
-use borrow.Author.Rules.{rules}
 use Rattle.logs.proofs.good_place.Goals as goal
 
 pub index-requires : goal.index-requires

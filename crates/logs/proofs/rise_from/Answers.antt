@@ -1,5 +1,4 @@
 use Rattle.logs.proofs.Rising.{rises_is}
-use borrow.Author.Rules.{rules}
 use Rattle.logs.proofs.rise_from.Goals as goal
 
 pub returns : goal.returns

@@ -2,7 +2,6 @@ use mathlib.Core.Path.{ap}
 use Prim.Native.Nat.{ℕ}
 use lib.Dec.{eqb}
 use Rattle.logs.proofs.Place.{first_none}
-use borrow.Author.Rules.{rules}
 use Rattle.logs.proofs.rows_fit.Goals as goal
 
 pub returns : goal.returns

@@ -1,6 +1,5 @@
 use Rattle.lookups.proofs.Keys.{asked, rows_known}
 use Rattle.lookups.proofs.Apart.{notes_apart}
-use borrow.Author.Rules.{rules}
 use Rattle.lookups.proofs.index_notes.Goals as goal
 
 pub index-requires : goal.index-requires

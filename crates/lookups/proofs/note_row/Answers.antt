@@ -1,6 +1,5 @@
 use native.Mathlib.Omega.{arith}
 use Rattle.lookups.proofs.Keys.{rows_asked, row_by_key}
-use borrow.Author.Rules.{rules}
 use Rattle.lookups.proofs.note_row.Goals as goal
 
 pub find-requires : goal.find-requires

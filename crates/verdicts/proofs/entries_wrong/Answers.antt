@@ -1,16 +1,11 @@
-use Prim.Native.Nat.{◌≤◌, ◌-◌, ◌^◌}
-use mathlib.Core.List.{[]}
-use mathlib.Core.Path.{◌≡◌, refl, sym, ◌∙◌}
+use mathlib.Core.Path.{refl}
 use native.Mathlib.Omega.{arith}
 use Rattle.rules.specs.Entry.{last_before}
 use Rattle.rules.specs.Read.{entries_wrong}
-use Rattle.rules.specs.declared.Verdict.TheVariants.{Fine}
 use Rattle.rules.proofs.Verdicts.{last_next}
-use Rattle.fields.specs.Parts.{fields_from, headed}
 use Rattle.verdicts.specs.Rows.{row_in}
 use Rattle.verdicts.proofs.Entries.{entry_is, next_fine, next_wrong, repeat_wrong, all_fine}
 use Rattle.verdicts.proofs.Fresh.{limit_within}
-use borrow.Author.Rules.{rules}
 use Rattle.verdicts.proofs.entries_wrong.Goals as goal
 
 pub loop-i-init : goal.loop-i-init

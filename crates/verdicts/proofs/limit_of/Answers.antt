@@ -2,7 +2,6 @@ use native.Mathlib.Omega.{arith}
 use Rattle.verdicts.specs.Rows.{row_in}
 use Rattle.verdicts.proofs.Fresh.{limit_off, limit_past, limit_none, limit_here}
 use borrow.Author.Tests.{not-true, not-false}
-use borrow.Author.Rules.{rules}
 use Rattle.verdicts.proofs.limit_of.Goals as goal
 
 pub returns-then-not-log : goal.returns-then-not-log

@@ -1,5 +1,4 @@
 use Rattle.verdicts.proofs.Entries.{head_wrong, body_wrong, rest_wrong}
-use borrow.Author.Rules.{rules}
 use Rattle.verdicts.proofs.message_wrong.Goals as goal
 
 pub returns-in-Wrong : goal.returns-in-Wrong

@@ -2,7 +2,6 @@ use native.Mathlib.Omega.{arith}
 use mathlib.Core.Path.{◌∙◌}
 use Rattle.octets.proofs.Laws.{bytes_known}
 use Rattle.verdicts.proofs.Keys.{keys_repeat}
-use borrow.Author.Rules.{rules}
 use Rattle.verdicts.proofs.repeat_of.Goals as goal
 
 pub index-requires : goal.index-requires

@@ -1,4 +1,3 @@
-use borrow.Author.Rules.{rules}
 use Rattle.verdicts.proofs.stands_after.Goals as goal
 
 pub returns : goal.returns

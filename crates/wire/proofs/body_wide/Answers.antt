@@ -1,6 +1,5 @@
 use native.Mathlib.Omega.{arith}
 use Rattle.wire.proofs.Formed.{all_wide}
-use borrow.Author.Rules.{rules}
 use Rattle.wire.proofs.body_wide.Goals as goal
 
 pub returns : goal.returns

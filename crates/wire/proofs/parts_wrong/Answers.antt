@@ -5,7 +5,6 @@ use Rattle.octets.proofs.Laws.{bytes_known}
 use Rattle.rules.proofs.Verdicts.{not_fine}
 use Rattle.writer.proofs.Writer.{room_said}
 use Rattle.wire.proofs.Formed.{wrong_before, rest_is, few_before, parts_wide, numbers_wide}
-use borrow.Author.Rules.{rules}
 use Rattle.wire.proofs.parts_wrong.Goals as goal
 
 pub slice_bounds-body_wide-end : goal.slice_bounds-body_wide-end

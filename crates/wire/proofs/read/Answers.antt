@@ -3,7 +3,6 @@ use Rattle.rules.specs.Choice.{pick}
 use Rattle.rules.specs.Read.{decoded}
 use Rattle.wire.proofs.Reader.{fits, groups, read_as, in_bytes}
 use borrow.Author.Tests.{not-true}
-use borrow.Author.Rules.{rules}
 use Rattle.wire.proofs.read.Goals as goal
 
 pub returns-then-not-sizes_fit : goal.returns-then-not-sizes_fit

@@ -1,8 +1,6 @@
-use native.Mathlib.Omega.{arith}
 use Rattle.octets.proofs.Laws.{bytes_known}
 use Rattle.wire.proofs.Reader.{groups}
 use Rattle.wire.proofs.Formed.{sizes_wrong, parts_wrong_lem, small, room_for, no_room, all_done}
-use borrow.Author.Rules.{rules}
 use Rattle.wire.proofs.write.Goals as goal
 
 pub returns-then-not-sizes_fit : goal.returns-then-not-sizes_fit

@@ -1,6 +1,5 @@
 use mathlib.Core.Path.{refl}
 use Rattle.writer.specs.Said.{said_next}
-use borrow.Author.Rules.{rules}
 use Rattle.writer.proofs.and_number.Goals as goal
 
 pub returns : goal.returns

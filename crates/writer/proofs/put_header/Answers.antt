@@ -1,5 +1,4 @@
 use Rattle.writer.proofs.Writer.{header_put}
-use borrow.Author.Rules.{rules}
 use Rattle.writer.proofs.put_header.Goals as goal
 
 pub returns : goal.returns

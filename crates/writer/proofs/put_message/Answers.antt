@@ -1,7 +1,6 @@
 use native.Mathlib.Omega.{arith}
 use Rattle.octets.proofs.Laws.{bytes_known}
-use Rattle.writer.proofs.Writer.{message_put, message_end, room_said}
-use borrow.Author.Rules.{rules}
+use Rattle.writer.proofs.Writer.{message_put, message_end}
 use Rattle.writer.proofs.put_message.Goals as goal
 
 -- LEFT part-put-numbers-end : slice-bounds-put-numbers-end

@@ -1,10 +1,6 @@
-use Prim.Native.Nat.{◌≤◌, ◌-◌, ◌+◌, ◌*◌}
-use mathlib.Core.Path.{◌≡◌, refl}
+use mathlib.Core.Path.{refl}
 use native.Mathlib.Omega.{arith}
-use lib.ListN.{length, take}
-use Rattle.octets.specs.Bytes.{le, flat, splice}
 use Rattle.writer.proofs.Writer.{number_put, no_number_put, all_numbers_put}
-use borrow.Author.Rules.{rules}
 use Rattle.writer.proofs.put_numbers.Goals as goal
 
 pub loop-i-init : goal.loop-i-init

@@ -1,6 +1,5 @@
 use Rattle.writer.specs.Said.{said_next}
 use Rattle.writer.proofs.Writer.{count_said, few_said, said_none, said_one, said_two, said_three, room_first, room_second, room_third}
-use borrow.Author.Rules.{rules}
 use Rattle.writer.proofs.said_of.Goals as goal
 
 pub and_number-requires : goal.and_number-requires

@@ -5,7 +5,6 @@ use lib.ListN.{length}
 use Rattle.rules.specs.Kind.{kinds}
 use Rattle.rules.specs.Wire.{answer_of}
 use Rattle.wire.proofs.Rest.{upwards, no_answer}
-use borrow.Author.Rules.{rules}
 use Rattle.wire.proofs.decode.answer_of.Goals as goal
 
 pub returns-in-WrongSizes : goal.returns-in-WrongSizes

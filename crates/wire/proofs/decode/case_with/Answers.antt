@@ -2,7 +2,6 @@ use Rattle.rules.specs.Choice.{pick}
 use Rattle.rules.specs.Wire.{case_at}
 use Rattle.rules.proofs.EachKind.{none_of}
 use Rattle.rules.proofs.Case.{case_by, no_case}
-use borrow.Author.Rules.{rules}
 use Rattle.wire.proofs.decode.case_with.Goals as goal
 
 pub returns-in-1 : goal.returns-in-1

@@ -1,4 +1,3 @@
-use borrow.Author.Rules.{rules}
 use Rattle.wire.proofs.decode.header_at.Goals as goal
 
 pub returns : goal.returns

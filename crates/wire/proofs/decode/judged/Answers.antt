@@ -1,10 +1,9 @@
 use native.Mathlib.Omega.{arith}
-use mathlib.Core.Path.{◌≡◌, ap, sym}
+use mathlib.Core.Path.{◌≡◌}
 use Prim.Native.Nat.{min}
 use borrow.Author.Tests.{le-leb, lt-leb, eq-eqb, ne_eqb}
 use Rattle.rules.specs.Choice.{pick}
 use Rattle.wire.specs.Parts.{judged_as}
-use borrow.Author.Rules.{rules}
 use Rattle.wire.proofs.decode.judged.Goals as goal
 
 pub returns-then-u-len : goal.returns-then-u-len

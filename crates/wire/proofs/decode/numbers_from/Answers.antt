@@ -1,8 +1,5 @@
-use Prim.Native.Nat.{◌≤◌, ◌-◌}
-use mathlib.Core.Path.{◌≡◌}
 use native.Mathlib.Omega.{arith}
-use Rattle.wire.proofs.Reader.{filled, none_filled, next_filled, all_filled}
-use borrow.Author.Rules.{rules}
+use Rattle.wire.proofs.Reader.{none_filled, next_filled, all_filled}
 use Rattle.wire.proofs.decode.numbers_from.Goals as goal
 
 pub loop-i-init : goal.loop-i-init

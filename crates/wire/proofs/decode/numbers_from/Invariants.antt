@@ -1,8 +1,6 @@
 use Prim.Native.Nat.{◌≤◌, ◌-◌}
 use mathlib.Core.Path.{◌≡◌}
-use native.Mathlib.Omega.{arith}
-use Rattle.wire.proofs.Reader.{filled, none_filled, next_filled, all_filled}
-use borrow.Author.Rules.{rules}
+use Rattle.wire.proofs.Reader.{filled}
 use Rattle.wire.proofs.decode.numbers_from.Given as goal
 
 abbrev pub invariant-loop-i : goal.invariant-loop-i

@@ -5,7 +5,6 @@ use lib.ListN.{length}
 use Rattle.rules.specs.Kind.{kinds}
 use Rattle.rules.specs.Wire.{offset_in}
 use Rattle.wire.proofs.Rest.{upwards, no_offset}
-use borrow.Author.Rules.{rules}
 use Rattle.wire.proofs.decode.offset_of.Goals as goal
 
 pub returns-in-Malformed : goal.returns-in-Malformed

@@ -1,5 +1,4 @@
 use Rattle.octets.proofs.Laws.{get_two}
-use borrow.Author.Rules.{rules}
 use Rattle.wire.proofs.decode.zeros_at.Goals as goal
 
 pub returns : goal.returns
