@@ -8,11 +8,11 @@ use native.Mathlib.Omega.{arith}
 use lib.ListN.{length, get_or, set}
 use lib.Dec.{eqb, leb}
 use borrow.Author.Tests.{lt-ltb, le-ltb}
-use Rattle.octets.specs.Bytes.{le, num, splice, flat}
+use Rattle.octets.specs.Bytes.{num, splice, flat}
 use Rattle.rules.specs.Choice.{pick, is_some, any}
 use Rattle.rules.specs.Group.{only}
 use Rattle.rules.specs.Wire.{Wire, wire_bytes, tag_of, header_in, numbers_of}
-use Rattle.rules.specs.Kind.{known, from_outside, row_of}
+use Rattle.rules.specs.Kind.{known, row_of}
 use Rattle.rules.specs.Wire as wires
 use Rattle.rules.specs.Read.{wire_in, length_for}
 use Rattle.rules.specs.State.{State}

@@ -1,10 +1,9 @@
 -- The rule of each kind, and what its handler leaves. Assumes nothing.
 use Prim.Native.Nat.{ℕ}
-use mathlib.Core.Path.{◌≡◌, refl, sym, ap, ◌∙◌}
+use mathlib.Core.Path.{◌≡◌, sym, ap, ◌∙◌}
 use mathlib.Core.Bool.{false}
 use mathlib.Core.List.{List}
 use lib.Dec.{eqb}
-use Rattle.rules.specs.Choice.{pick}
 use Rattle.rules.specs.Wire.{Wire, tag_of}
 use Rattle.rules.specs.Read.{wire_in}
 use Rattle.rules.specs.State.{State}

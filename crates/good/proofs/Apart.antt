@@ -13,7 +13,7 @@ use Rattle.octets.proofs.Logic.{and_cross}
 use Rattle.rules.specs.Choice.{pick, all_of, every}
 use Rattle.rules.specs.Group.{holds}
 use Rattle.rules.specs.Entry.{no_entry, same_txn, among, entry_fits, before}
-use Rattle.rules.specs.Log.{follows_last, last_of, rise_from, good_log, all_hold, distinct}
+use Rattle.rules.specs.Log.{last_of, rise_from, good_log, all_hold, distinct}
 use Rattle.rules.specs.State.{Note, State, leads, noted, noted_to, greatest_to, buffers_good, early_good, notes_distinct}
 use Rattle.rules.specs.State as rule
 use Rattle.rules.specs.Image.{note_length, state_length, table_at, state_of, at_early, at_late, at_log, at_notes}

@@ -6,7 +6,7 @@ use native.Mathlib.Omega.{arith}
 use lib.ListN.{length, take, drop}
 use Rattle.octets.specs.Bytes.{num}
 use Rattle.rules.specs.State.{Note, State, with_logged, with_waiting}
-use Rattle.rules.specs.Image.{table_at, state_of, at_draft, at_early, at_late, at_log, at_notes, at_replies, at_votes}
+use Rattle.rules.specs.Image.{table_at, at_draft, at_early, at_late, at_log, at_notes, at_replies, at_votes}
 use Rattle.rules.specs.declared.Entry.{Entry}
 use Rattle.rules.specs.declared.Shape.{Shape}
 use Rattle.rules.proofs.Image.{fits_waiting, fits_log}

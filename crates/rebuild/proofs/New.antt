@@ -9,7 +9,7 @@ use native.Mathlib.Omega.{arith}
 use lib.ListN.{length, get_or, take, get_or-eq_default}
 use lib.Seq.{take-nil}
 use lib.Dec.{eqb, ltb, leb}
-use borrow.Author.Tests.{le-ltb, lt-ltb, ltb-true, le-leb, lt-leb, eq-eqb, eqb-true, not-true, not-false}
+use borrow.Author.Tests.{le-ltb, le-leb, lt-leb, eq-eqb, eqb-true, not-true, not-false}
 use Rattle.octets.specs.Bytes.{num}
 use Rattle.rules.specs.Choice.{any}
 use Rattle.rules.specs.Group.{recovery}
@@ -20,7 +20,6 @@ use Rattle.rules.specs.Log.{follows_last}
 use Rattle.rules.specs.Rebuild.{with_normal, best, prefix, holders, is_added}
 use Rattle.rules.specs.declared.Entry.{Entry}
 use Rattle.rules.specs.declared.Shape.{Shape}
-use Rattle.rules.proofs.Choice.{and_left}
 use Rattle.repeats.specs.Repeat.{first_to}
 use Rattle.repeats.proofs.Laws.{First, first_to_lem, first_is}
 use Rattle.entries.specs.First.{find_row}

@@ -1,8 +1,8 @@
 -- The slots of the votes' logs: what a search in them is asked for, and those of one log more. Assumes nothing.
 use Prim.Native.Nat.{ℕ, suc, ◌+◌, ◌*◌, ◌-◌, ◌≤◌, ◌<◌}
-use mathlib.Core.Path.{◌≡◌, refl, sym, ap, subst, ◌∙◌}
+use mathlib.Core.Path.{◌≡◌, refl, sym, ap, ◌∙◌}
 use mathlib.Core.Option.{Option, none}
-use mathlib.Core.List.{List, [], ◌++◌}
+use mathlib.Core.List.{List, ◌++◌}
 use native.Mathlib.Decide.{dec_lt}
 use native.Mathlib.Nat.{mul-suc, mul-le-mul_left}
 use native.Mathlib.Omega.{arith}
@@ -16,7 +16,7 @@ use Rattle.rules.specs.declared.Entry.{Entry}
 use Rattle.entries.specs.Rows.{Found}
 use Rattle.entries.proofs.Rows.{found_empty}
 use Rattle.ballots.specs.Ballots.{vote_of, Lists}
-use Rattle.rebuild.specs.Tables.{slots_of, Indexed, Looks}
+use Rattle.rebuild.specs.Tables.{Indexed, Looks}
 use Rattle.rebuild.specs.declared.Index.{Index}
 
 -- slots of one place end where those of the next begin

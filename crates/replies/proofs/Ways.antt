@@ -1,43 +1,41 @@
 -- The ways through the handler of kind 19, and through the merge and the start that the last reply brings. Assumes nothing.
 use Prim.Native.Nat.{ℕ, ◌+◌, ◌-◌, ◌*◌, ◌≤◌, ◌<◌}
-use mathlib.Core.Path.{◌≡◌, refl, sym, ap, subst, ◌∙◌}
+use mathlib.Core.Path.{◌≡◌, refl, sym, ap, ◌∙◌}
 use mathlib.Core.Bool.{Bool, true, false, not, true≢false}
 use mathlib.Core.Option.{Option, none, some}
-use mathlib.Core.List.{List, [], ◌++◌}
+use mathlib.Core.List.{List, []}
 use native.Mathlib.Omega.{arith}
 use lib.ListN.{length, get_or, set}
-use lib.Dec.{eqb, ltb, leb}
+use lib.Dec.{eqb, leb}
 use borrow.Author.Tests.{eqb-true, lt-ltb, le-ltb, le-leb, lt-leb, not-true, not-false}
 use Rattle.octets.specs.Bytes.{num, splice, items}
 use Rattle.octets.proofs.Codecs.{length_items}
-use Rattle.rules.specs.Choice.{pick, count, is_some, same, any}
+use Rattle.rules.specs.Choice.{pick, count, is_some, any}
 use Rattle.rules.specs.Wire.{Wire, tag_of, header_in}
 use Rattle.rules.specs.Kind.{bare, known, from_outside, row_of}
-use Rattle.rules.specs.Wire as wires
 use Rattle.rules.specs.Read.{wire_in, entries_at, length_for, entry_at}
 use Rattle.rules.specs.State.{State, with_change, held}
 use Rattle.rules.specs.Image.{reply_length, reply_bytes, reply_at, table_at, image, state_of, at_replies}
 use Rattle.rules.specs.Merge.{merged}
-use Rattle.rules.specs.Step.{Outcome, refused, done, within, view_right, status_right, changing, starts, on_verify_reply}
+use Rattle.rules.specs.Step.{Outcome, refused, done, view_right, status_right, changing, starts, on_verify_reply}
 use Rattle.rules.specs.Bytes.{Left, leaves, closes}
 use Rattle.rules.specs.declared.Entry.{Entry}
 use Rattle.rules.specs.declared.Header.{Header}
 use Rattle.rules.specs.declared.Shape.{Shape}
 use Rattle.rules.specs.declared.Message.{Message}
 use Rattle.rules.specs.declared.Message.TheVariants.{VerifyReply}
-use Rattle.rules.proofs.Choice.{and_left, and_right, pick_true, pick_false}
+use Rattle.rules.proofs.Choice.{and_right, pick_true, pick_false}
 use Rattle.rules.proofs.Tests.{same_true}
 use Rattle.entries.specs.Table.{Holds, Table}
 use Rattle.entries.proofs.Table.{decoded, is_table}
-use Rattle.places.specs.Layout.{start_of, Stands}
+use Rattle.places.specs.Layout.{start_of}
 use Rattle.places.proofs.Sections.{stands_fits, stands_laid, stands_midway}
-use Rattle.places.proofs.Head.{view_of}
 use Rattle.places.proofs.Kept.{even_replies, put_reply, reply_at_lem}
 use Rattle.handler.specs.Handler.{Ready, handled}
 use Rattle.handler.proofs.Told.{Told, told_length, told_entries, told_sender, ready_told}
 use Rattle.handler.proofs.Closes.{quiet, closes_refused, closes_quiet, handled_own}
 use Rattle.merge.specs.Taken.{Taken}
-use Rattle.merge.specs.Merged.{replies_with, merged_with}
+use Rattle.merge.specs.Merged.{merged_with}
 use Rattle.views.specs.Views.{views_of}
 use Rattle.changes.specs.Changes.{led_by}
 use Rattle.changes.proofs.Said.{views_said, views_stand}

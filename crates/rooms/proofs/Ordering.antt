@@ -1,6 +1,6 @@
 -- The ways through the call that orders an older state. Assumes nothing.
-use Prim.Native.Nat.{ℕ, ◌-◌, ◌≤◌}
-use mathlib.Core.Path.{◌≡◌, refl, sym, ap, subst, ◌∙◌}
+use Prim.Native.Nat.{ℕ, ◌-◌}
+use mathlib.Core.Path.{◌≡◌, refl, sym, ap, ◌∙◌}
 use mathlib.Core.Bool.{Bool, true, false, not, true≢false, and-false}
 use mathlib.Core.List.{List, [], ◌++◌}
 use native.Mathlib.Omega.{arith}
@@ -12,7 +12,7 @@ use Rattle.rules.specs.Group.{shape_fits}
 use Rattle.rules.specs.Entry.{ordered}
 use Rattle.rules.specs.State.{in_order}
 use Rattle.rules.specs.Image.{state_length, table_at, state_of, orderable, at_early, at_late}
-use Rattle.rules.specs.Bytes.{Left, leaves, order_bytes}
+use Rattle.rules.specs.Bytes.{leaves, order_bytes}
 use Rattle.rules.specs.declared.Entry.{Entry}
 use Rattle.rules.specs.declared.Shape.{Shape}
 use Rattle.rules.proofs.Order.{perm_all, perm_back, ordered_perm, ordered_length}

@@ -20,7 +20,6 @@ use Rattle.rules.specs.Read.{length_for}
 use Rattle.rules.specs.Image.{state_of, at_early, at_gvec, at_log}
 use Rattle.rules.specs.Digest.{digest}
 use Rattle.rules.specs.Step.{send, send_out, send_leader, send_followers, unplaced_reply}
-use Rattle.rules.specs.Early.{due_of}
 use Rattle.rules.specs.declared.Entry.{Entry}
 use Rattle.rules.specs.declared.Header.{Header}
 use Rattle.rules.specs.declared.Shape.{Shape}

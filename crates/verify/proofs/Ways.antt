@@ -13,7 +13,7 @@ use Rattle.rules.specs.Choice.{pick, any}
 use Rattle.rules.specs.Group.{only}
 use Rattle.rules.specs.Entry.{ordered}
 use Rattle.rules.specs.Wire.{Wire, entry_bytes, head_bytes, wire_bytes, tag_of, header_in, numbers_of}
-use Rattle.rules.specs.Kind.{known, from_outside, row_of}
+use Rattle.rules.specs.Kind.{known, row_of}
 use Rattle.rules.specs.Wire as wires
 use Rattle.rules.specs.Read.{wire_in, length_for}
 use Rattle.rules.specs.State.{State}

@@ -4,7 +4,7 @@ use mathlib.Core.Path.{◌≡◌, refl, sym, ap, subst, ◌∙◌}
 use mathlib.Core.Option.{Option, none, some}
 use mathlib.Core.List.{List, [], ◌++◌, append_assoc}
 use native.Mathlib.Omega.{arith}
-use native.Mathlib.Nat.{add_assoc, mul-le-mul_left}
+use native.Mathlib.Nat.{mul-le-mul_left}
 use lib.ListN.{length, take, drop, get_or, length-append, length-replicate, replicate-append-replicate, take-append-drop}
 use lib.Seq.{drop-drop}
 use lib.Dec.{lit<, lit≤}

@@ -1,5 +1,4 @@
 use Rattle.admit.proofs.Ways.{sender_below, from_leader_is}
-use borrow.Author.Rules.{rules}
 use Rattle.admit.proofs.from_leader.Goals as goal
 
 pub leads_in-requires : goal.leads_in-requires

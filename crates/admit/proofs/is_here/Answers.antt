@@ -1,5 +1,4 @@
 use Rattle.admit.proofs.Ways.{here_is}
-use borrow.Author.Rules.{rules}
 use Rattle.admit.proofs.is_here.Goals as goal
 
 pub returns : goal.returns

@@ -1,5 +1,4 @@
 use Rattle.admit.proofs.Ways.{newer_is}
-use borrow.Author.Rules.{rules}
 use Rattle.admit.proofs.is_newer.Goals as goal
 
 pub returns : goal.returns

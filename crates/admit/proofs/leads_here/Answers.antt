@@ -1,5 +1,4 @@
 use Rattle.admit.proofs.Ways.{own_role, leads_is}
-use borrow.Author.Rules.{rules}
 use Rattle.admit.proofs.leads_here.Goals as goal
 
 pub leads_in-requires : goal.leads_in-requires

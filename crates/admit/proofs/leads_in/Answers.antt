@@ -1,4 +1,3 @@
-use borrow.Author.Rules.{rules}
 use Rattle.admit.proofs.leads_in.Goals as goal
 
 pub returns : goal.returns

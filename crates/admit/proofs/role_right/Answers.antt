@@ -1,5 +1,4 @@
 use Rattle.admit.proofs.Ways.{roles_are}
-use borrow.Author.Rules.{rules}
 use Rattle.admit.proofs.role_right.Goals as goal
 
 pub returns : goal.returns

@@ -1,4 +1,3 @@
-use borrow.Author.Rules.{rules}
 use Rattle.admit.proofs.same_view.Goals as goal
 
 pub returns : goal.returns

@@ -1,12 +1,7 @@
-use Prim.Native.Nat.{ℕ, ◌≤◌, ◌-◌}
-use mathlib.Core.Path.{◌≡◌, ◌∙◌, ap}
-use mathlib.Core.Bool.{Bool}
-use mathlib.Core.List.{List}
-use native.Mathlib.Omega.{arith}
+use Prim.Native.Nat.{◌≤◌, ◌-◌}
+use mathlib.Core.Path.{◌≡◌}
 use Rattle.octets.specs.Bytes.{num, items}
 use Rattle.rules.specs.Choice.{same}
-use Rattle.admit.proofs.Ways.{views_next, views_none, views_in}
-use borrow.Author.Rules.{rules}
 use Rattle.admit.proofs.same_views.Given as goal
 
 abbrev pub invariant-loop-j : goal.invariant-loop-j

@@ -1,5 +1,4 @@
 use Rattle.admit.proofs.Ways.{status_if_equal, status_always}
-use borrow.Author.Rules.{rules}
 use Rattle.admit.proofs.status_right.Goals as goal
 
 pub returns-then-row : goal.returns-then-row

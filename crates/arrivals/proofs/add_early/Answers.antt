@@ -5,7 +5,6 @@ use Rattle.rules.specs.Entry.{place}
 use Rattle.rules.specs.declared.Entry.{Entry}
 use Rattle.entries.proofs.Table.{decoded, is_table, and_then}
 use Rattle.places.proofs.Midway.{early_here, early_comes}
-use borrow.Author.Rules.{rules}
 use Rattle.arrivals.proofs.add_early.Goals as goal
 
 pub places_of-layout-requires : goal.places_of-layout-requires

@@ -4,7 +4,6 @@ use mathlib.Core.List.{List, [], ◌∷◌, ◌++◌}
 use Rattle.rules.specs.declared.Entry.{Entry}
 use Rattle.entries.proofs.Table.{decoded, is_table, and_then}
 use Rattle.places.proofs.Midway.{late_here, late_comes}
-use borrow.Author.Rules.{rules}
 use Rattle.arrivals.proofs.add_late.Goals as goal
 
 pub places_of-layout-requires : goal.places_of-layout-requires

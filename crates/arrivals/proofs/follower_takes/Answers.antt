@@ -3,7 +3,6 @@ use Rattle.places.proofs.Sections.{stands_midway}
 use Rattle.places.proofs.Midway.{table_count}
 use Rattle.arrivals.proofs.Lifting.{early_sorted}
 use Rattle.arrivals.proofs.TakeWays.{early_full, early_taken, late_full, late_taken}
-use borrow.Author.Rules.{rules}
 use Rattle.arrivals.proofs.follower_takes.Goals as goal
 
 pub early-requires : goal.early-requires

@@ -1,6 +1,5 @@
 use Rattle.entries.proofs.Table.{row_among}
 use mathlib.Core.Path.{◌∙◌}
-use borrow.Author.Rules.{rules}
 use Rattle.arrivals.proofs.is_among.Goals as goal
 
 pub returns : goal.returns

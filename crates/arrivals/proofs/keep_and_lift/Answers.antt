@@ -1,7 +1,6 @@
 use Rattle.rules.specs.Image.{state_of}
 use Rattle.stamps.proofs.Lifts.{kept_lifted}
 use Rattle.arrivals.proofs.Lifting.{kept_ready}
-use borrow.Author.Rules.{rules}
 use Rattle.arrivals.proofs.keep_and_lift.Goals as goal
 
 pub keep_note-requires : goal.keep_note-requires

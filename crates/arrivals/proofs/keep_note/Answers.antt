@@ -8,7 +8,6 @@ use Rattle.rules.specs.Image.{state_of}
 use Rattle.notes.proofs.Notes.{decoded, is_notes, and_then}
 use Rattle.notes.proofs.Row.{kept_sized}
 use Rattle.places.proofs.Midway.{notes_here, notes_come}
-use borrow.Author.Rules.{rules}
 use Rattle.arrivals.proofs.keep_note.Goals as goal
 
 pub places_of-layout-requires : goal.places_of-layout-requires

@@ -1,8 +1,3 @@
-use mathlib.Core.Path.{ap, ◌∙◌}
-use mathlib.Core.List.{List}
-use Rattle.rules.specs.Entry.{among}
-use Rattle.rules.specs.declared.Entry.{Entry}
-use borrow.Author.Rules.{rules}
 use Rattle.arrivals.proofs.known.Goals as goal
 
 pub is_among-logged-requires : goal.is_among-logged-requires

@@ -3,7 +3,6 @@ use Rattle.places.proofs.Sections.{stands_midway}
 use Rattle.places.proofs.Midway.{table_count}
 use Rattle.arrivals.proofs.NoteWays.{room_below}
 use Rattle.arrivals.proofs.TakeWays.{place_full, note_full, out_full, taken}
-use borrow.Author.Rules.{rules}
 use Rattle.arrivals.proofs.leader_takes.Goals as goal
 
 pub early-requires : goal.early-requires

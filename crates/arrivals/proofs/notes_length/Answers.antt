@@ -1,6 +1,5 @@
 use native.Mathlib.Omega.{arith}
 use Rattle.arrivals.proofs.TakeWays.{notes_small, notes_long}
-use borrow.Author.Rules.{rules}
 use Rattle.arrivals.proofs.notes_length.Goals as goal
 
 pub overflow_mul-result : goal.overflow_mul-result

@@ -9,7 +9,6 @@ use Rattle.rules.specs.Entry.{among}
 use Rattle.rules.specs.declared.Entry.{Entry}
 use Rattle.places.proofs.Sections.{stands_midway}
 use Rattle.arrivals.proofs.NoteWays.{from_below, in_log_way, noted_way, full_way, lifting, kept_way}
-use borrow.Author.Rules.{rules}
 use Rattle.arrivals.proofs.on_note.Goals as goal
 
 pub returns-in_default : goal.returns-in_default

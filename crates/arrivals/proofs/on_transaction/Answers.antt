@@ -7,7 +7,6 @@ use Rattle.handler.proofs.Closes.{handled_other}
 use Rattle.handler.proofs.OtherKind.{not_tag}
 use Rattle.places.proofs.Sections.{stands_midway}
 use Rattle.arrivals.proofs.TransactionWays.{due_low, known_way, not_early, ours, leader_way, late_way, follower_way}
-use borrow.Author.Rules.{rules}
 use Rattle.arrivals.proofs.on_transaction.Goals as goal
 
 pub returns-in_default : goal.returns-in_default

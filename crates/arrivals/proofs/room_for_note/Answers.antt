@@ -4,7 +4,6 @@ use Prim.Native.Nat.{ℕ}
 use lib.Dec.{ltb}
 use Rattle.rules.specs.State.{Note}
 use Rattle.notes.specs.Notes.{row}
-use borrow.Author.Rules.{rules}
 use Rattle.arrivals.proofs.room_for_note.Goals as goal
 
 pub find-requires : goal.find-requires

@@ -6,7 +6,6 @@ use Rattle.stamps.proofs.Lifts.{standing}
 use Rattle.arrivals.specs.Taken.{Lifting}
 use Rattle.arrivals.proofs.Lifting.{early_sorted, own_lifting}
 use Rattle.arrivals.proofs.TakeWays.{taken_is}
-use borrow.Author.Rules.{rules}
 use Rattle.arrivals.proofs.take_early.Goals as goal
 
 pub add_early-requires : goal.add_early-requires

@@ -1,5 +1,4 @@
 use Rattle.ballots.proofs.Votes.{tells_sender, tells_own, tells_kept}
-use borrow.Author.Rules.{rules}
 use Rattle.ballots.proofs.ballot_of.Goals as goal
 
 pub returns-then-r-cast : goal.returns-then-r-cast

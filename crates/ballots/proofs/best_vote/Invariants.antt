@@ -1,10 +1,6 @@
 use Prim.Native.Nat.{ℕ, ◌≤◌, ◌-◌}
 use mathlib.Core.List.{List}
-use native.Mathlib.Omega.{arith}
 use Rattle.ballots.specs.Ballots.{votes_in, BestTo}
-use Rattle.ballots.proofs.Votes.{votes_long}
-use Rattle.ballots.proofs.Counting.{best_start, best_next, best_end}
-use borrow.Author.Rules.{rules}
 use Rattle.ballots.proofs.best_vote.Given as goal
 
 abbrev pub invariant-loop-r : goal.invariant-loop-r

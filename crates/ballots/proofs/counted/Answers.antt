@@ -1,5 +1,4 @@
 use Rattle.ballots.proofs.Counting.{counts_told}
-use borrow.Author.Rules.{rules}
 use Rattle.ballots.proofs.counted.Goals as goal
 
 pub returns : goal.returns

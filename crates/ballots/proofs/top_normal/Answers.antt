@@ -1,13 +1,6 @@
-use Prim.Native.Nat.{ℕ, ◌≤◌, ◌-◌}
-use mathlib.Core.Path.{◌≡◌}
-use mathlib.Core.List.{List}
-use lib.ListN.{take}
 use native.Mathlib.Omega.{arith}
-use Rattle.rules.specs.Rebuild.{top_from}
-use Rattle.ballots.specs.Ballots.{votes_in}
 use Rattle.ballots.proofs.Votes.{votes_long}
 use Rattle.ballots.proofs.Counting.{top_start, top_next, top_end}
-use borrow.Author.Rules.{rules}
 use Rattle.ballots.proofs.top_normal.Goals as goal
 
 pub loop-r-init : goal.loop-r-init

@@ -4,7 +4,6 @@ use Rattle.rules.specs.Step.{on_start_view}
 use Rattle.handler.proofs.Closes.{handled_other}
 use Rattle.handler.proofs.OtherKind.{not_tag}
 use Rattle.changes.proofs.StartWays.{start_views, start_counted, start_stands, start_past, start_done}
-use borrow.Author.Rules.{rules}
 use Rattle.changes.proofs.on_start_view.Goals as goal
 
 pub returns-in_default : goal.returns-in_default

@@ -5,7 +5,6 @@ use native.Mathlib.Nat.{zero-add}
 use Rattle.places.specs.Layout.{start_of}
 use Rattle.changes.proofs.Logged.{log_lent}
 use Rattle.rules.specs.Image.{at_log}
-use borrow.Author.Rules.{rules}
 use Rattle.changes.proofs.tell_log.Goals as goal
 
 pub returns : goal.returns

@@ -1,5 +1,4 @@
 use Rattle.changes.proofs.Logged.{start_case}
-use borrow.Author.Rules.{rules}
 use Rattle.changes.proofs.tell_start.Goals as goal
 
 pub returns : goal.returns

@@ -2,7 +2,6 @@ use Prim.Native.Nat.{◌%◌, ◌<◌}
 use native.Mathlib.Omega.{arith}
 use native.Mathlib.Nat.{mod-lt}
 use Rattle.changes.proofs.Logged.{vote_case}
-use borrow.Author.Rules.{rules}
 use Rattle.changes.proofs.tell_vote.Goals as goal
 
 pub only-requires : goal.only-requires

@@ -1,5 +1,4 @@
 use Rattle.commits.proofs.StatusWays.{stale_read}
-use borrow.Author.Rules.{rules}
 use Rattle.commits.proofs.is_stale.Goals as goal
 
 pub returns : goal.returns

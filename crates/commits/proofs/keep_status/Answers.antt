@@ -2,7 +2,6 @@ use Prim.Native.Nat.{◌*◌, ◌-◌, ◌^◌, ◌<◌}
 use mathlib.Core.Path.{◌≡◌}
 use native.Mathlib.Omega.{arith}
 use Rattle.commits.proofs.StatusKept.{status_kept}
-use borrow.Author.Rules.{rules}
 use Rattle.commits.proofs.keep_status.Goals as goal
 
 pub returns : goal.returns

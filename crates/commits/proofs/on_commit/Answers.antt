@@ -4,7 +4,6 @@ use Rattle.rules.specs.Step.{on_commit}
 use Rattle.handler.proofs.Closes.{handled_other}
 use Rattle.handler.proofs.OtherKind.{not_tag}
 use Rattle.commits.proofs.CommitWays.{not_above, not_synced, taken}
-use borrow.Author.Rules.{rules}
 use Rattle.commits.proofs.on_commit.Goals as goal
 
 pub returns-in_default : goal.returns-in_default

@@ -6,7 +6,6 @@ use Rattle.rules.specs.Kind.{row_of}
 use Rattle.rules.specs.Choice.{pick}
 use Rattle.rules.specs.Group.{only}
 use Rattle.handler.specs.Sending.{headed_in}
-use borrow.Author.Rules.{rules}
 use Rattle.commits.proofs.tell_commit.Goals as goal
 
 pub tell-requires : goal.tell-requires

@@ -3,7 +3,6 @@ use mathlib.Core.Path.{ap, refl}
 use Rattle.rules.specs.Wire.{tag_of}
 use Rattle.handler.proofs.OtherKind.{not_tag}
 use Rattle.dispatch.proofs.Handled.{other_vote, own_reply}
-use borrow.Author.Rules.{rules}
 use Rattle.dispatch.proofs.conclude.Goals as goal
 
 pub returns-in_default : goal.returns-in_default

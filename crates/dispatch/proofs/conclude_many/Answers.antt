@@ -1,6 +1,5 @@
 use mathlib.Core.Path.{refl}
 use Rattle.views.proofs.Aside.{aside_long}
-use borrow.Author.Rules.{rules}
 use Rattle.dispatch.proofs.conclude_many.Goals as goal
 
 pub conclude-requires : goal.conclude-requires

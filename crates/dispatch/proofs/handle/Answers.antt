@@ -1,7 +1,6 @@
 use Rattle.rules.specs.Choice.{pick}
 use Rattle.rules.specs.Step.{handle}
 use Rattle.dispatch.proofs.Handled.{taken, voted, replied, none_takes}
-use borrow.Author.Rules.{rules}
 use Rattle.dispatch.proofs.handle.Goals as goal
 
 pub returns-in-WrongSizes : goal.returns-in-WrongSizes

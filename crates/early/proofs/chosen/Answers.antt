@@ -1,5 +1,4 @@
 use Rattle.early.proofs.Entries.{not_placed, when_placed}
-use borrow.Author.Rules.{rules}
 use Rattle.early.proofs.chosen.Goals as goal
 
 pub returns-then-not-is_placed : goal.returns-then-not-is_placed

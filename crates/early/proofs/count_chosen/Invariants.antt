@@ -1,14 +1,9 @@
 use Prim.Native.Nat.{◌≤◌, ◌-◌}
-use mathlib.Core.Path.{◌≡◌, ◌∙◌}
-use mathlib.Core.Logic.{⊎_elim}
-use native.Mathlib.Omega.{arith}
+use mathlib.Core.Path.{◌≡◌}
 use lib.ListN.{length, take}
 use Rattle.rules.specs.Choice.{keep}
-use Rattle.rules.specs.Entry.{no_entry}
 use Rattle.rules.specs.Image.{table_at}
 use Rattle.early.specs.Listed.{listed_in, chosen}
-use Rattle.early.proofs.Sifting.{count_none, count_yes, count_no, count_done}
-use borrow.Author.Rules.{rules}
 use Rattle.early.proofs.count_chosen.Given as goal
 
 abbrev pub invariant-loop-i : goal.invariant-loop-i

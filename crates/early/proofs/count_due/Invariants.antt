@@ -1,11 +1,8 @@
 use Prim.Native.Nat.{◌≤◌, ◌-◌}
-use mathlib.Core.Path.{◌≡◌, ◌∙◌}
-use native.Mathlib.Omega.{arith}
+use mathlib.Core.Path.{◌≡◌}
 use lib.ListN.{length}
 use Rattle.rules.specs.Image.{table_at}
-use Rattle.repeats.proofs.Laws.{first_start}
-use Rattle.early.proofs.Leading.{Passed, due_stops, due_goes, due_ends}
-use borrow.Author.Rules.{rules}
+use Rattle.early.proofs.Leading.{Passed}
 use Rattle.early.proofs.count_due.Given as goal
 
 abbrev pub invariant-loop-k : goal.invariant-loop-k

@@ -2,7 +2,6 @@ use borrow.Author.Tests.{not-true, not-false}
 use Rattle.early.specs.Listed.{listed_in, chosen}
 use Rattle.early.specs.declared.Which.TheVariants.{NotAfter}
 use Rattle.early.proofs.Buffers.{first_asked, first_is, falls_asked, falls_not, falls}
-use borrow.Author.Rules.{rules}
 use Rattle.early.proofs.fall.Goals as goal
 
 pub entry_of-e-requires : goal.entry_of-e-requires

@@ -1,14 +1,11 @@
 use Prim.Native.Nat.{◌≤◌, ◌-◌}
-use mathlib.Core.Path.{◌≡◌, refl, ◌∙◌}
+use mathlib.Core.Path.{◌≡◌}
 use mathlib.Core.List.{◌++◌}
-use native.Mathlib.Omega.{arith}
 use lib.ListN.{length, take}
 use Rattle.rules.specs.Choice.{keep}
 use Rattle.early.specs.Listed.{listed_in, chosen}
 use Rattle.early.specs.declared.Which.TheVariants.{NotAfter}
 use Rattle.early.specs.Buffers.{BothHold, early_in, late_in}
-use Rattle.early.proofs.Buffers.{both_count, fall_start, fall_turn, fall_end, fall_asked}
-use borrow.Author.Rules.{rules}
 use Rattle.early.proofs.fall_late.Given as goal
 
 abbrev pub invariant-loop-i : goal.invariant-loop-i

@@ -1,5 +1,4 @@
 use Rattle.early.proofs.Entries.{placed_any, placed_after, placed_not_after}
-use borrow.Author.Rules.{rules}
 use Rattle.early.proofs.is_placed.Goals as goal
 
 pub returns-in-Any : goal.returns-in-Any

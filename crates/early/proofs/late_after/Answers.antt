@@ -1,6 +1,5 @@
 use native.Mathlib.Omega.{arith}
 use Rattle.early.proofs.Buffers.{first_asked, last_asked, counted, counted_fits}
-use borrow.Author.Rules.{rules}
 use Rattle.early.proofs.late_after.Goals as goal
 
 pub count_chosen-stay-requires : goal.count_chosen-stay-requires

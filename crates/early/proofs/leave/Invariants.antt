@@ -1,15 +1,10 @@
 use Prim.Native.Nat.{◌≤◌, ◌-◌}
-use mathlib.Core.Path.{◌≡◌, refl, subst, ◌∙◌}
-use mathlib.Core.List.{List}
-use native.Mathlib.Omega.{arith}
+use mathlib.Core.Path.{◌≡◌}
 use lib.ListN.{length}
 use Rattle.rules.specs.Image.{table_at}
-use Rattle.rules.specs.declared.Entry.{Entry}
-use Rattle.entries.specs.Table.{Holds, Table}
+use Rattle.entries.specs.Table.{Table}
 use Rattle.early.specs.Listed.{listed_in, chosen}
-use Rattle.early.proofs.Sifting.{Sifted, sift_start, sift_end}
-use Rattle.early.proofs.Entries.{table_turn}
-use borrow.Author.Rules.{rules}
+use Rattle.early.proofs.Sifting.{Sifted}
 use Rattle.early.proofs.leave.Given as goal
 
 abbrev pub invariant-loop-i : goal.invariant-loop-i

@@ -1,12 +1,9 @@
-use Prim.Native.Nat.{◌≤◌, ◌-◌}
-use mathlib.Core.Path.{◌≡◌, refl, subst, ◌∙◌}
+use mathlib.Core.Path.{refl, subst, ◌∙◌}
 use mathlib.Core.List.{List}
 use native.Mathlib.Omega.{arith}
-use lib.ListN.{length}
 use Rattle.rules.specs.State.{Note}
-use Rattle.notes.specs.Notes.{notes_at, NotesHold, Notes}
-use Rattle.early.specs.Listed.{listed_in, stays}
-use Rattle.early.proofs.Sifting.{Sifted, sift_start, sift_end}
+use Rattle.notes.specs.Notes.{NotesHold}
+use Rattle.early.proofs.Sifting.{sift_start, sift_end}
 use Rattle.early.proofs.Noted.{notes_turn}
 use borrow.Author.Rules.{rules}
 use Rattle.early.proofs.leave_notes.Goals as goal

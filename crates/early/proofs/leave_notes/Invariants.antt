@@ -1,14 +1,9 @@
 use Prim.Native.Nat.{◌≤◌, ◌-◌}
-use mathlib.Core.Path.{◌≡◌, refl, subst, ◌∙◌}
-use mathlib.Core.List.{List}
-use native.Mathlib.Omega.{arith}
+use mathlib.Core.Path.{◌≡◌}
 use lib.ListN.{length}
-use Rattle.rules.specs.State.{Note}
-use Rattle.notes.specs.Notes.{notes_at, NotesHold, Notes}
+use Rattle.notes.specs.Notes.{notes_at, Notes}
 use Rattle.early.specs.Listed.{listed_in, stays}
-use Rattle.early.proofs.Sifting.{Sifted, sift_start, sift_end}
-use Rattle.early.proofs.Noted.{notes_turn}
-use borrow.Author.Rules.{rules}
+use Rattle.early.proofs.Sifting.{Sifted}
 use Rattle.early.proofs.leave_notes.Given as goal
 
 abbrev pub invariant-loop-i : goal.invariant-loop-i

@@ -1,4 +1,3 @@
-use borrow.Author.Rules.{rules}
 use Rattle.early.proofs.list.Goals as goal
 
 pub index_rows-requires : goal.index_rows-requires

@@ -3,7 +3,6 @@ use mathlib.Core.Path.{refl}
 use native.Mathlib.Nat.{mul-le-mul_left}
 use Rattle.rules.specs.Image.{note_length}
 use Rattle.early.proofs.Noted.{note_within, move_law}
-use borrow.Author.Rules.{rules}
 use Rattle.early.proofs.move_note.Goals as goal
 
 pub move_down-requires : goal.move_down-requires

@@ -1,6 +1,5 @@
 use native.Mathlib.Omega.{arith}
 use Rattle.early.proofs.Noted.{note_within, note_looked}
-use borrow.Author.Rules.{rules}
 use Rattle.early.proofs.note_listed.Goals as goal
 
 pub get32-requires : goal.get32-requires

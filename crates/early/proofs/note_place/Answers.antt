@@ -1,6 +1,5 @@
 use native.Mathlib.Omega.{arith}
 use Rattle.notes.proofs.Notes.{below_room}
-use borrow.Author.Rules.{rules}
 use Rattle.early.proofs.note_place.Goals as goal
 
 pub overflow_mul-result-2 : goal.overflow_mul-result-2

@@ -1,8 +1,6 @@
 use mathlib.Core.Path.{refl}
-use Rattle.rules.specs.Entry.{entry_of}
 use Rattle.rules.specs.Image.{table_at}
 use Rattle.entries.proofs.Sorting.{sorted_rises}
-use borrow.Author.Rules.{rules}
 use Rattle.early.proofs.put.Goals as goal
 
 pub insert_in_order-requires : goal.insert_in_order-requires

@@ -1,5 +1,4 @@
 use Rattle.early.proofs.Buffers.{last_asked, then_fall, then_leave, settled}
-use borrow.Author.Rules.{rules}
 use Rattle.early.proofs.settle.Goals as goal
 
 pub leave-requires : goal.leave-requires

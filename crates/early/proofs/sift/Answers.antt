@@ -5,7 +5,6 @@ use Rattle.rules.specs.Entry.{no_entry}
 use Rattle.rules.specs.declared.Entry.{Entry}
 use Rattle.entries.specs.Table.{Holds}
 use Rattle.early.proofs.Sifting.{moved_no, moved_yes}
-use borrow.Author.Rules.{rules}
 use Rattle.early.proofs.sift.Goals as goal
 
 pub chosen-requires : goal.chosen-requires

@@ -6,7 +6,6 @@ use Rattle.rules.specs.State.{Note}
 use Rattle.notes.specs.Notes.{no_note, NotesHold}
 use Rattle.early.specs.Listed.{listed_in, stays}
 use Rattle.early.proofs.Sifting.{moved_no, moved_yes}
-use borrow.Author.Rules.{rules}
 use Rattle.early.proofs.sift_note.Goals as goal
 
 pub note_listed-requires : goal.note_listed-requires

@@ -1,6 +1,5 @@
 use native.Mathlib.Omega.{arith}
 use Rattle.early.proofs.Noted.{end_within, truncate_law, end_at}
-use borrow.Author.Rules.{rules}
 use Rattle.early.proofs.truncate_notes.Goals as goal
 
 pub overflow_sub-note_place : goal.overflow_sub-note_place

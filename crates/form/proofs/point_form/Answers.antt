@@ -1,7 +1,6 @@
 use Rattle.octets.proofs.Laws.{bytes_known}
 use Rattle.form.proofs.Same.{flag_zero, flag_only}
 use Rattle.form.proofs.Parts.{point_place, point_body}
-use borrow.Author.Rules.{rules}
 use Rattle.form.proofs.point_form.Goals as goal
 
 pub returns-then-flag-eq0 : goal.returns-then-flag-eq0

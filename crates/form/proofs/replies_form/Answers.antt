@@ -1,12 +1,7 @@
-use Prim.Native.Nat.{◌+◌, ◌-◌, ◌*◌, ◌≤◌}
-use mathlib.Core.Path.{◌≡◌}
 use native.Mathlib.Omega.{arith}
-use Rattle.octets.specs.Bytes.{part, flat, items}
-use Rattle.rules.specs.Choice.{same}
 use Rattle.rules.specs.Image.{reply_length, reply_bytes, reply_at}
 use Rattle.form.proofs.Same.{flag_long, row_none, row_next, row_end, row_whole, next_within}
 use Rattle.form.proofs.Parts.{reply_place}
-use borrow.Author.Rules.{rules}
 use Rattle.form.proofs.replies_form.Goals as goal
 
 pub loop-i-init : goal.loop-i-init

@@ -1,7 +1,6 @@
 use Prim.Native.Nat.{◌+◌, ◌-◌, ◌*◌}
 use native.Mathlib.Omega.{arith}
 use Rattle.form.proofs.Parts.{table_lent}
-use borrow.Author.Rules.{rules}
 use Rattle.form.proofs.table_form.Goals as goal
 
 pub returns : goal.returns

@@ -5,7 +5,6 @@ use Rattle.octets.proofs.Laws.{bytes_known}
 use Rattle.octets.specs.Bytes.{flat, items}
 use Rattle.rules.specs.Image.{vote_length, reply_length, vote_bytes, reply_bytes, vote_at, reply_at}
 use Rattle.form.proofs.Whole.{form_is, head_section_lem, lent_section, table_section, tables_whole, Bounds, bounds}
-use borrow.Author.Rules.{rules}
 use Rattle.form.proofs.tables_form.Goals as goal
 use Rattle.form.proofs.tables_form.Goals.{After-places_of-layout}
 

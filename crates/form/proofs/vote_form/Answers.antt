@@ -2,7 +2,6 @@ use Rattle.octets.proofs.Laws.{bytes_known}
 use mathlib.Core.Path.{◌∙◌}
 use Rattle.form.proofs.Same.{flag_zero, flag_wrong, flag_one}
 use Rattle.form.proofs.Parts.{vote_place, vote_body_lem}
-use borrow.Author.Rules.{rules}
 use Rattle.form.proofs.vote_form.Goals as goal
 
 pub returns-then-flag-eq0 : goal.returns-then-flag-eq0

@@ -1,12 +1,8 @@
 use Prim.Native.Nat.{◌+◌, ◌-◌, ◌*◌, ◌≤◌}
 use mathlib.Core.Path.{◌≡◌}
-use native.Mathlib.Omega.{arith}
 use Rattle.octets.specs.Bytes.{part, flat, items}
 use Rattle.rules.specs.Choice.{same}
 use Rattle.rules.specs.Image.{vote_length, vote_bytes, vote_at}
-use Rattle.form.proofs.Same.{flag_long, row_none, row_next, row_end, row_whole, next_within}
-use Rattle.form.proofs.Parts.{vote_place}
-use borrow.Author.Rules.{rules}
 use Rattle.form.proofs.votes_form.Given as goal
 
 abbrev pub invariant-loop-i : goal.invariant-loop-i

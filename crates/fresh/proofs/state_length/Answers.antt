@@ -4,7 +4,6 @@ use borrow.Author.Tests.{not-true, not-false}
 use Rattle.rules.specs.Group.{shape_fits}
 use Rattle.places.proofs.Sections.{fits}
 use Rattle.fresh.proofs.Fresh.{length_none, length_some}
-use borrow.Author.Rules.{rules}
 use Rattle.fresh.proofs.state_length.Goals as goal
 use Rattle.fresh.proofs.state_length.Goals.{Else-not-shape_fits}
 

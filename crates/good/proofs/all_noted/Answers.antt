@@ -1,16 +1,9 @@
-use Prim.Native.Nat.{◌+◌, ◌-◌, ◌≤◌, min}
-use mathlib.Core.Path.{◌≡◌, sym, ap, ◌∙◌}
-use mathlib.Core.Bool.{true}
+use mathlib.Core.Path.{sym, ap, ◌∙◌}
 use native.Mathlib.Omega.{arith}
 use borrow.Author.Tests.{not-true, not-false}
-use Rattle.octets.specs.Bytes.{num, items}
-use Rattle.rules.specs.Choice.{every}
-use Rattle.rules.specs.Read.{entry_at}
-use Rattle.notes.specs.Notes.{notes_at}
 use Rattle.logs.proofs.Every.{every_start, every_next, every_stop, every_end}
 use Rattle.good.specs.Known.{noted_right}
 use Rattle.good.proofs.Tables.{each_is}
-use borrow.Author.Rules.{rules}
 use Rattle.good.proofs.all_noted.Goals as goal
 
 pub loop-i-init : goal.loop-i-init

@@ -1,5 +1,4 @@
 use Rattle.good.proofs.Apart.{within_at, entries_are}
-use borrow.Author.Rules.{rules}
 use Rattle.good.proofs.entries_good.Goals as goal
 
 pub distinct3-apart-requires : goal.distinct3-apart-requires

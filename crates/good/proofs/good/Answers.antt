@@ -1,6 +1,5 @@
 use mathlib.Core.Path.{◌∙◌}
 use Rattle.good.proofs.Whole.{judged_good}
-use borrow.Author.Rules.{rules}
 use Rattle.good.proofs.good.Goals as goal
 
 pub returns : goal.returns

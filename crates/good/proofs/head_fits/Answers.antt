@@ -1,5 +1,4 @@
 use Rattle.good.proofs.Heads.{head_is}
-use borrow.Author.Rules.{rules}
 use Rattle.good.proofs.head_fits.Goals as goal
 
 pub returns : goal.returns

@@ -1,5 +1,4 @@
 use Rattle.good.proofs.Heads.{heard_is}
-use borrow.Author.Rules.{rules}
 use Rattle.good.proofs.heard_good.Goals as goal
 
 pub returns : goal.returns

@@ -1,15 +1,6 @@
-use Prim.Native.Nat.{◌-◌, ◌≤◌}
-use mathlib.Core.Path.{◌≡◌}
-use mathlib.Core.Bool.{◌&&◌, ◌||◌, not}
 use native.Mathlib.Omega.{arith}
-use lib.Dec.{leb}
-use Rattle.octets.specs.Bytes.{items}
-use Rattle.rules.specs.Choice.{every, passes}
-use Rattle.rules.specs.Image.{point_at, at_heard}
-use Rattle.places.specs.Layout.{start_of}
 use Rattle.good.proofs.Tables.{row_none}
-use Rattle.good.proofs.Heads.{heard_turn, points_form, form_none, form_turn, points_end}
-use borrow.Author.Rules.{rules}
+use Rattle.good.proofs.Heads.{heard_turn, form_none, form_turn, points_end}
 use Rattle.good.proofs.heard_within.Goals as goal
 
 pub loop-i-init : goal.loop-i-init

@@ -3,7 +3,6 @@ use borrow.Author.Tests.{ne_eqb, not-true, not-false}
 use Rattle.octets.proofs.Laws.{bytes_known}
 use Rattle.places.proofs.Sections.{fits}
 use Rattle.good.proofs.Whole.{sizes_wrong, length_wrong, not_formed, head_unfit, notes_unfit, notes_formed, all_good, formed}
-use borrow.Author.Rules.{rules}
 use Rattle.good.proofs.judge.Goals as goal
 
 pub returns-then-not-shape_fits : goal.returns-then-not-shape_fits

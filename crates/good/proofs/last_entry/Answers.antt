@@ -1,5 +1,4 @@
 use Rattle.good.proofs.Tables.{last_none, last_is}
-use borrow.Author.Rules.{rules}
 use Rattle.good.proofs.last_entry.Goals as goal
 
 pub returns-then-n-eq0 : goal.returns-then-n-eq0

@@ -1,5 +1,4 @@
 use Rattle.good.proofs.Heads.{leads_is}
-use borrow.Author.Rules.{rules}
 use Rattle.good.proofs.leads.Goals as goal
 
 pub returns : goal.returns

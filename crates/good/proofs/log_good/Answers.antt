@@ -1,5 +1,4 @@
 use Rattle.good.proofs.Tables.{good_is}
-use borrow.Author.Rules.{rules}
 use Rattle.good.proofs.log_good.Goals as goal
 
 pub returns : goal.returns

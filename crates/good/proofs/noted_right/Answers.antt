@@ -1,5 +1,4 @@
 use Rattle.good.proofs.Apart.{no_note, not_noted, was_noted}
-use borrow.Author.Rules.{rules}
 use Rattle.good.proofs.noted_right.Goals as goal
 
 pub returns-then-count-i : goal.returns-then-count-i

@@ -1,5 +1,4 @@
 use Rattle.good.proofs.Whole.{section_fits}
-use borrow.Author.Rules.{rules}
 use Rattle.good.proofs.notes_fit.Goals as goal
 
 pub returns : goal.returns

@@ -1,5 +1,4 @@
 use Rattle.good.proofs.Apart.{notes_twice, notes_once}
-use borrow.Author.Rules.{rules}
 use Rattle.good.proofs.notes_right.Goals as goal
 
 pub index_notes-requires : goal.index_notes-requires

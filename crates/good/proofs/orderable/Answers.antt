@@ -1,6 +1,5 @@
 use mathlib.Core.Path.{◌∙◌}
 use Rattle.good.proofs.Whole.{judged_orderable}
-use borrow.Author.Rules.{rules}
 use Rattle.good.proofs.orderable.Goals as goal
 
 pub returns : goal.returns

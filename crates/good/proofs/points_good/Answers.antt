@@ -1,5 +1,4 @@
 use Rattle.good.proofs.Heads.{points_is}
-use borrow.Author.Rules.{rules}
 use Rattle.good.proofs.points_good.Goals as goal
 
 pub returns : goal.returns

@@ -1,11 +1,5 @@
-use Prim.Native.Nat.{◌+◌, ◌-◌, ◌*◌, ◌≤◌}
-use mathlib.Core.Path.{◌≡◌, refl}
-use lib.ListN.{length}
+use mathlib.Core.Path.{refl}
 use native.Mathlib.Omega.{arith}
-use Rattle.rules.specs.Choice.{every, passes, below}
-use Rattle.rules.specs.State.{reply_good}
-use Rattle.rules.specs.Image.{reply_length, reply_at, state_of, at_replies}
-use Rattle.places.specs.Layout.{start_of}
 use Rattle.good.proofs.Tables.{below_none, below_next, below_end}
 use borrow.Author.Rules.{rules}
 use Rattle.good.proofs.replies_good.Goals as goal

@@ -1,5 +1,4 @@
 use Rattle.good.proofs.Heads.{reply_unset, reply_is}
-use borrow.Author.Rules.{rules}
 use Rattle.good.proofs.reply_good.Goals as goal
 
 pub returns-then-not-reply_flag : goal.returns-then-not-reply_flag

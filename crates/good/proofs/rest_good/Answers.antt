@@ -1,5 +1,4 @@
 use Rattle.good.proofs.Whole.{lent_notes, rest_is}
-use borrow.Author.Rules.{rules}
 use Rattle.good.proofs.rest_good.Goals as goal
 
 pub notes_right-noting-requires : goal.notes_right-noting-requires

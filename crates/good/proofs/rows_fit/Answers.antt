@@ -1,6 +1,5 @@
 use native.Mathlib.Omega.{arith}
 use Rattle.good.proofs.Tables.{rows_are}
-use borrow.Author.Rules.{rules}
 use Rattle.good.proofs.rows_fit.Goals as goal
 
 pub returns : goal.returns

@@ -1,5 +1,4 @@
 use Rattle.good.proofs.Apart.{agreed_stamp, own_stamp}
-use borrow.Author.Rules.{rules}
 use Rattle.good.proofs.stamp_right.Goals as goal
 
 pub returns-then-agreed_at : goal.returns-then-agreed_at

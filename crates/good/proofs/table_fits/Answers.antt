@@ -1,5 +1,4 @@
 use Rattle.good.proofs.Tables.{in_order, in_any_order}
-use borrow.Author.Rules.{rules}
 use Rattle.good.proofs.table_fits.Goals as goal
 
 pub returns-then-ordered : goal.returns-then-ordered

@@ -1,5 +1,4 @@
 use Rattle.good.proofs.Heads.{vote_unset, vote_is}
-use borrow.Author.Rules.{rules}
 use Rattle.good.proofs.vote_good.Goals as goal
 
 pub returns-then-not-vote_flag : goal.returns-then-not-vote_flag

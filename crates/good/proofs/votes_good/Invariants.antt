@@ -1,14 +1,11 @@
 use Prim.Native.Nat.{◌-◌, ◌≤◌}
-use mathlib.Core.Path.{◌≡◌, refl}
+use mathlib.Core.Path.{◌≡◌}
 use lib.ListN.{length}
-use native.Mathlib.Omega.{arith}
 use Rattle.octets.specs.Bytes.{items}
 use Rattle.rules.specs.Choice.{every, passes}
 use Rattle.rules.specs.State.{vote_good}
 use Rattle.rules.specs.Image.{vote_length, vote_at, state_of, at_votes}
 use Rattle.places.specs.Layout.{start_of}
-use Rattle.good.proofs.Tables.{row_none, row_next, row_end}
-use borrow.Author.Rules.{rules}
 use Rattle.good.proofs.votes_good.Given as goal
 
 abbrev pub invariant-loop-r : goal.invariant-loop-r

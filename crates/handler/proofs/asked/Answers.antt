@@ -1,7 +1,5 @@
 use borrow.Author.Tests.{eq-eqb, ne_eqb}
 use Rattle.rules.specs.Choice.{pick}
-use Rattle.handler.proofs.asked.Reads as reads
-use Rattle.handler.proofs.asked.Lts as lts
 use Rattle.handler.proofs.asked.Goals as goal
 
 pub returns-then-asking-eq-TIMESTAMP_NOTE : goal.returns-then-asking-eq-TIMESTAMP_NOTE

@@ -1,11 +1,6 @@
 use mathlib.Core.Path.{◌∙◌}
 use native.Mathlib.Omega.{arith}
 use Rattle.handler.proofs.Told.{ready_first}
-use Rattle.handler.proofs.first_entry.Reads as reads
-use Rattle.handler.proofs.first_entry.Lts as lts
-use Rattle.entries.proofs.entry_at.Reads as entry-at-reads
-use Rattle.kinds.proofs.entries_at.Reads as entries-at-reads
-use borrow.Author.Rules.{rules}
 use Rattle.handler.proofs.first_entry.Goals as goal
 
 pub entry_at-requires : goal.entry_at-requires

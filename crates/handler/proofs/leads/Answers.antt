@@ -1,10 +1,4 @@
 use Rattle.handler.proofs.Own.{own_below, leads_is}
-use Rattle.handler.proofs.leads.Reads as reads
-use Rattle.handler.proofs.leads.Lts as lts
-use Rattle.group.proofs.leads.Reads as leads-reads
-use Rattle.places.proofs.get_group.Reads as get-group-reads
-use Rattle.places.proofs.get_replica.Reads as get-replica-reads
-use Rattle.places.proofs.view_at.Reads as view-at-reads
 use borrow.Author.Rules.{rules}
 use Rattle.handler.proofs.leads.Goals as goal
 

@@ -2,11 +2,6 @@ use Prim.Native.Nat.{◌-◌, ◌*◌}
 use mathlib.Core.Path.{◌≡◌}
 use native.Mathlib.Omega.{arith}
 use Rattle.handler.proofs.Sends.{message_is}
-use Rattle.handler.proofs.tell.Reads as reads
-use Rattle.handler.proofs.tell.Lts as lts
-use Rattle.places.proofs.places_of.Reads as places-of-reads
-use Rattle.writer.proofs.put_message.Reads as put-message-reads
-use borrow.Author.Rules.{rules}
 use Rattle.handler.proofs.tell.Goals as goal
 
 pub returns : goal.returns

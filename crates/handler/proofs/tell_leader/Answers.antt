@@ -6,14 +6,6 @@ use lib.ListN.{length}
 use Rattle.octets.proofs.Laws.{bytes_known}
 use Rattle.handler.proofs.Sends.{message_length}
 use Rattle.handler.proofs.Leaders.{asked_long, asked_is}
-use Rattle.handler.proofs.tell_leader.Reads as reads
-use Rattle.handler.proofs.tell_leader.Lts as lts
-use Rattle.group.proofs.only.Reads as only-reads
-use Rattle.handler.proofs.asked.Reads as asked-reads
-use Rattle.handler.proofs.headed.Reads as headed-reads
-use Rattle.handler.proofs.tell.Reads as tell-reads
-use Rattle.places.proofs.view_at.Reads as view-at-reads
-use borrow.Author.Rules.{rules}
 use Rattle.handler.proofs.tell_leader.Goals as goal
 
 pub only-requires : goal.only-requires

@@ -1,15 +1,12 @@
-use Prim.Native.Nat.{◌≤◌, ◌-◌}
-use mathlib.Core.Path.{◌≡◌, refl, subst}
+use mathlib.Core.Path.{refl, subst}
 use mathlib.Core.List.{List}
 use borrow.Author.Tests.{not-true, not-false}
 use native.Mathlib.Omega.{arith}
-use lib.ListN.{length}
-use Rattle.rules.specs.Image.{table_at}
 use Rattle.rules.specs.declared.Entry.{Entry}
 use Rattle.entries.specs.Rows.{Found}
 use Rattle.entries.specs.Table.{Holds}
 use Rattle.entries.proofs.Table.{is_table}
-use Rattle.merge.proofs.Taking.{first_in, row_start, row_again, row_full}
+use Rattle.merge.proofs.Taking.{row_start, row_again, row_full}
 use Rattle.merge.proofs.Rows.{read_found, rows_again, took_full, took_end}
 use borrow.Author.Rules.{rules}
 use Rattle.merge.proofs.take_all.Goals as goal

@@ -1,17 +1,10 @@
 use Prim.Native.Nat.{◌≤◌, ◌-◌}
-use mathlib.Core.Path.{◌≡◌, refl, subst}
-use mathlib.Core.List.{List}
-use borrow.Author.Tests.{not-true, not-false}
-use native.Mathlib.Omega.{arith}
+use mathlib.Core.Path.{◌≡◌}
 use lib.ListN.{length}
 use Rattle.rules.specs.Image.{table_at}
-use Rattle.rules.specs.declared.Entry.{Entry}
 use Rattle.entries.specs.Rows.{Found}
 use Rattle.entries.specs.Table.{Holds}
-use Rattle.entries.proofs.Table.{is_table}
-use Rattle.merge.proofs.Taking.{first_in, row_start, row_again, row_full}
-use Rattle.merge.proofs.Rows.{read_found, rows_again, took_full, took_end}
-use borrow.Author.Rules.{rules}
+use Rattle.merge.proofs.Taking.{first_in}
 use Rattle.merge.proofs.take_all.Given as goal
 
 abbrev pub invariant-loop-i : goal.invariant-loop-i

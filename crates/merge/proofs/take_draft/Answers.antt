@@ -5,7 +5,6 @@ use Rattle.rules.specs.declared.Entry.{Entry}
 use Rattle.entries.specs.Rows.{Found}
 use Rattle.entries.proofs.Table.{rows_read}
 use Rattle.merge.proofs.Turns.{draft_copied}
-use borrow.Author.Rules.{rules}
 use Rattle.merge.proofs.take_draft.Goals as goal
 
 pub index_rows-requires : goal.index_rows-requires

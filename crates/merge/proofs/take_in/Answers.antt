@@ -1,7 +1,6 @@
 use native.Mathlib.Omega.{arith}
 use Rattle.merge.proofs.Taking.{stays, replaces, no_place}
 use Rattle.merge.proofs.Rows.{find_asked, took_row, row_asked, took_new, took_full}
-use borrow.Author.Rules.{rules}
 use Rattle.merge.proofs.take_in.Goals as goal
 
 pub find_row-i-requires : goal.find_row-i-requires

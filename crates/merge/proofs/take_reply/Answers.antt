@@ -1,6 +1,5 @@
 use borrow.Author.Tests.{not-true, not-false}
 use Rattle.merge.proofs.Turns.{kept_room, way_own, way_none, way_kept}
-use borrow.Author.Rules.{rules}
 use Rattle.merge.proofs.take_reply.Goals as goal
 
 pub take_all-requires : goal.take_all-requires

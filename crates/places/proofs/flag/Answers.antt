@@ -1,4 +1,3 @@
-use borrow.Author.Rules.{rules}
 use Rattle.places.proofs.flag.Goals as goal
 
 pub returns : goal.returns

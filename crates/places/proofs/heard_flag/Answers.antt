@@ -1,5 +1,4 @@
 use Rattle.places.proofs.Spots.{point_flag}
-use borrow.Author.Rules.{rules}
 use Rattle.places.proofs.heard_flag.Goals as goal
 
 pub returns : goal.returns

@@ -3,7 +3,6 @@ use Prim.Native.Nat.{◌+◌, ◌*◌}
 use native.Mathlib.Omega.{arith}
 use Rattle.places.specs.Layout.{PlaceAt}
 use Rattle.places.proofs.Spots.{placed}
-use borrow.Author.Rules.{rules}
 use Rattle.places.proofs.heard_place.Goals as goal
 use Rattle.places.proofs.heard_place.Goals.{After-places_of-places}
 

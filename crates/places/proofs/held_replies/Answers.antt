@@ -5,7 +5,6 @@ use Rattle.rules.specs.Image.{reply_length, at_replies}
 use Rattle.places.specs.Layout.{start_of}
 use Rattle.places.specs.declared.Places.{Places}
 use Rattle.places.proofs.Spots.{replies_counted}
-use borrow.Author.Rules.{rules}
 use Rattle.places.proofs.held_replies.Goals as goal
 use Rattle.places.proofs.held_replies.Goals.{After-places_of-places}
 

@@ -5,7 +5,6 @@ use Rattle.rules.specs.Image.{vote_length, at_votes}
 use Rattle.places.specs.Layout.{start_of}
 use Rattle.places.specs.declared.Places.{Places}
 use Rattle.places.proofs.Spots.{votes_counted}
-use borrow.Author.Rules.{rules}
 use Rattle.places.proofs.held_votes.Goals as goal
 use Rattle.places.proofs.held_votes.Goals.{After-places_of-places}
 

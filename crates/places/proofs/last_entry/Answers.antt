@@ -1,5 +1,4 @@
 use Rattle.places.proofs.Logged.{last_none, last_is}
-use borrow.Author.Rules.{rules}
 use Rattle.places.proofs.last_entry.Goals as goal
 
 pub returns-then-n-eq0 : goal.returns-then-n-eq0

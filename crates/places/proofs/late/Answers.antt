@@ -1,6 +1,4 @@
-use native.Mathlib.Omega.{arith}
 use Rattle.places.proofs.Midway.{late_here, table_is}
-use borrow.Author.Rules.{rules}
 use Rattle.places.proofs.late.Goals as goal
 
 pub returns : goal.returns

@@ -3,7 +3,6 @@ use mathlib.Core.Path.{ap, ◌∙◌}
 use native.Mathlib.Omega.{arith}
 use Rattle.rules.specs.Read.{entry_at}
 use Rattle.places.proofs.Logged.{log_room, log_at}
-use borrow.Author.Rules.{rules}
 use Rattle.places.proofs.log_entry.Goals as goal
 
 pub log_place-requires : goal.log_place-requires

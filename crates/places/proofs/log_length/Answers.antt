@@ -1,5 +1,4 @@
 use Rattle.places.proofs.Logged.{full_log, the_log}
-use borrow.Author.Rules.{rules}
 use Rattle.places.proofs.log_length.Goals as goal
 
 pub returns-then-room-count : goal.returns-then-room-count

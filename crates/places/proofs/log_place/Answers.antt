@@ -1,5 +1,4 @@
 use Rattle.places.proofs.Logged.{log_within}
-use borrow.Author.Rules.{rules}
 use Rattle.places.proofs.log_place.Goals as goal
 
 pub returns : goal.returns

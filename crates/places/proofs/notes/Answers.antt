@@ -1,6 +1,4 @@
-use native.Mathlib.Omega.{arith}
 use Rattle.places.proofs.Midway.{notes_here, notes_are}
-use borrow.Author.Rules.{rules}
 use Rattle.places.proofs.notes.Goals as goal
 
 pub returns : goal.returns

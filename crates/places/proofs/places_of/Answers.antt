@@ -1,7 +1,6 @@
 use mathlib.Core.Path.{refl}
 use native.Mathlib.Omega.{arith}
 use Rattle.places.proofs.Sections.{products, in_a_row, marks}
-use borrow.Author.Rules.{rules}
 use Rattle.places.proofs.places_of.Goals as goal
 
 pub overflow_mul-votes : goal.overflow_mul-votes

@@ -2,7 +2,6 @@ use Prim.Native.Nat.{◌+◌, ◌≤◌}
 use native.Mathlib.Omega.{arith}
 use lib.ListN.{length}
 use Rattle.places.proofs.Writes.{point_written}
-use borrow.Author.Rules.{rules}
 use Rattle.places.proofs.put_heard.Goals as goal
 
 pub returns : goal.returns

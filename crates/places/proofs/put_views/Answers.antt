@@ -3,7 +3,6 @@ use Prim.Native.Nat.{◌+◌, ◌*◌, ◌-◌}
 use native.Mathlib.Omega.{arith}
 use lib.ListN.{length, take, drop}
 use Rattle.places.proofs.Writes.{lent_long, views_written}
-use borrow.Author.Rules.{rules}
 use Rattle.places.proofs.put_views.Goals as goal
 
 pub copy_in-requires : goal.copy_in-requires

@@ -1,5 +1,4 @@
 use Rattle.places.proofs.Spots.{reply_flag}
-use borrow.Author.Rules.{rules}
 use Rattle.places.proofs.reply_flag.Goals as goal
 
 pub returns : goal.returns

@@ -1,7 +1,6 @@
 use Prim.Native.Nat.{ℕ}
 use mathlib.Core.Path.{ap, ◌∙◌}
 use Rattle.octets.specs.Bytes.{num}
-use borrow.Author.Rules.{rules}
 use Rattle.places.proofs.view_at.Goals as goal
 
 pub returns : goal.returns

@@ -1,5 +1,4 @@
 use Rattle.places.proofs.Spots.{vote_flag}
-use borrow.Author.Rules.{rules}
 use Rattle.places.proofs.vote_flag.Goals as goal
 
 pub returns : goal.returns

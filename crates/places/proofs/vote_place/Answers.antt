@@ -3,7 +3,6 @@ use native.Mathlib.Omega.{arith}
 use Rattle.rules.specs.Image.{vote_length}
 use Rattle.places.specs.Layout.{PlaceAt}
 use Rattle.places.proofs.Spots.{placed}
-use borrow.Author.Rules.{rules}
 use Rattle.places.proofs.vote_place.Goals as goal
 use Rattle.places.proofs.vote_place.Goals.{After-places_of-places}
 

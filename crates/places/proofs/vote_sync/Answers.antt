@@ -1,5 +1,4 @@
 use Rattle.places.proofs.Spots.{read_at}
-use borrow.Author.Rules.{rules}
 use Rattle.places.proofs.vote_sync.Goals as goal
 
 pub returns : goal.returns

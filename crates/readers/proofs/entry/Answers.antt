@@ -1,7 +1,6 @@
 use native.Mathlib.Omega.{arith}
 use Rattle.places.specs.Layout.{Sized}
 use Rattle.readers.proofs.Fields.{no_entry, sized, before_first, past_last, the_entry}
-use borrow.Author.Rules.{rules}
 use Rattle.readers.proofs.entry.Goals as goal
 use Rattle.readers.proofs.entry.Goals.{Else-not-is_sized}
 

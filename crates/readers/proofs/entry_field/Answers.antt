@@ -3,7 +3,6 @@ use borrow.Author.Tests.{ne_eqb}
 use Rattle.rules.specs.Choice.{pick}
 use Rattle.readers.specs.Said.{entry_field_of}
 use Rattle.readers.proofs.Fields.{asked}
-use borrow.Author.Rules.{rules}
 use Rattle.readers.proofs.entry_field.Goals as goal
 
 pub returns-in-1 : goal.returns-in-1

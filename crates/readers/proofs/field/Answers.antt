@@ -1,5 +1,4 @@
 use Rattle.readers.proofs.Fields.{no_field, sized, the_field}
-use borrow.Author.Rules.{rules}
 use Rattle.readers.proofs.field.Goals as goal
 
 pub returns-then-not-is_sized : goal.returns-then-not-is_sized

@@ -6,7 +6,6 @@ use Rattle.rules.specs.Image.{state_of}
 use Rattle.places.proofs.Fields.{Fields, fields}
 use Rattle.readers.specs.Said.{field_of}
 use Rattle.readers.proofs.Fields.{asked}
-use borrow.Author.Rules.{rules}
 use Rattle.readers.proofs.field_of.Goals as goal
 use Rattle.readers.proofs.field_of.Goals.{Start}
 

@@ -1,5 +1,4 @@
 use Rattle.readers.proofs.Fields.{no_view, sized, past_groups, the_view}
-use borrow.Author.Rules.{rules}
 use Rattle.readers.proofs.group_view.Goals as goal
 
 pub returns-then-not-is_sized : goal.returns-then-not-is_sized

@@ -2,7 +2,6 @@ use mathlib.Core.Path.{sym, ◌∙◌}
 use borrow.Author.Tests.{not-false}
 use Rattle.places.proofs.Sections.{fits}
 use Rattle.readers.proofs.Fields.{wrong_shape, right_shape}
-use borrow.Author.Rules.{rules}
 use Rattle.readers.proofs.is_sized.Goals as goal
 
 pub returns-then-not-shape_fits : goal.returns-then-not-shape_fits

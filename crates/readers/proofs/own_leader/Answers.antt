@@ -1,5 +1,4 @@
 use Rattle.readers.proofs.Fields.{no_leader, the_leader}
-use borrow.Author.Rules.{rules}
 use Rattle.readers.proofs.own_leader.Goals as goal
 
 pub returns-then-shape-own : goal.returns-then-shape-own

@@ -1,13 +1,8 @@
-use Prim.Native.Nat.{◌≤◌, ◌-◌}
 use native.Mathlib.Omega.{arith}
-use Rattle.rules.specs.Entry.{place_all}
-use Rattle.rules.specs.Rebuild.{with_normal, prefix}
-use Rattle.entries.specs.Table.{Holds}
 use Rattle.entries.proofs.Table.{is_table}
-use Rattle.ballots.specs.Ballots.{votes_in}
 use Rattle.ballots.proofs.Votes.{votes_long}
 use Rattle.ballots.proofs.Sound.{lower_good}
-use Rattle.rebuild.proofs.Whole.{added_below, front_sorted, whole_start, whole_turn, whole_stop, whole_end}
+use Rattle.rebuild.proofs.Whole.{front_sorted, whole_start, whole_turn, whole_stop, whole_end}
 use Rattle.rebuild.proofs.add_all.Goals as goal
 
 pub loop-r-init : goal.loop-r-init

@@ -5,7 +5,6 @@ use Rattle.rules.specs.Entry.{entry_of}
 use Rattle.rules.specs.Image.{table_at}
 use Rattle.entries.proofs.Sorting.{sorted_rises}
 use Rattle.rebuild.proofs.Added.{entry_passed, entry_full, entry_added}
-use borrow.Author.Rules.{rules}
 use Rattle.rebuild.proofs.add_entry.Goals as goal
 
 pub returns-then-not-new : goal.returns-then-not-new

@@ -1,18 +1,13 @@
-use borrow.Author.Tests.{not-false}
-use Prim.Native.Nat.{ℕ, ◌≤◌, ◌<◌, ◌-◌}
-use mathlib.Core.Path.{◌≡◌, ◌∙◌}
+use Prim.Native.Nat.{◌≤◌, ◌-◌}
+use mathlib.Core.Path.{◌≡◌}
 use mathlib.Core.Option.{none}
-use native.Mathlib.Omega.{arith}
 use lib.ListN.{length, get_or, take}
 use Rattle.rules.specs.Choice.{keep}
 use Rattle.rules.specs.Entry.{place_all}
 use Rattle.rules.specs.Image.{table_at}
 use Rattle.entries.specs.Table.{Holds}
-use Rattle.entries.proofs.Table.{is_table, row_read}
 use Rattle.ballots.specs.Ballots.{votes_in, vote_of}
 use Rattle.rebuild.specs.Rebuild.{is_new}
-use Rattle.rebuild.proofs.Holders.{counts_some}
-use Rattle.rebuild.proofs.Added.{sorted_on, as_new, log_start, log_turn, log_stop, log_end, from_passed, from_stopped, from_added}
 use Rattle.rebuild.proofs.add_from.Given as goal
 
 abbrev pub invariant-loop-i : goal.invariant-loop-i

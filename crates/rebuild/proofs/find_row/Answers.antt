@@ -1,7 +1,6 @@
 use mathlib.Core.Path.{refl}
 use native.Mathlib.Omega.{arith}
 use Rattle.rebuild.proofs.Tables.{slots_room, none_asked, slots_asked}
-use borrow.Author.Rules.{rules}
 use Rattle.rebuild.proofs.find_row.Goals as goal
 
 pub bounds-index-i : goal.bounds-index-i

@@ -1,9 +1,7 @@
-use Prim.Native.Nat.{ℕ, ◌<◌, ◌≤◌, ◌-◌}
-use mathlib.Core.Path.{◌≡◌, refl}
+use Prim.Native.Nat.{ℕ, ◌<◌, ◌≤◌}
+use mathlib.Core.Path.{refl}
 use native.Mathlib.Omega.{arith}
-use Rattle.rules.specs.Rebuild.{holders}
 use Rattle.ballots.specs.Ballots.{votes_in}
-use Rattle.rebuild.specs.Rebuild.{lower}
 use Rattle.ballots.proofs.Votes.{votes_long}
 use Rattle.rebuild.proofs.Holders.{holders_start, holders_same, held_here, held_nowhere}
 use Rattle.rebuild.proofs.held_below.Goals as goal

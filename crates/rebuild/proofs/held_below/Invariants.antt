@@ -1,11 +1,8 @@
-use Prim.Native.Nat.{ℕ, ◌<◌, ◌≤◌, ◌-◌}
-use mathlib.Core.Path.{◌≡◌, refl}
-use native.Mathlib.Omega.{arith}
+use Prim.Native.Nat.{◌≤◌, ◌-◌}
+use mathlib.Core.Path.{◌≡◌}
 use Rattle.rules.specs.Rebuild.{holders}
 use Rattle.ballots.specs.Ballots.{votes_in}
 use Rattle.rebuild.specs.Rebuild.{lower}
-use Rattle.ballots.proofs.Votes.{votes_long}
-use Rattle.rebuild.proofs.Holders.{holders_start, holders_same, held_here, held_nowhere}
 use Rattle.rebuild.proofs.held_below.Given as goal
 
 abbrev pub invariant-loop-r : goal.invariant-loop-r

@@ -1,12 +1,8 @@
 use Prim.Native.Nat.{◌+◌, ◌≤◌, ◌-◌}
 use mathlib.Core.Path.{◌≡◌}
-use mathlib.Core.Logic.{⊎_elim}
-use native.Mathlib.Omega.{arith}
 use Rattle.rules.specs.Rebuild.{holders}
 use Rattle.ballots.specs.Ballots.{votes_in}
 use Rattle.rebuild.specs.Rebuild.{lower}
-use Rattle.ballots.proofs.Votes.{votes_long}
-use Rattle.rebuild.proofs.Holders.{holders_more, holders_same, holders_end}
 use Rattle.rebuild.proofs.holders_from.Given as goal
 
 abbrev pub invariant-loop-r : goal.invariant-loop-r

@@ -1,7 +1,6 @@
 use native.Mathlib.Omega.{arith}
 use Rattle.rebuild.proofs.New.{prefix_missing, prefix_found}
 use Rattle.rebuild.proofs.Tables.{looks_in}
-use borrow.Author.Rules.{rules}
 use Rattle.rebuild.proofs.in_prefix.Goals as goal
 
 pub returns-then-shape-basis : goal.returns-then-shape-basis

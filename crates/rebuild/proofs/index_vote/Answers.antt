@@ -7,7 +7,6 @@ use Rattle.ballots.specs.Ballots.{votes_in}
 use Prim.Native.Nat.{ℕ, ◌<◌, ◌≤◌}
 use Rattle.rebuild.proofs.Holders.{counts_some}
 use Rattle.rebuild.proofs.Tables.{index_same, index_found}
-use borrow.Author.Rules.{rules}
 use Rattle.rebuild.proofs.index_vote.Goals as goal
 
 replica_low : (r n : ℕ) → r < n → n ≤ 7 → r < 7

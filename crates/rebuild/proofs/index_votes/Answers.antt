@@ -1,11 +1,6 @@
 use native.Mathlib.Omega.{arith}
-use mathlib.Core.Path.{◌≡◌, refl}
-use Prim.Native.Nat.{◌≤◌, ◌-◌}
-use lib.ListN.{length}
-use Rattle.ballots.specs.Ballots.{votes_in}
-use Rattle.rebuild.specs.Tables.{Indexed}
+use mathlib.Core.Path.{refl}
 use Rattle.rebuild.proofs.Tables.{index_start, index_among}
-use borrow.Author.Rules.{rules}
 use Rattle.rebuild.proofs.index_votes.Goals as goal
 
 pub loop-r-init : goal.loop-r-init

@@ -1,11 +1,8 @@
-use native.Mathlib.Omega.{arith}
-use mathlib.Core.Path.{◌≡◌, refl}
+use mathlib.Core.Path.{◌≡◌}
 use Prim.Native.Nat.{◌≤◌, ◌-◌}
 use lib.ListN.{length}
 use Rattle.ballots.specs.Ballots.{votes_in}
 use Rattle.rebuild.specs.Tables.{Indexed}
-use Rattle.rebuild.proofs.Tables.{index_start, index_among}
-use borrow.Author.Rules.{rules}
 use Rattle.rebuild.proofs.index_votes.Given as goal
 
 abbrev pub invariant-loop-r : goal.invariant-loop-r

@@ -1,6 +1,5 @@
 use Rattle.ballots.proofs.Votes.{votes_long}
 use Rattle.rebuild.proofs.New.{new_late, new_lower, new_few, new_held}
-use borrow.Author.Rules.{rules}
 use Rattle.rebuild.proofs.is_new.Goals as goal
 
 pub returns-then-not-before : goal.returns-then-not-before

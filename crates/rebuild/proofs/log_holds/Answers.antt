@@ -2,7 +2,6 @@ use native.Mathlib.Omega.{arith}
 use Rattle.ballots.proofs.Sound.{vote_good_lem}
 use Rattle.rebuild.proofs.Holders.{key_missing, key_found}
 use Rattle.rebuild.proofs.Tables.{looks_in}
-use borrow.Author.Rules.{rules}
 use Rattle.rebuild.proofs.log_holds.Goals as goal
 
 pub log_of-log-requires : goal.log_of-log-requires

@@ -1,5 +1,4 @@
 use Rattle.rebuild.proofs.Begun.{top_is, starts, prefixed, given_back}
-use borrow.Author.Rules.{rules}
 use Rattle.rebuild.proofs.rebuild.Goals as goal
 
 pub take_prefix-basis-requires : goal.take_prefix-basis-requires

@@ -3,7 +3,6 @@ use native.Mathlib.Omega.{arith}
 use Rattle.ballots.proofs.Votes.{votes_long}
 use Rattle.entries.proofs.Table.{row_read}
 use Rattle.rebuild.proofs.Whole.{takes_none, takes_some, based_none, based_some, cut}
-use borrow.Author.Rules.{rules}
 use Rattle.rebuild.proofs.take_prefix.Goals as goal
 
 pub returns-then-shape-best : goal.returns-then-shape-best

@@ -2,7 +2,6 @@ use Prim.Native.Nat.{◌+◌, ◌*◌}
 use mathlib.Core.Path.{refl}
 use native.Mathlib.Omega.{arith}
 use Rattle.releases.proofs.LogBytes.{copied}
-use borrow.Author.Rules.{rules}
 use Rattle.releases.proofs.copy_released.Goals as goal
 
 pub returns : goal.returns

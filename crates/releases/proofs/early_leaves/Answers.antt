@@ -2,7 +2,6 @@ use mathlib.Core.Path.{refl}
 use Rattle.entries.proofs.Table.{is_table}
 use Rattle.places.proofs.Midway.{early_here}
 use Rattle.releases.proofs.Way.{leave_within, early_left_lem}
-use borrow.Author.Rules.{rules}
 use Rattle.releases.proofs.early_leaves.Goals as goal
 
 pub leave_first-requires : goal.leave_first-requires

@@ -1,6 +1,5 @@
 use Rattle.places.proofs.Sections.{state_small}
 use Rattle.releases.proofs.LogBytes.{early_within}
-use borrow.Author.Rules.{rules}
 use Rattle.releases.proofs.early_place.Goals as goal
 
 pub returns : goal.returns

@@ -1,6 +1,5 @@
 use native.Mathlib.Omega.{arith}
 use Rattle.rows.proofs.Slots.{unserved}
-use borrow.Author.Rules.{rules}
 use Rattle.releases.proofs.index_notes.Goals as goal
 
 pub returns-then-due-le8 : goal.returns-then-due-le8

@@ -1,7 +1,6 @@
 use mathlib.Core.Path.{sym, ◌∙◌}
 use native.Mathlib.Omega.{arith}
 use Rattle.releases.proofs.Next.{copies_noted}
-use borrow.Author.Rules.{rules}
 use Rattle.releases.proofs.leave_by.Goals as goal
 
 pub list-requires : goal.list-requires

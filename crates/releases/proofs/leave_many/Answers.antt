@@ -1,5 +1,4 @@
 use native.Mathlib.Omega.{arith}
-use borrow.Author.Rules.{rules}
 use Rattle.releases.proofs.leave_many.Goals as goal
 
 pub leave_by-requires : goal.leave_by-requires

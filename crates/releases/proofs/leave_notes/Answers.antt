@@ -1,6 +1,5 @@
 use native.Mathlib.Omega.{arith}
 use Rattle.releases.proofs.Next.{none_noted}
-use borrow.Author.Rules.{rules}
 use Rattle.releases.proofs.leave_notes.Goals as goal
 
 pub notes-requires : goal.notes-requires

@@ -2,7 +2,6 @@ use mathlib.Core.Path.{sym, ap, ◌∙◌}
 use lib.ListN.{length}
 use Rattle.rules.specs.State.{State}
 use Rattle.releases.proofs.Next.{all_left}
-use borrow.Author.Rules.{rules}
 use Rattle.releases.proofs.leave_released.Goals as goal
 
 pub early_leaves-requires : goal.early_leaves-requires

@@ -1,7 +1,6 @@
 use Prim.Native.Nat.{◌+◌, ◌*◌}
 use native.Mathlib.Omega.{arith}
 use Rattle.releases.proofs.LogBytes.{digest_is}
-use borrow.Author.Rules.{rules}
 use Rattle.releases.proofs.log_digest.Goals as goal
 
 pub returns : goal.returns

@@ -2,7 +2,6 @@ use mathlib.Core.Path.{refl}
 use Rattle.entries.proofs.Table.{is_table, decoded}
 use Rattle.places.proofs.Midway.{log_here}
 use Rattle.releases.proofs.Way.{log_taken}
-use borrow.Author.Rules.{rules}
 use Rattle.releases.proofs.log_takes.Goals as goal
 
 pub append-requires : goal.append-requires

@@ -2,7 +2,6 @@ use mathlib.Core.Path.{refl}
 use Rattle.notes.proofs.Notes.{is_notes}
 use Rattle.places.proofs.Midway.{notes_here}
 use Rattle.releases.proofs.Way.{notes_left_lem}
-use borrow.Author.Rules.{rules}
 use Rattle.releases.proofs.notes_leave.Goals as goal
 
 pub leave_notes-requires : goal.leave_notes-requires

@@ -2,7 +2,6 @@ use Prim.Native.Nat.{◌+◌}
 use mathlib.Core.Path.{refl}
 use Rattle.releases.proofs.LogBytes.{digest_runs}
 use Rattle.releases.proofs.Next.{went}
-use borrow.Author.Rules.{rules}
 use Rattle.releases.proofs.release_one.Goals as goal
 
 pub early_entry-e-requires : goal.early_entry-e-requires

@@ -1,5 +1,4 @@
 use Rattle.releases.proofs.Way.{run_open, run_read}
-use borrow.Author.Rules.{rules}
 use Rattle.releases.proofs.run_length.Goals as goal
 
 pub notes-notes-requires : goal.notes-notes-requires

@@ -1,11 +1,8 @@
 use Prim.Native.Nat.{◌≤◌, ◌-◌}
-use native.Mathlib.Omega.{arith}
 use Rattle.rules.specs.State.{agreed}
 use Rattle.rules.specs.Image.{table_at}
-use Rattle.repeats.proofs.Laws.{first_start}
 use Rattle.notes.specs.Notes.{sized, notes_at}
-use Rattle.releases.proofs.Run.{Passed, run_stops, run_goes, run_ends}
-use borrow.Author.Rules.{rules}
+use Rattle.releases.proofs.Run.{Passed}
 use Rattle.releases.proofs.run_of.Given as goal
 
 abbrev pub invariant-loop-i : goal.invariant-loop-i

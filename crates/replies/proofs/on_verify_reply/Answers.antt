@@ -8,7 +8,6 @@ use Rattle.places.proofs.Sections.{stands_midway}
 use Rattle.views.proofs.Cleared.{replies_stand}
 use Rattle.replies.proofs.Kept.{counted_few}
 use Rattle.replies.proofs.Ways.{from_below, reply_views, replied, reply_counted, reply_stands, reply_past, reply_kept, reply_last}
-use borrow.Author.Rules.{rules}
 use Rattle.replies.proofs.on_verify_reply.Goals as goal
 
 pub returns-in_default : goal.returns-in_default

@@ -3,7 +3,6 @@ use mathlib.Core.List.{[]}
 use Rattle.places.proofs.Head.{view_of}
 use Rattle.places.proofs.Sections.{stands_midway}
 use Rattle.replies.proofs.Ways.{merged_past, merged_table, merged_starts}
-use borrow.Author.Rules.{rules}
 use Rattle.replies.proofs.start_merged.Goals as goal
 
 pub returns-then-not-merge : goal.returns-then-not-merge

@@ -2,7 +2,6 @@ use mathlib.Core.List.{[]}
 use mathlib.Core.Path.{◌∙◌}
 use Rattle.admit.proofs.Steps.{ready, refused_step, handled_step}
 use Rattle.rooms.proofs.Ways.{by_offset}
-use borrow.Author.Rules.{rules}
 use Rattle.rooms.proofs.answer.Goals as goal
 
 pub returns-then-number-eq-MALFORMED : goal.returns-then-number-eq-MALFORMED

@@ -1,5 +1,4 @@
 use Rattle.rooms.proofs.Ways.{wrong_length}
-use borrow.Author.Rules.{rules}
 use Rattle.rooms.proofs.good.Goals as goal
 
 pub returns-then-not-has_length : goal.returns-then-not-has_length

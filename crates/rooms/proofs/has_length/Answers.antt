@@ -1,6 +1,5 @@
 use mathlib.Core.Path.{ap}
 use lib.Dec.{eqb}
-use borrow.Author.Rules.{rules}
 use Rattle.rooms.proofs.has_length.Goals as goal
 
 pub returns : goal.returns

@@ -1,6 +1,5 @@
 use native.Mathlib.Omega.{arith}
 use Rattle.rooms.proofs.Ordering.{not_orderable, is_orderable, order_midway, early_lent, early_ordered}
-use borrow.Author.Rules.{rules}
 use Rattle.rooms.proofs.order.Goals as goal
 
 pub returns-then-not-orderable : goal.returns-then-not-orderable

@@ -1,7 +1,6 @@
 use mathlib.Core.Path.{refl}
 use mathlib.Core.Bool.{false}
 use Rattle.rooms.proofs.Ways.{wrong_length, not_good}
-use borrow.Author.Rules.{rules}
 use Rattle.rooms.proofs.step.Goals as goal
 
 pub returns-then-not-has_length : goal.returns-then-not-has_length

@@ -1,5 +1,4 @@
 use Rattle.rooms.proofs.Ways.{not_good, is_good, good_stands}
-use borrow.Author.Rules.{rules}
 use Rattle.rooms.proofs.step_many.Goals as goal
 
 pub returns-then-not-good : goal.returns-then-not-good

@@ -1,7 +1,6 @@
 use mathlib.Core.Path.{sym, ap, ◌∙◌}
 use Rattle.rules.specs.Choice.{pick}
 use Rattle.rules.specs.Kind.{to_outside}
-use borrow.Author.Rules.{rules}
 use Rattle.rooms.proofs.wrong_at.Goals as goal
 
 pub returns-then-to_outside : goal.returns-then-to_outside

@@ -1,5 +1,4 @@
 use Rattle.stamps.proofs.Lifts.{not_noted, was_noted}
-use borrow.Author.Rules.{rules}
 use Rattle.stamps.proofs.is_noted.Goals as goal
 
 pub notes-requires : goal.notes-requires

@@ -1,6 +1,5 @@
 use native.Mathlib.Omega.{arith}
 use Rattle.stamps.proofs.Lifts.{lift_within, lift_absent, lift_waits, lift_up, lift_here}
-use borrow.Author.Rules.{rules}
 use Rattle.stamps.proofs.lift.Goals as goal
 
 pub early-early-requires : goal.early-early-requires

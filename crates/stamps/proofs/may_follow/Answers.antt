@@ -1,7 +1,6 @@
 use mathlib.Core.Path.{ap, ◌∙◌}
 use Rattle.rules.specs.Entry.{before}
 use Rattle.rules.specs.declared.Entry.{Entry}
-use borrow.Author.Rules.{rules}
 use Rattle.stamps.proofs.may_follow.Goals as goal
 
 pub returns : goal.returns

@@ -1,7 +1,6 @@
 use native.Mathlib.Omega.{arith}
 use Rattle.places.proofs.Sections.{stands_midway, midway_sized}
 use Rattle.stamps.proofs.Stamps.{last_low, raised_due, raised_lifted}
-use borrow.Author.Rules.{rules}
 use Rattle.stamps.proofs.raised.Goals as goal
 
 pub last_entry-last-requires : goal.last_entry-last-requires

@@ -3,7 +3,6 @@ use mathlib.Core.Path.{◌≡◌}
 use native.Mathlib.Omega.{arith}
 use Rattle.early.specs.Listed.{listed_in}
 use Rattle.syncs.proofs.Home.{is_both, late_said}
-use borrow.Author.Rules.{rules}
 use Rattle.syncs.proofs.late_length.Goals as goal
 
 pub late_after-requires : goal.late_after-requires

@@ -5,7 +5,6 @@ use Rattle.rules.specs.Step.{on_replica_sync}
 use Rattle.handler.proofs.Closes.{handled_other}
 use Rattle.handler.proofs.OtherKind.{not_tag}
 use Rattle.syncs.proofs.Ways.{place_inside, not_longer, too_long, coming, list_asked, handled_so}
-use borrow.Author.Rules.{rules}
 use Rattle.syncs.proofs.on_replica_sync.Goals as goal
 
 pub returns-in_default : goal.returns-in_default

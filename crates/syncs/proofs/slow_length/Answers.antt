@@ -1,9 +1,7 @@
-use Prim.Native.Nat.{◌-◌}
 use native.Mathlib.Omega.{arith}
 use Rattle.places.proofs.Sections.{stands_midway}
 use Rattle.places.proofs.Head.{sync_of}
 use Rattle.syncs.proofs.Slow.{product}
-use borrow.Author.Rules.{rules}
 use Rattle.syncs.proofs.slow_length.Goals as goal
 
 pub overflow_sub-result : goal.overflow_sub-result

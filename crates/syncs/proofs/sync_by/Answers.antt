@@ -1,6 +1,5 @@
 use native.Mathlib.Omega.{arith}
 use Rattle.syncs.proofs.Ways.{last_is, too_late, too_much, taken}
-use borrow.Author.Rules.{rules}
 use Rattle.syncs.proofs.sync_by.Goals as goal
 
 pub overflow_sub-log : goal.overflow_sub-log

@@ -7,7 +7,6 @@ use Rattle.rules.specs.Image.{note_length}
 use Rattle.rules.specs.Read.{entry_at}
 use Rattle.early.specs.Listed.{listed_in}
 use Rattle.syncs.proofs.Home.{is_both, late_asked, notes_asked, taken_over}
-use borrow.Author.Rules.{rules}
 use Rattle.syncs.proofs.sync_state.Goals as goal
 
 pub settle-requires : goal.settle-requires

@@ -1,6 +1,5 @@
 use native.Mathlib.Omega.{arith}
 use Rattle.syncs.proofs.Slow.{tell_asked, slow_told}
-use borrow.Author.Rules.{rules}
 use Rattle.syncs.proofs.tell_slow.Goals as goal
 
 pub overflow_mul-from : goal.overflow_mul-from

@@ -1,14 +1,9 @@
-use Prim.Native.Nat.{◌+◌, ◌-◌, ◌*◌, ◌≤◌}
-use mathlib.Core.Path.{◌≡◌, refl, ◌∙◌}
+use mathlib.Core.Path.{refl, ◌∙◌}
 use native.Mathlib.Omega.{arith}
 use lib.ListN.{length}
-use Rattle.octets.specs.Bytes.{splice}
-use Rattle.rules.specs.Image.{state_of}
-use Rattle.rules.specs.Read.{length_for}
 use Rattle.places.proofs.Sections.{stands_midway}
 use Rattle.places.proofs.Head.{sync_of}
-use Rattle.early.specs.Listed.{listed_in}
-use Rattle.syncs.proofs.Slow.{told_bytes, told_start, told_room, told_turn, told_all}
+use Rattle.syncs.proofs.Slow.{told_start, told_room, told_turn, told_all}
 use borrow.Author.Rules.{rules}
 use Rattle.syncs.proofs.tell_synced.Goals as goal
 

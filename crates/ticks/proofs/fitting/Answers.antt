@@ -1,5 +1,4 @@
 use native.Mathlib.Omega.{arith}
-use borrow.Author.Rules.{rules}
 use Rattle.ticks.proofs.fitting.Goals as goal
 
 pub returns-then-run-c : goal.returns-then-run-c

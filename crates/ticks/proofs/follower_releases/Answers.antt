@@ -1,7 +1,6 @@
 use Rattle.ticks.proofs.Telling.{status_long}
 use native.Mathlib.Omega.{arith}
 use Rattle.ticks.proofs.Ways.{follower_shut, follower_tight, follower_asks, follower_tells, follower_done}
-use borrow.Author.Rules.{rules}
 use Rattle.ticks.proofs.follower_releases.Goals as goal
 
 pub returns-then-shape-n : goal.returns-then-shape-n

@@ -2,7 +2,6 @@ use Rattle.ticks.proofs.Telling.{log_long}
 use Prim.Native.Nat.{◌+◌}
 use native.Mathlib.Omega.{arith}
 use Rattle.ticks.proofs.Ways.{leader_empty, leader_shut, leader_tight, leader_asks, leader_log, leader_done}
-use borrow.Author.Rules.{rules}
 use Rattle.ticks.proofs.leader_releases.Goals as goal
 
 pub leader_waits-requires : goal.leader_waits-requires

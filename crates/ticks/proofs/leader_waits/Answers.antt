@@ -1,6 +1,5 @@
 use native.Mathlib.Omega.{arith}
 use Rattle.ticks.proofs.Ways.{waits_none, waits_due, waits_tight, waits_told}
-use borrow.Author.Rules.{rules}
 use Rattle.ticks.proofs.leader_waits.Goals as goal
 
 pub settle-requires : goal.settle-requires

@@ -5,7 +5,6 @@ use Rattle.handler.proofs.Closes.{handled_other}
 use Rattle.handler.proofs.OtherKind.{not_tag}
 use Rattle.releases.proofs.Way.{on_way}
 use Rattle.ticks.proofs.Tick.{too_early, led, followed}
-use borrow.Author.Rules.{rules}
 use Rattle.ticks.proofs.on_tick.Goals as goal
 
 pub returns-in_default : goal.returns-in_default

@@ -1,13 +1,11 @@
 use Prim.Native.Nat.{◌≤◌, ◌-◌}
-use mathlib.Core.Path.{◌≡◌, sym, ◌∙◌}
+use mathlib.Core.Path.{◌≡◌}
 use mathlib.Core.List.{◌++◌}
-use native.Mathlib.Omega.{arith}
 use lib.ListN.{take}
 use Rattle.rules.specs.Digest.{digest}
 use Rattle.rules.specs.Image.{state_of}
 use Rattle.rules.specs.Early.{due_of}
-use Rattle.ticks.proofs.Turns.{Appended, turn_start, sum_start, turn_asks, turn_tells, turn_next, leave_asks, turn_end, none_end}
-use borrow.Author.Rules.{rules}
+use Rattle.ticks.proofs.Turns.{Appended}
 use Rattle.ticks.proofs.release.Given as goal
 
 abbrev pub invariant-loop-i : goal.invariant-loop-i

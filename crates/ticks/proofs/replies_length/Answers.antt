@@ -3,7 +3,6 @@ use mathlib.Core.Path.{◌≡◌, ap}
 use native.Mathlib.Omega.{arith}
 use Rattle.rules.specs.Read.{length_for}
 use Rattle.ticks.proofs.Telling.{replies_small}
-use borrow.Author.Rules.{rules}
 use Rattle.ticks.proofs.replies_length.Goals as goal
 
 pub overflow_mul-result : goal.overflow_mul-result

@@ -1,6 +1,5 @@
 use Rattle.places.proofs.Sections.{midway_laid}
 use Rattle.places.proofs.Head.{put_clock, put_sync}
-use borrow.Author.Rules.{rules}
 use Rattle.ticks.proofs.settle.Goals as goal
 
 pub returns : goal.returns

@@ -3,7 +3,6 @@ use Prim.Native.Nat.{◌+◌, ◌*◌}
 use native.Mathlib.Omega.{arith}
 use Rattle.handler.proofs.Sends.{sender, own_replica}
 use Rattle.ticks.proofs.Telling.{log_room, log_told}
-use borrow.Author.Rules.{rules}
 use Rattle.ticks.proofs.tell_log.Goals as goal
 
 pub others-others-requires : goal.others-others-requires

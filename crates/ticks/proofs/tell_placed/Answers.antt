@@ -2,7 +2,6 @@ use Prim.Native.Nat.{◌+◌}
 use mathlib.Core.Path.{refl}
 use native.Mathlib.Omega.{arith}
 use Rattle.ticks.proofs.Telling.{placed_room, placed_told}
-use borrow.Author.Rules.{rules}
 use Rattle.ticks.proofs.tell_placed.Goals as goal
 
 pub log_place-from-requires : goal.log_place-from-requires

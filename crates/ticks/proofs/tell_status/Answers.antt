@@ -4,7 +4,6 @@ use native.Mathlib.Nat.{mod-lt}
 use Prim.Native.Nat.{◌%◌, ◌<◌}
 use Rattle.handler.proofs.Sends.{sender, own_group}
 use Rattle.ticks.proofs.Telling.{sized, status_room, status_told}
-use borrow.Author.Rules.{rules}
 use Rattle.ticks.proofs.tell_status.Goals as goal
 
 pub view_at-view-requires : goal.view_at-view-requires

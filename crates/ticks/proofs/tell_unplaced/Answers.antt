@@ -2,7 +2,6 @@ use Prim.Native.Nat.{◌+◌}
 use mathlib.Core.Path.{refl}
 use native.Mathlib.Omega.{arith}
 use Rattle.ticks.proofs.Telling.{unplaced_room, unplaced_told}
-use borrow.Author.Rules.{rules}
 use Rattle.ticks.proofs.tell_unplaced.Goals as goal
 
 pub early_place-from-requires : goal.early_place-from-requires

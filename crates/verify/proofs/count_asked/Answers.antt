@@ -1,11 +1,9 @@
-use Prim.Native.Nat.{◌-◌, ◌/◌, ◌≤◌}
+use Prim.Native.Nat.{◌/◌}
 use mathlib.Core.Path.{◌≡◌, refl, sym, ap, ◌∙◌}
-use mathlib.Core.Logic.{⊎_elim}
 use native.Mathlib.Omega.{arith}
 use lib.ListN.{length}
 use Rattle.verify.specs.Asked.{asked_to}
 use Rattle.verify.proofs.Asked.{counted_none, counted_more, counted_same}
-use borrow.Author.Rules.{rules}
 use Rattle.verify.proofs.count_asked.Goals as goal
 use Rattle.verify.proofs.count_asked.Goals.{else-is_asked, then-is_asked}
 

@@ -1,11 +1,7 @@
 use Prim.Native.Nat.{◌-◌, ◌/◌, ◌≤◌}
-use mathlib.Core.Path.{◌≡◌, refl, sym, ap, ◌∙◌}
-use mathlib.Core.Logic.{⊎_elim}
-use native.Mathlib.Omega.{arith}
+use mathlib.Core.Path.{◌≡◌}
 use lib.ListN.{length}
 use Rattle.verify.specs.Asked.{asked_to}
-use Rattle.verify.proofs.Asked.{counted_none, counted_more, counted_same}
-use borrow.Author.Rules.{rules}
 use Rattle.verify.proofs.count_asked.Given as goal
 
 abbrev pub invariant-loop-i : goal.invariant-loop-i

@@ -1,8 +1,7 @@
-use Prim.Native.Nat.{◌+◌, ◌-◌, ◌/◌, ◌≤◌}
-use mathlib.Core.Path.{◌≡◌, refl, sym, ◌∙◌}
-use mathlib.Core.Logic.{⊎_elim}
+use Prim.Native.Nat.{◌+◌, ◌≤◌}
+use mathlib.Core.Path.{refl, sym, ◌∙◌}
 use lib.ListN.{length}
-use Rattle.verify.proofs.Asked.{Gathered, gathered_none, gathered_all, gathered_skip, gathered_room, gathered_next}
+use Rattle.verify.proofs.Asked.{gathered_none, gathered_all, gathered_skip, gathered_room, gathered_next}
 use borrow.Author.Rules.{rules}
 use Rattle.verify.proofs.gather.Goals as goal
 use Rattle.verify.proofs.gather.Goals.{else-is_asked, then-is_asked}

@@ -1,9 +1,7 @@
-use Prim.Native.Nat.{◌+◌, ◌-◌, ◌/◌, ◌≤◌}
-use mathlib.Core.Path.{◌≡◌, refl, sym, ◌∙◌}
-use mathlib.Core.Logic.{⊎_elim}
+use Prim.Native.Nat.{◌-◌, ◌/◌}
+use mathlib.Core.Path.{◌≡◌}
 use lib.ListN.{length}
-use Rattle.verify.proofs.Asked.{Gathered, gathered_none, gathered_all, gathered_skip, gathered_room, gathered_next}
-use borrow.Author.Rules.{rules}
+use Rattle.verify.proofs.Asked.{Gathered}
 use Rattle.verify.proofs.gather.Given as goal
 
 abbrev pub invariant-loop-i : goal.invariant-loop-i

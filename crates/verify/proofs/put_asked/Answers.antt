@@ -4,7 +4,6 @@ use native.Mathlib.Omega.{arith}
 use Rattle.octets.proofs.Laws.{bytes_known}
 use Rattle.verify.specs.Asked.{asked_in}
 use Rattle.verify.proofs.Asked.{asked_small, asked_fit, lent, in_order}
-use borrow.Author.Rules.{rules}
 use Rattle.verify.proofs.put_asked.Goals as goal
 
 pub overflow_cast-count : goal.overflow_cast-count

@@ -3,7 +3,6 @@ use borrow.Author.Tests.{eq-eqb, ne_eqb}
 use Rattle.rules.proofs.Choice.{pick_true, pick_false}
 use Rattle.verify.specs.Asked.{used_in}
 use Rattle.verify.proofs.Asked.{used_lent}
-use borrow.Author.Rules.{rules}
 use Rattle.verify.proofs.source.Goals as goal
 
 pub returns-then-status-eq-CROSS_SHARD : goal.returns-then-status-eq-CROSS_SHARD

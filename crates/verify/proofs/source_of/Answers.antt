@@ -1,6 +1,5 @@
 use Rattle.places.proofs.Sections.{stands_midway}
 use Rattle.verify.proofs.Asked.{used_within, source_lent}
-use borrow.Author.Rules.{rules}
 use Rattle.verify.proofs.source_of.Goals as goal
 
 pub draft-draft-requires : goal.draft-draft-requires

@@ -4,7 +4,6 @@ use Rattle.octets.proofs.Laws.{bytes_known}
 use Rattle.rules.specs.Group.{only}
 use Rattle.handler.specs.Sending.{headed_in}
 use Rattle.verify.proofs.Ways.{none_ends}
-use borrow.Author.Rules.{rules}
 use Rattle.verify.proofs.tell_none.Goals as goal
 
 pub tell-requires : goal.tell-requires

@@ -4,7 +4,6 @@ use Rattle.octets.proofs.Laws.{bytes_known}
 use Rattle.places.proofs.Sections.{stands_midway}
 use Rattle.places.proofs.Spots.{zeroed}
 use Rattle.views.proofs.Begun.{heard_room, begun_room, begun_spare, begun}
-use borrow.Author.Rules.{rules}
 use Rattle.views.proofs.begin.Goals as goal
 
 pub empty_tables-requires : goal.empty_tables-requires

@@ -1,5 +1,4 @@
 use Rattle.views.proofs.Begun.{begun_in_lem}
-use borrow.Author.Rules.{rules}
 use Rattle.views.proofs.begin_head.Goals as goal
 
 pub returns : goal.returns

@@ -1,5 +1,4 @@
 use Rattle.views.proofs.Kept.{vote_begun}
-use borrow.Author.Rules.{rules}
 use Rattle.views.proofs.begin_vote.Goals as goal
 
 pub returns : goal.returns

@@ -1,6 +1,5 @@
 use native.Mathlib.Omega.{arith}
 use Rattle.views.proofs.Cleared.{place_unset, place_table, place_cleared}
-use borrow.Author.Rules.{rules}
 use Rattle.views.proofs.clear_place.Goals as goal
 
 pub get8-requires : goal.get8-requires

@@ -1,8 +1,6 @@
-use Prim.Native.Nat.{◌+◌, ◌-◌, ◌*◌, ◌≤◌}
-use mathlib.Core.Path.{◌≡◌, refl}
+use Prim.Native.Nat.{◌+◌, ◌*◌}
+use mathlib.Core.Path.{refl}
 use native.Mathlib.Omega.{arith}
-use lib.ListN.{length, replicate}
-use Rattle.octets.specs.Bytes.{splice}
 use Rattle.places.proofs.Rows.{within}
 use Rattle.views.proofs.Cleared.{none_cleared, kept_still, places_turn, places_done}
 use borrow.Author.Rules.{rules}

@@ -1,11 +1,7 @@
-use Prim.Native.Nat.{◌+◌, ◌-◌, ◌*◌, ◌≤◌}
-use mathlib.Core.Path.{◌≡◌, refl}
-use native.Mathlib.Omega.{arith}
+use Prim.Native.Nat.{◌-◌, ◌*◌, ◌≤◌}
+use mathlib.Core.Path.{◌≡◌}
 use lib.ListN.{length, replicate}
 use Rattle.octets.specs.Bytes.{splice}
-use Rattle.places.proofs.Rows.{within}
-use Rattle.views.proofs.Cleared.{none_cleared, kept_still, places_turn, places_done}
-use borrow.Author.Rules.{rules}
 use Rattle.views.proofs.clear_places.Given as goal
 
 abbrev pub invariant-loop-i : goal.invariant-loop-i

@@ -1,6 +1,5 @@
 use native.Mathlib.Omega.{arith}
 use Rattle.views.proofs.Cleared.{rows_within, rows_cleared}
-use borrow.Author.Rules.{rules}
 use Rattle.views.proofs.clear_rows.Goals as goal
 
 pub overflow_mul-size : goal.overflow_mul-size

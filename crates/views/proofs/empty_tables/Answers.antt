@@ -1,6 +1,4 @@
-use Rattle.places.proofs.Sections.{midway_sized}
 use Rattle.views.proofs.Emptied.{early_ready, late_ready, notes_ready, votes_ready, draft_ready, replies_ready, all_zero}
-use borrow.Author.Rules.{rules}
 use Rattle.views.proofs.empty_tables.Goals as goal
 
 pub clear_rows-requires : goal.clear_rows-requires

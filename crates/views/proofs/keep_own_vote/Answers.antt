@@ -1,6 +1,5 @@
 use native.Mathlib.Omega.{arith}
 use Rattle.views.proofs.Kept.{own_room, own_kept}
-use borrow.Author.Rules.{rules}
 use Rattle.views.proofs.keep_own_vote.Goals as goal
 
 pub overflow_mul-count : goal.overflow_mul-count

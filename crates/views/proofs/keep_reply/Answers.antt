@@ -3,7 +3,6 @@ use native.Mathlib.Omega.{arith}
 use lib.ListN.{length}
 use Rattle.octets.proofs.Laws.{length_le}
 use Rattle.views.proofs.Kept.{table_behind, reply_kept}
-use borrow.Author.Rules.{rules}
 use Rattle.views.proofs.keep_reply.Goals as goal
 
 pub renew_table-requires : goal.renew_table-requires

@@ -2,7 +2,6 @@ use Prim.Native.Nat.{◌+◌, ◌≤◌}
 use native.Mathlib.Omega.{arith}
 use lib.ListN.{length}
 use Rattle.views.proofs.Kept.{begun_long, table_behind, vote_kept}
-use borrow.Author.Rules.{rules}
 use Rattle.views.proofs.keep_vote.Goals as goal
 
 pub renew_table-requires : goal.renew_table-requires

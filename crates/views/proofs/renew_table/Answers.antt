@@ -1,7 +1,6 @@
 use Prim.Native.Nat.{◌+◌, ◌-◌, ◌*◌}
 use native.Mathlib.Omega.{arith}
 use Rattle.views.proofs.Cleared.{rows_within, renewed, renewed_shorter}
-use borrow.Author.Rules.{rules}
 use Rattle.views.proofs.renew_table.Goals as goal
 
 pub overflow_mul-number : goal.overflow_mul-number

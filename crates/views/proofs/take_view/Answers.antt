@@ -1,5 +1,4 @@
 use Rattle.views.proofs.Taken.{taken_in_lem}
-use borrow.Author.Rules.{rules}
 use Rattle.views.proofs.take_view.Goals as goal
 
 pub returns : goal.returns

@@ -2,7 +2,6 @@ use Prim.Native.Nat.{ℕ, ◌-◌}
 use mathlib.Core.Path.{ap}
 use native.Mathlib.Omega.{arith}
 use Rattle.group.proofs.Masks.{positive, shifted}
-use borrow.Author.Rules.{rules}
 use Rattle.votes.proofs.all_groups.Goals as goal
 
 pub overflow_sub-result : goal.overflow_sub-result

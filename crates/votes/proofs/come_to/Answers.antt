@@ -1,5 +1,4 @@
 use Rattle.votes.proofs.Came.{stays, enters}
-use borrow.Author.Rules.{rules}
 use Rattle.votes.proofs.come_to.Goals as goal
 
 pub returns-then-not-entering : goal.returns-then-not-entering

@@ -1,8 +1,6 @@
 use Prim.Native.Nat.{◌^◌, ◌<◌}
-use native.Mathlib.Omega.{arith}
 use Rattle.octets.proofs.Laws.{bytes_known}
 use Rattle.votes.proofs.ConcludeWays.{conclude_long, conclude_table, conclude_one, conclude_more}
-use borrow.Author.Rules.{rules}
 use Rattle.votes.proofs.conclude.Goals as goal
 
 pub returns-in_default : goal.returns-in_default

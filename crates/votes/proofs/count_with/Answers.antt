@@ -1,6 +1,5 @@
 use native.Mathlib.Omega.{arith}
 use Rattle.votes.proofs.Counted.{count_entering, count_small, count_kept}
-use borrow.Author.Rules.{rules}
 use Rattle.votes.proofs.count_with.Goals as goal
 
 pub returns-then-cast : goal.returns-then-cast

@@ -1,5 +1,4 @@
 use Rattle.votes.proofs.Counted.{second_kept}
-use borrow.Author.Rules.{rules}
 use Rattle.votes.proofs.is_second.Goals as goal
 
 pub returns : goal.returns

@@ -1,6 +1,5 @@
 use Prim.Native.Nat.{◌^◌, ◌<◌}
 use mathlib.Core.Path.{refl}
-use native.Mathlib.Omega.{arith}
 use Rattle.octets.proofs.Laws.{bytes_known}
 use Rattle.votes.proofs.Came.{vote_place, kept}
 use borrow.Author.Rules.{rules}

@@ -5,7 +5,6 @@ use Rattle.rules.specs.Step.{on_vote}
 use Rattle.handler.proofs.Closes.{handled_other}
 use Rattle.handler.proofs.OtherKind.{not_tag}
 use Rattle.votes.proofs.VoteWays.{vote_counted, vote_sender, vote_second, vote_past, vote_kept, vote_few, vote_enough}
-use borrow.Author.Rules.{rules}
 use Rattle.votes.proofs.on_vote.Goals as goal
 
 pub returns-in_default : goal.returns-in_default

@@ -1,6 +1,5 @@
 use native.Mathlib.Omega.{arith}
 use Rattle.votes.proofs.Came.{draft_taken}
-use borrow.Author.Rules.{rules}
 use Rattle.votes.proofs.take_draft.Goals as goal
 
 pub renew_table-requires : goal.renew_table-requires

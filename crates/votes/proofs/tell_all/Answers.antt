@@ -1,6 +1,5 @@
 use mathlib.Core.Path.{refl}
 use Rattle.handler.proofs.Leaders.{asks_verify}
-use borrow.Author.Rules.{rules}
 use Rattle.votes.proofs.tell_all.Goals as goal
 
 pub tell_leaders-requires : goal.tell_leaders-requires
