@@ -24,7 +24,7 @@ use Rattle.rules.proofs.Run as M
 use Rattle.rules.proofs.RunFirst as F
 use Rattle.rules.proofs.RunViews as W
 use Rattle.runs.specs.Run.{Turn, Begins, at, after, Valid, Counted, RebuiltFirst, Serving, log_then, commit_then, OneVec}
-use Rattle.runs.proofs.Follow.{taken, taken_by, taken_in, heard, follow, step_at_read}
+use Rattle.runs.proofs.Follow.{taken_by, taken_in, heard, follow, step_at_read}
 use Rattle.runs.proofs.Safe.{begins, odd, site, then_valid, then_heard, counted_at}
 
 -- two tests cannot answer both

@@ -1,6 +1,5 @@
 use mathlib.Core.Path.{sym, ap, ◌∙◌}
 use Rattle.replica.specs.Face.{code_of}
-use borrow.Author.Rules.{rules}
 use Rattle.replica.proofs.code.Goals as goal
 
 pub returns-in-Done : goal.returns-in-Done

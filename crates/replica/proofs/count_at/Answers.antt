@@ -1,5 +1,4 @@
 use native.Mathlib.Omega.{arith}
-use borrow.Author.Rules.{rules}
 use Rattle.replica.proofs.count_at.Goals as goal
 
 pub returns-then-s-gt8 : goal.returns-then-s-gt8

@@ -1,7 +1,5 @@
-use Rattle.rules.specs.Choice.{pick}
 use Rattle.rules.specs.Read.{first_wrong}
 use Rattle.replica.specs.Face.{head_fits}
-use borrow.Author.Rules.{rules}
 use Rattle.replica.proofs.head_fits.Goals as goal
 
 pub returns : goal.returns

@@ -1,6 +1,4 @@
-use mathlib.Core.Path.{sym}
 use Rattle.replica.proofs.Face.{none_known}
-use borrow.Author.Rules.{rules}
 use Rattle.replica.proofs.is_known.Goals as goal
 
 pub returns-then-kind-gt255 : goal.returns-then-kind-gt255

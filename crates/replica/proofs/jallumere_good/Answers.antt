@@ -1,6 +1,5 @@
 use Rattle.replica.proofs.Face.{good_zero, good_one}
 use mathlib.Core.Path.{refl}
-use borrow.Author.Rules.{rules}
 use Rattle.replica.proofs.jallumere_good.Goals as goal
 
 pub returns-then-good : goal.returns-then-good

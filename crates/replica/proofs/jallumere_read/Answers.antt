@@ -2,7 +2,6 @@ use mathlib.Core.Path.{ap₂, ◌∙◌}
 use mathlib.Core.Path as path
 use Rattle.rules.specs.Wire.{answer_of, offset_in}
 use Rattle.replica.specs.Face.{coded}
-use borrow.Author.Rules.{rules}
 use Rattle.replica.proofs.jallumere_read.Goals as goal
 
 pub returns : goal.returns

@@ -1,5 +1,4 @@
 use Rattle.replica.proofs.Face.{gives}
-use borrow.Author.Rules.{rules}
 use Rattle.replica.proofs.jallumere_start.Goals as goal
 
 pub returns : goal.returns

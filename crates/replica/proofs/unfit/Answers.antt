@@ -1,6 +1,5 @@
 use mathlib.Core.Path.{sym, ◌∙◌}
 use Rattle.rules.specs.Choice.{pick}
-use borrow.Author.Rules.{rules}
 use Rattle.replica.proofs.unfit.Goals as goal
 
 pub returns-then-sizes_fit : goal.returns-then-sizes_fit
