@@ -102,7 +102,7 @@ pub fn run(rt: &impl Print, text: &[u8], memory: &mut [u8], out: &mut [u8]) -> i
 }
 
 // Every topic, on one memory.
-fn check(rt: &impl Print, memory: &mut [u8], out: &mut [u8]) -> io::Result<u64> {
+fn check(rt: &impl Print, memory: &mut [u8; 2187587], out: &mut [u8; 2080]) -> io::Result<u64> {
     let mut failed = starts::check(rt, memory, out)?;
     failed = scripts::more(failed, conjuncts::check(rt, memory, out)?);
     failed = scripts::more(failed, forms::check(rt, memory, out)?);
@@ -110,10 +110,10 @@ fn check(rt: &impl Print, memory: &mut [u8], out: &mut [u8]) -> io::Result<u64> 
     Ok(scripts::more(failed, questions::check(rt, memory, out)?))
 }
 
-// The memory has one byte more than the greatest state. It is long, so it lies on the heap.
+// The memory has one byte more than the greatest state. It is made here alone, since it is long.
 fn main(rt: HostRuntime) -> io::Result<()> {
-    let mut memory = vec![in rt.alloc(); 0u8; 2187587]?;
+    let mut memory = [0u8; 2187587];
     let mut out = [255u8; 2080];
-    let failed = check(&rt, memory.as_mut_slice(), &mut out)?;
+    let failed = check(&rt, &mut memory, &mut out)?;
     scripts::total(&rt, failed)
 }

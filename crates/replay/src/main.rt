@@ -14,32 +14,33 @@ mod readings;
 mod records;
 mod table;
 
+use std::fs::File;
+use std::io;
 use std::rt::Files;
-use std::{fs, io};
 
 // All records of a file.
-fn replay<R: Files + Alloc + Print>(
+fn replay<R: Files + Print>(
     rt: &R,
     name: &str,
     state: &mut [u8],
     counts: &mut [u64],
 ) -> io::Result<records::Run> {
-    let bytes = fs::read(rt, name)?;
-    records::replay(rt, bytes.as_slice(), state, counts)
+    let mut file = File::open(rt, name)?;
+    records::replay(rt, &mut file, state, counts)
 }
 
 // The greatest state here is that of n = 7, S = 8, C = 64. A file that cannot be read ends the program with an error.
 fn main(rt: HostRuntime) -> io::Result<()> {
-    let mut state = vec![in rt.alloc(); 0u8; 36000]?;
+    let mut state = [0u8; 36000];
     let mut counts = [0u64; 275];
-    let run = replay(&rt, "l08.bin", state.as_mut_slice(), &mut counts)?;
+    let run = replay(&rt, "l08.bin", &mut state, &mut counts)?;
     let starts = run.starts;
     println!(rt; "starts: {starts}")?;
     table::print(&rt, &counts)?;
     let steps = run.steps;
     let differences = run.differences;
     println!(rt; "{steps} steps, {differences} differences")?;
-    let read = replay(&rt, "l07.bin", state.as_mut_slice(), &mut counts)?;
+    let read = replay(&rt, "l07.bin", &mut state, &mut counts)?;
     let readings = read.readings;
     let differences = read.differences;
     println!(rt; "{readings} readings, {differences} differences")

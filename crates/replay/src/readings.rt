@@ -2,9 +2,10 @@
 // step on a fresh state refuse what is malformed, at 0 where it is of kind 5 or 6.
 use crate::line;
 use crate::line::Form;
-use crate::records::{Run, broken, next, number_of, offset_of, with_difference};
+use crate::records::{Run, broken, number_of, offset_of, read_first, with_difference};
 use rules::{Shape, kind, refusal};
 use std::io;
+use std::io::Read;
 
 // The capacity of the fresh states.
 const CAPACITY: u64 = 16;
@@ -108,21 +109,29 @@ fn read_on(
 }
 
 // A record of a reading.
-pub fn record(rt: &impl Print, left: &mut &[u8], run: Run, state: &mut [u8]) -> io::Result<Run> {
-    let Some(sizes) = next(left, 6) else {
+pub fn record(
+    rt: &impl Print,
+    file: &mut impl Read,
+    run: Run,
+    state: &mut [u8],
+) -> io::Result<Run> {
+    let mut sizes = [0u8; 6];
+    let mut message = [0u8; 320];
+    let mut want = [0u8; 5];
+    if !read_first(file, &mut sizes, 6)? {
         return broken(rt, run, "cut short");
-    };
-    let n = octets::look8(sizes, 0) as u64;
-    let s = octets::look8(sizes, 1) as u64;
-    let size = octets::look32(sizes, 2) as usize;
+    }
+    let n = octets::look8(&sizes, 0) as u64;
+    let s = octets::look8(&sizes, 1) as u64;
+    let size = octets::look32(&sizes, 2) as usize;
     if 320 < size {
         return broken(rt, run, "no room for the message");
     }
-    let Some(message) = next(left, size) else {
+    if !read_first(file, &mut message, size)? {
         return broken(rt, run, "cut short");
-    };
-    let Some(want) = next(left, 5) else {
+    }
+    if !read_first(file, &mut want, 5)? {
         return broken(rt, run, "cut short");
-    };
-    read_on(rt, run, n, s, state, message, want)
+    }
+    read_on(rt, run, n, s, state, &message[0..size], &want)
 }

@@ -3,6 +3,7 @@ use crate::line::Form;
 use crate::{line, readings, table};
 use rules::{Answer, Shape};
 use std::io;
+use std::io::{ErrorKind, Read};
 
 // How far it went: the sizes and the state's length since the last start, and how many there were; `over` at the file's end.
 #[derive(Clone, Copy)]
@@ -71,11 +72,16 @@ fn length_of(answer: Answer) -> usize {
     }
 }
 
-// The next `length` bytes of what is left of a file, none where there are fewer.
-pub fn next<'a>(left: &mut &'a [u8], length: usize) -> Option<&'a [u8]> {
-    let (front, rest) = left.split_at_checked(length)?;
-    *left = rest;
-    Some(front)
+// Fills the first `length` bytes, and answers whether there were as many.
+pub fn read_first(file: &mut impl Read, buffer: &mut [u8], length: usize) -> io::Result<bool> {
+    if buffer.len() < length {
+        return Ok(false);
+    }
+    match file.read_exact(&mut buffer[0..length]) {
+        Ok(()) => Ok(true),
+        Err(error) if error.kind() == ErrorKind::UnexpectedEof => Ok(false),
+        Err(error) => Err(error),
+    }
 }
 
 // The digest of the first `length` bytes, 0 where there are fewer.
@@ -117,15 +123,21 @@ fn start_on(
 }
 
 // A record of a start.
-fn start_record(rt: &impl Print, left: &mut &[u8], run: Run, state: &mut [u8]) -> io::Result<Run> {
-    let Some(sizes) = next(left, 6) else {
+fn start_record(
+    rt: &impl Print,
+    file: &mut impl Read,
+    run: Run,
+    state: &mut [u8],
+) -> io::Result<Run> {
+    let mut sizes = [0u8; 6];
+    if !read_first(file, &mut sizes, 6)? {
         return broken(rt, run, "cut short");
-    };
-    let n = octets::look8(sizes, 0) as u64;
-    let s = octets::look8(sizes, 1) as u64;
-    let c = octets::look16(sizes, 2) as u64;
-    let group = octets::look8(sizes, 4) as u64;
-    let replica = octets::look8(sizes, 5) as u64;
+    }
+    let n = octets::look8(&sizes, 0) as u64;
+    let s = octets::look8(&sizes, 1) as u64;
+    let c = octets::look16(&sizes, 2) as u64;
+    let group = octets::look8(&sizes, 4) as u64;
+    let replica = octets::look8(&sizes, 5) as u64;
     start_on(rt, run, Shape { n, s, c }, group, replica, state)
 }
 
@@ -227,61 +239,64 @@ fn step_in(
 // A record of a step.
 fn step_record(
     rt: &impl Print,
-    left: &mut &[u8],
+    file: &mut impl Read,
     run: Run,
     state: &mut [u8],
     counts: &mut [u64],
 ) -> io::Result<Run> {
-    let Some(sizes) = next(left, 8) else {
+    let mut sizes = [0u8; 8];
+    let mut message = [0u8; 1800];
+    let mut want = [0u8; 25];
+    if !read_first(file, &mut sizes, 8)? {
         return broken(rt, run, "cut short");
-    };
-    let room = octets::look32(sizes, 0) as usize;
-    let size = octets::look32(sizes, 4) as usize;
+    }
+    let room = octets::look32(&sizes, 0) as usize;
+    let size = octets::look32(&sizes, 4) as usize;
     if 1800 < size {
         return broken(rt, run, "no room for the message");
     }
-    let Some(message) = next(left, size) else {
+    if !read_first(file, &mut message, size)? {
         return broken(rt, run, "cut short");
-    };
-    let Some(want) = next(left, 25) else {
+    }
+    if !read_first(file, &mut want, 25)? {
         return broken(rt, run, "cut short");
-    };
-    step_in(rt, run, state, message, room, want, counts)
+    }
+    step_in(rt, run, state, &message[0..size], room, &want, counts)
 }
 
 // The next record, or the file's end.
 fn record(
     rt: &impl Print,
-    left: &mut &[u8],
+    file: &mut impl Read,
     mut run: Run,
     state: &mut [u8],
     counts: &mut [u64],
 ) -> io::Result<Run> {
-    let Some(tag) = next(left, 1) else {
+    let mut tag = [0u8; 1];
+    if !read_first(file, &mut tag, 1)? {
         run.over = true;
         return Ok(run);
-    };
+    }
     run.records = line::one_more(run.records);
-    match octets::look8(tag, 0) {
-        1 => start_record(rt, left, run, state),
-        2 => step_record(rt, left, run, state, counts),
-        5 => readings::record(rt, left, run, state),
+    match octets::look8(&tag, 0) {
+        1 => start_record(rt, file, run, state),
+        2 => step_record(rt, file, run, state, counts),
+        5 => readings::record(rt, file, run, state),
         _ => broken(rt, run, "neither a start, a step nor a reading"),
     }
 }
 
-// All records of a file's bytes, at most a million.
+// All records, at most a million: nothing says that a file ends.
 pub fn replay(
     rt: &impl Print,
-    bytes: &[u8],
+    file: &mut impl Read,
     state: &mut [u8],
     counts: &mut [u64],
 ) -> io::Result<Run> {
-    let mut left = bytes;
     let mut run = fresh();
     let mut turns: u64 = 0;
     while turns < 1000000 {
-        run = record(rt, &mut left, run, state, counts)?;
+        run = record(rt, file, run, state, counts)?;
         if run.over {
             return Ok(run);
         }
