@@ -1,6 +1,6 @@
 -- What the cells of a kind's row say: which kinds have gVec, and what the mask of statuses asks. Assumes nothing.
 use Prim.Native.Nat.{ℕ, ◌≤◌}
-use mathlib.Core.Path.{◌≡◌, refl, sym, ap, ◌∙◌}
+use mathlib.Core.Path.{◌≡◌, refl, sym, ap}
 use mathlib.Core.Bool.{Bool, true, false, ◌||◌, not, true≢false}
 use mathlib.Core.Logic.{◌⊎◌, inl, inr}
 use native.Mathlib.Omega.{arith}
@@ -11,7 +11,7 @@ use Rattle.rules.specs.Wire.{Wire}
 use Rattle.rules.specs.Kind.{Kind, Statuses, any_status, one_of, if_equal, row_of, bare, from_outside, is_one_of}
 use Rattle.rules.specs.State.{State}
 use Rattle.rules.specs.Step.{newer, status_fits}
-use Rattle.rules.specs.declared.Sender.TheVariants.{Outsider, OwnLeader, OtherLeader}
+use Rattle.rules.specs.declared.Sender.TheVariants.{Outsider}
 use Rattle.rules.specs.declared.Receiver.TheVariants.{ALeader, AFollower, Anyone}
 use Rattle.rules.specs.declared.Views.TheVariants.{AnyView, GreaterOrEqual, BothEqual}
 use Rattle.rules.proofs.Tests.{◌also◌}
@@ -62,12 +62,6 @@ module _ (k : ℕ) (r : Row) (e : r ≡ row_as k) where
 
   pub follower_viewed : r.receiver ≡ AFollower → bare k ≡ false
   follower_viewed d = one_way (viewed k) (λ c. let z : ◌≡◌ {A = ℕ} 0 1 = cc (receiver_cell k r e) in omega arith)
-
-  pub leader_inside : r.sender ≡ OwnLeader → from_outside k ≡ false
-  leader_inside d = rw (sym (sender_cell k r e) ∙ d)
-
-  pub other_inside : r.sender ≡ OtherLeader → from_outside k ≡ false
-  other_inside d = rw (sym (sender_cell k r e) ∙ d)
 
 -- ---- the statuses
 

@@ -3,3 +3,4 @@ pub mod Cells
 pub mod Ways
 pub mod Refuses
 pub mod Steps
+pub mod Admission

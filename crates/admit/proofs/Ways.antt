@@ -1,7 +1,7 @@
 -- Why each test of a message at a state's bytes is that of the rules. Assumes nothing.
-use Prim.Native.Nat.{ℕ, suc, ◌+◌, ◌*◌, ◌%◌, ◌≤◌, ◌<◌}
+use Prim.Native.Nat.{ℕ, zero, suc, ◌+◌, ◌-◌, ◌*◌, ◌%◌, ◌≤◌, ◌<◌}
 use mathlib.Core.Path.{◌≡◌, refl, sym, ap, ◌∙◌}
-use mathlib.Core.Bool.{Bool, true, false, ◌&&◌, ◌||◌, not, and-true}
+use mathlib.Core.Bool.{Bool, true, false, ◌&&◌, ◌||◌, not, and-true, and-false}
 use mathlib.Core.List.{List, [], ◌∷◌}
 use native.Mathlib.Omega.{arith}
 use lib.ListN.{get_or}
@@ -26,12 +26,11 @@ use Rattle.handler.proofs.Own.{own_below}
 use Rattle.rules.proofs.Tests.{same_append}
 use Rattle.kinds.specs.Rows.{row_as}
 use Rattle.kinds.specs.declared.Row.{Row}
-use Rattle.rules.specs.declared.Sender.TheVariants.{Outsider, OwnLeader, OwnReplica, OtherLeader, AnyReplica}
-use Rattle.rules.specs.declared.Receiver.TheVariants.{ALeader, AFollower, Anyone, Outsiders}
+use Rattle.rules.specs.declared.Sender.TheVariants.{OwnLeader, OwnReplica, OtherLeader}
 use Rattle.rules.specs.declared.Views.TheVariants.{AnyView, Greater, GreaterOrEqual, BothEqual}
 use Rattle.rules.proofs.Conjuncts.{good_is}
 use Rattle.admit.specs.Refusal.{Heads}
-use Rattle.admit.proofs.Cells.{views_cell, receiver_cell, sender_cell, asked, mask_asks, fits_if_equal, fits_always, not_bare}
+use Rattle.admit.proofs.Cells.{views_cell, sender_cell, asked, mask_asks, fits_if_equal, fits_always, not_bare}
 
 -- ---- the views in a row
 
@@ -44,12 +43,25 @@ views_more f g o p j =
     same_append (items f 4 o j) (items g 4 p j) (f (o + 4 * j) ∷ []) (g (p + 4 * j) ∷ []) (length_items f 4 o j ∙ sym (length_items g 4 p j))
     ∙ ap (λ (z : Bool). same (items f 4 o j) (items g 4 p j) && z) (and-true (eqb (f (o + 4 * j)) (g (p + 4 * j))))
 
-pub views_next : (f g : ℕ → ℕ) (o p j : ℕ) (x y : Bool) → x ≡ same (items f 4 o j) (items g 4 p j) → y ≡ eqb (f (o + 4 * j)) (g (p + 4 * j)) → (x && y) ≡ same (items f 4 o (j + 1)) (items g 4 p (j + 1))
-views_next f g o p j x y e d = rw (e, d, one_more j) (sym (views_more f g o p j))
+-- two that differ somewhere differ at the end
+views_stay : (f g : ℕ → ℕ) (o p j k : ℕ) → same (items f 4 o j) (items g 4 p j) ≡ false → same (items f 4 o (j + k)) (items g 4 p (j + k)) ≡ false
+views_stay f g o p j zero h = let e : j + 0 ≡ j = omega arith in rw e h
+views_stay f g o p j (suc k) h = let e : j + suc k ≡ suc (j + k) = omega arith in rw (e, views_more f g o p (j + k), views_stay f g o p j k h)
 
-pub views_none : (f g : ℕ → ℕ) (o p : ℕ) → true ≡ same (items f 4 o 0) (items g 4 p 0)
+views_apart : (f g : ℕ → ℕ) (o p j n : ℕ) → eqb (f (o + 4 * j)) (g (p + 4 * j)) ≡ false → j < n → same (items f 4 o n) (items g 4 p n) ≡ false
+views_apart f g o p j n h l =
+    let e : n ≡ suc j + (n - suc j) = omega arith in
+    rw e (views_stay f g o p (suc j) (n - suc j) (rw (views_more f g o p j, h) (and-false (same (items f 4 o j) (items g 4 p j)))))
+
+-- those that agree everywhere are the same
+views_agree : (f g : ℕ → ℕ) (o p n : ℕ) → ((j : ℕ) → j < n → eqb (f (o + 4 * j)) (g (p + 4 * j)) ≡ true) → same (items f 4 o n) (items g 4 p n) ≡ true
 unfolding items same
-views_none f g o p = refl
+views_agree f g o p zero h = refl
+views_agree f g o p (suc n) h = rw (views_more f g o p n, views_agree f g o p n (λ j l. h j (omega arith)), h n (omega arith))
+
+pub views_by : (f g : ℕ → ℕ) (o p n : ℕ) (x : Bool) → (x ≡ true → (j : ℕ) → j < n → eqb (f (o + 4 * j)) (g (p + 4 * j)) ≡ true) → (x ≡ false → (j : ℕ) × (j < n) × (eqb (f (o + 4 * j)) (g (p + 4 * j)) ≡ false)) → x ≡ same (items f 4 o n) (items g 4 p n)
+views_by f g o p n true h k = sym (views_agree f g o p n (h refl))
+views_by f g o p n false h k = let w = k refl in sym (views_apart f g o p w.0 n w.2 w.1)
 
 pub views_in : {sh : Shape} {b : List ℕ} → Stands sh (state_of sh b) b → items (λ a. num b a 4) 4 48 sh.s ≡ (state_of sh b).view.g_vec
 views_in {sh} {b} s =
@@ -140,24 +152,6 @@ module _ {sh : Shape} {b msg : List ℕ} {k : ℕ} {h : Header} (s : Stands sh (
       y ∙ rw (a, c, view_in h.from_group (not_bare k o) (q.sender o).0)
 
   module _ (r : Row) (e : r ≡ row_as k) where
-    pub to_leader : (x : Bool) → r.receiver ≡ ALeader → x ≡ leads_by sh st w → x ≡ receiver_fits (row_of k).receiver sh st w
-    to_leader x d y = rw (sym (receiver_cell k r e) ∙ d, y)
-
-    pub to_follower : (x : Bool) → r.receiver ≡ AFollower → x ≡ leads_by sh st w → not x ≡ receiver_fits (row_of k).receiver sh st w
-    to_follower x d y = rw (sym (receiver_cell k r e) ∙ d, y)
-
-    pub to_anyone : r.receiver ≡ Anyone → true ≡ receiver_fits (row_of k).receiver sh st w
-    to_anyone d = rw (sym (receiver_cell k r e) ∙ d)
-
-    pub to_outsiders : r.receiver ≡ Outsiders → true ≡ receiver_fits (row_of k).receiver sh st w
-    to_outsiders d = rw (sym (receiver_cell k r e) ∙ d)
-
-    pub by_outsider : r.sender ≡ Outsider → true ≡ sender_fits (row_of k).sender sh st w
-    by_outsider d = rw (sym (sender_cell k r e) ∙ d)
-
-    pub by_any : r.sender ≡ AnyReplica → true ≡ sender_fits (row_of k).sender sh st w
-    by_any d = rw (sym (sender_cell k r e) ∙ d)
-
     module _ (g : ℕ) (eg : g ≡ num b 0 1) where
       pub by_leader : (z : Bool) → r.sender ≡ OwnLeader → z ≡ from_leader sh w → (eqb h.from_group g && z) ≡ sender_fits (row_of k).sender sh st w
       by_leader z d y = rw (sym (sender_cell k r e) ∙ d, inside_is g eg, y)

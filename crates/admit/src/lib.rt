@@ -11,21 +11,12 @@ ghost use Rattle.rules.specs.Read.{wire_in, decoded};
 ghost use Rattle.rules.specs.Image.{state_of, at_gvec};
 ghost use Rattle.rules.specs.Step.{newer, equal, here, view_right, status_right, leads_by, from_leader, receiver_fits, sender_fits, role_right};
 ghost use Rattle.places.specs.Layout.{Stands, start_of};
-ghost use Rattle.admit.specs.Refusal.{refusal_of, Heads};
+ghost use Rattle.admit.specs.Refusal.{admission, standing, told, Comes};
 
-use rules::{Header, Message, Receiver, Sender, Shape, Views};
+use rules::{Header, Message, Receiver, Refusal, Sender, Shape, Views};
 
 // The kind of what is no message.
 const NO_KIND: u8 = 0;
-
-// Whether a message is addressed to this site.
-fn is_here(shape: Shape, state: &[u8], kind: u8, h: Header, message: &[u8]) -> bool
-    requires { Stands shape (state_of shape state.now) state.now × Heads shape kind h message.now }
-    ensures { result ≡ here (state_of shape state.now) (wire_in shape.s message.now) }
-{
-    let own = h.to_group as u64 == places::get_group(state);
-    own & group::holds(h.to_mask as u16, places::get_replica(state))
-}
 
 // Whether view j of a message's gVec is the state's.
 fn same_view(shape: Shape, state: &[u8], message: &[u8], j: u64) -> bool
@@ -40,58 +31,7 @@ fn same_views(shape: Shape, state: &[u8], message: &[u8]) -> bool
     requires { Stands shape (state_of shape state.now) state.now }
     ensures { result ≡ same (items (λ a. num message.now a 4) 4 16 shape.s) (state_of shape state.now).view.g_vec }
 {
-    let mut all = true;
-    let mut j: u64 = 0;
-    while j < shape.s {
-        all = all & same_view(shape, state, message, j);
-        j += 1;
-    }
-    all
-}
-
-// Whether a message has a greater gView than the state.
-fn is_newer(shape: Shape, state: &[u8], kind: u8, h: Header, message: &[u8]) -> bool
-    requires { Stands shape (state_of shape state.now) state.now × Heads shape kind h message.now }
-    ensures { result ≡ newer (state_of shape state.now) (wire_in shape.s message.now) }
-{
-    places::get_view(state) < h.view
-}
-
-// Whether gView and gVec of a message are those of the state.
-fn is_equal(shape: Shape, state: &[u8], kind: u8, h: Header, message: &[u8]) -> bool
-    requires { Stands shape (state_of shape state.now) state.now × Heads shape kind h message.now × (bare kind ≡ false) }
-    ensures { result ≡ equal (state_of shape state.now) (wire_in shape.s message.now) }
-{
-    (h.view == places::get_view(state)) & same_views(shape, state, message)
-}
-
-// Whether a message's view is right for its kind.
-fn view_right(shape: Shape, state: &[u8], kind: u8, h: Header, message: &[u8]) -> bool
-    requires { Stands shape (state_of shape state.now) state.now × Heads shape kind h message.now }
-    ensures { result ≡ view_right kind (state_of shape state.now) (wire_in shape.s message.now) }
-{
-    let views = kinds::row_of(kind).views;
-    match views {
-        Views::AnyView => true,
-        Views::Greater => is_newer(shape, state, kind, h, message),
-        Views::GreaterOrEqual => {
-            is_newer(shape, state, kind, h, message) | is_equal(shape, state, kind, h, message)
-        }
-        Views::BothEqual => is_equal(shape, state, kind, h, message),
-    }
-}
-
-// Whether the status is right for a message.
-fn status_right(shape: Shape, state: &[u8], kind: u8, h: Header, message: &[u8]) -> bool
-    requires { Stands shape (state_of shape state.now) state.now × Heads shape kind h message.now }
-    ensures { result ≡ status_right kind (state_of shape state.now) (wire_in shape.s message.now) }
-{
-    let row = kinds::row_of(kind);
-    let taken = group::holds(row.statuses as u16, places::get_status(state) as u64);
-    if row.only_if_equal {
-        return is_newer(shape, state, kind, h, message) | taken;
-    }
-    taken
+    (0..shape.s).all(|j| same_view(shape, state, message, j))
 }
 
 // Whether a replica leads group j by a message's gVec.
@@ -106,87 +46,170 @@ fn leads_in(shape: Shape, message: &[u8], j: u64, replica: u64) -> bool
     )
 }
 
-// Whether this site leads its group by a message's gVec.
-fn leads_here(shape: Shape, state: &[u8], kind: u8, h: Header, message: &[u8]) -> bool
-    requires { Stands shape (state_of shape state.now) state.now × Heads shape kind h message.now × (bare kind ≡ false) }
-    ensures { result ≡ leads_by shape (state_of shape state.now) (wire_in shape.s message.now) }
-{
-    leads_in(
-        shape,
-        message,
-        places::get_group(state),
-        places::get_replica(state),
-    )
+// A message as it comes to a site: the state's bytes, the message's kind and header, and its bytes.
+#[derive(Clone, Copy)]
+struct Arrival<'a> {
+    shape: Shape,
+    state: &'a [u8],
+    kind: u8,
+    header: Header,
+    message: &'a [u8],
 }
 
-// Whether the sender leads its group by the message's gVec.
-fn from_leader(shape: Shape, state: &[u8], kind: u8, h: Header, message: &[u8]) -> bool
-    requires { Stands shape (state_of shape state.now) state.now × Heads shape kind h message.now × (from_outside kind ≡ false) }
-    ensures { result ≡ from_leader shape (wire_in shape.s message.now) }
-{
-    leads_in(shape, message, h.from_group as u64, h.from_replica as u64)
-}
+impl Arrival<'_> {
+    // Whether a message is addressed to this site.
+    fn is_here(self) -> bool
+        requires { Comes self }
+        ensures { result ≡ here (standing self.entry) (told self.entry) }
+    {
+        let own = self.header.to_group as u64 == places::get_group(self.state);
+        own & group::holds(self.header.to_mask as u16, places::get_replica(self.state))
+    }
 
-// Whether this site has the role of the kind's receiver.
-fn receiver_right(shape: Shape, state: &[u8], kind: u8, h: Header, message: &[u8]) -> bool
-    requires { Stands shape (state_of shape state.now) state.now × Heads shape kind h message.now }
-    ensures { result ≡ receiver_fits (row_of kind).receiver shape (state_of shape state.now) (wire_in shape.s message.now) }
-{
-    let receiver = kinds::row_of(kind).receiver;
-    match receiver {
-        Receiver::ALeader => leads_here(shape, state, kind, h, message),
-        Receiver::AFollower => !leads_here(shape, state, kind, h, message),
-        Receiver::Anyone => true,
-        Receiver::Outsiders => true,
+    // Whether a message has a greater gView than the state.
+    fn is_newer(self) -> bool
+        requires { Comes self }
+        ensures { result ≡ newer (standing self.entry) (told self.entry) }
+    {
+        places::get_view(self.state) < self.header.view
+    }
+
+    // Whether gView and gVec of a message are those of the state.
+    fn is_equal(self) -> bool
+        requires { Comes self × (bare self.kind ≡ false) }
+        ensures { result ≡ equal (standing self.entry) (told self.entry) }
+    {
+        (self.header.view == places::get_view(self.state))
+            & same_views(self.shape, self.state, self.message)
+    }
+
+    // Whether a message's view is right for its kind.
+    fn view_right(self) -> bool
+        requires { Comes self }
+        ensures { result ≡ view_right self.entry.kind (standing self.entry) (told self.entry) }
+    {
+        let views = kinds::row_of(self.kind).views;
+        match views {
+            Views::AnyView => true,
+            Views::Greater => self.is_newer(),
+            Views::GreaterOrEqual => self.is_newer() | self.is_equal(),
+            Views::BothEqual => self.is_equal(),
+        }
+    }
+
+    // Whether the status is right for a message.
+    fn status_right(self) -> bool
+        requires { Comes self }
+        ensures { result ≡ status_right self.entry.kind (standing self.entry) (told self.entry) }
+    {
+        let row = kinds::row_of(self.kind);
+        let taken = group::holds(row.statuses as u16, places::get_status(self.state) as u64);
+        if row.only_if_equal {
+            return self.is_newer() | taken;
+        }
+        taken
+    }
+
+    // Whether this site leads its group by a message's gVec.
+    fn leads_here(self) -> bool
+        requires { Comes self × (bare self.kind ≡ false) }
+        ensures { result ≡ leads_by self.entry.shape (standing self.entry) (told self.entry) }
+    {
+        leads_in(
+            self.shape,
+            self.message,
+            places::get_group(self.state),
+            places::get_replica(self.state),
+        )
+    }
+
+    // Whether the sender leads its group by the message's gVec.
+    fn from_leader(self) -> bool
+        requires { Comes self × (from_outside self.kind ≡ false) }
+        ensures { result ≡ from_leader self.entry.shape (told self.entry) }
+    {
+        leads_in(
+            self.shape,
+            self.message,
+            self.header.from_group as u64,
+            self.header.from_replica as u64,
+        )
+    }
+
+    // Whether this site has the role of the kind's receiver.
+    fn receiver_right(self) -> bool
+        requires { Comes self }
+        ensures { result ≡ receiver_fits (row_of self.entry.kind).receiver self.entry.shape (standing self.entry) (told self.entry) }
+    {
+        let receiver = kinds::row_of(self.kind).receiver;
+        match receiver {
+            Receiver::ALeader => self.leads_here(),
+            Receiver::AFollower => !self.leads_here(),
+            Receiver::Anyone => true,
+            Receiver::Outsiders => true,
+        }
+    }
+
+    // Whether the sender has the role of the kind's sender.
+    fn sender_right(self) -> bool
+        requires { Comes self }
+        ensures { result ≡ sender_fits (row_of self.entry.kind).sender self.entry.shape (standing self.entry) (told self.entry) }
+    {
+        let own = self.header.from_group as u64 == places::get_group(self.state);
+        let sender = kinds::row_of(self.kind).sender;
+        match sender {
+            Sender::Outsider => true,
+            Sender::OwnLeader => own & self.from_leader(),
+            Sender::OwnReplica => {
+                own & (self.header.from_replica as u64 != places::get_replica(self.state))
+            }
+            Sender::OtherLeader => !own & self.from_leader(),
+            Sender::AnyReplica => true,
+        }
+    }
+
+    // Whether receiver and sender have the roles of the kind, by the message's gVec.
+    fn role_right(self) -> bool
+        requires { Comes self }
+        ensures { result ≡ role_right self.entry.kind self.entry.shape (standing self.entry) (told self.entry) }
+    {
+        self.receiver_right() & self.sender_right()
     }
 }
 
-// Whether the sender has the role of the kind's sender.
-fn sender_right(shape: Shape, state: &[u8], kind: u8, h: Header, message: &[u8]) -> bool
-    requires { Stands shape (state_of shape state.now) state.now × Heads shape kind h message.now }
-    ensures { result ≡ sender_fits (row_of kind).sender shape (state_of shape state.now) (wire_in shape.s message.now) }
-{
-    let own = h.from_group as u64 == places::get_group(state);
-    let sender = kinds::row_of(kind).sender;
-    match sender {
-        Sender::Outsider => true,
-        Sender::OwnLeader => own & from_leader(shape, state, kind, h, message),
-        Sender::OwnReplica => own & !(h.from_replica as u64 == places::get_replica(state)),
-        Sender::OtherLeader => !own & from_leader(shape, state, kind, h, message),
-        Sender::AnyReplica => true,
-    }
-}
-
-// Whether receiver and sender have the roles of the kind, by the message's gVec.
-fn role_right(shape: Shape, state: &[u8], kind: u8, h: Header, message: &[u8]) -> bool
-    requires { Stands shape (state_of shape state.now) state.now × Heads shape kind h message.now }
-    ensures { result ≡ role_right kind shape (state_of shape state.now) (wire_in shape.s message.now) }
-{
-    receiver_right(shape, state, kind, h, message) & sender_right(shape, state, kind, h, message)
-}
-
-// The lowest of the refusals 2 to 6 that applies, 0 where none does.
-pub fn refusal(shape: Shape, state: &[u8], m: Message, message: &[u8]) -> u8
+// Whether a message is admitted; else the lowest of the refusals 2 to 6 that applies. What is malformed is so at `wrong`.
+pub fn admitted(
+    shape: Shape,
+    state: &[u8],
+    m: Message,
+    message: &[u8],
+    wrong: usize,
+) -> Result<(), Refusal>
     requires { Stands shape (state_of shape state.now) state.now × (m ≡ decoded shape.n shape.s message.now) }
-    ensures { result ≡ refusal_of shape (state_of shape state.now) (tag_of m) (wire_in shape.s message.now) }
+    ensures { result ≡ admission shape (state_of shape state.now) (tag_of m) (wire_in shape.s message.now) wrong }
 {
     let said = writer::said_of(m);
-    let kind = said.tag;
-    let h = said.header;
-    if (kind == NO_KIND) | kinds::to_outside(kind) {
-        return rules::refusal::MALFORMED;
+    if (said.tag == NO_KIND) | kinds::to_outside(said.tag) {
+        return Err(Refusal::Malformed(wrong));
     }
-    if !is_here(shape, state, kind, h, message) {
-        return rules::refusal::NOT_ADDRESSED_HERE;
+    let arrival = Arrival {
+        shape,
+        state,
+        kind: said.tag,
+        header: said.header,
+        message,
+    };
+    if !arrival.is_here() {
+        return Err(Refusal::NotAddressedHere);
     }
-    if !view_right(shape, state, kind, h, message) {
-        return rules::refusal::WRONG_VIEW;
+    if !arrival.view_right() {
+        return Err(Refusal::WrongView);
     }
-    if !status_right(shape, state, kind, h, message) {
-        return rules::refusal::WRONG_STATUS;
+    if !arrival.status_right() {
+        return Err(Refusal::WrongStatus);
     }
-    if !role_right(shape, state, kind, h, message) {
-        return rules::refusal::WRONG_ROLE;
+    if !arrival.role_right() {
+        return Err(Refusal::WrongRole);
     }
-    0
+    Ok(())
 }

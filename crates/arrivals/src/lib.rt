@@ -19,7 +19,7 @@ ghost use Rattle.handler.specs.Handler.{Ready, handled};
 ghost use Rattle.arrivals.specs.Taken.{note_sends, taken_early, Lifting};
 
 use handler::Asking;
-use rules::{Answer, Entry, Message, Shape, kind, refusal};
+use rules::{Answer, Entry, Message, Refusal, Shape, kind};
 
 // ---- what stands in the tables
 
@@ -43,11 +43,16 @@ fn keep_note(shape: Shape, state: &mut [u8], e: Entry, j: u64, stamp: u64)
         Midway shape (with_waiting st.waiting.early st.waiting.late notes st) state.new }
 {
     let layout = places::places_of(shape);
-    let start = layout.notes;
-    let end = layout.votes;
     let c = shape.c as usize;
     let s = shape.s as usize;
-    notes::keep(&mut state[start..end], c, s, e, j as usize, stamp);
+    notes::keep(
+        &mut state[layout.notes..layout.votes],
+        c,
+        s,
+        e,
+        j as usize,
+        stamp,
+    );
 }
 
 // Keeps a note, and lifts the early entry where it was the last that was missing.
@@ -96,9 +101,7 @@ fn add_early(shape: Shape, state: &mut [u8], e: Entry)
         Midway shape (with_waiting (put_early e st.waiting.early) st.waiting.late st.waiting.notes st) state.new }
 {
     let layout = places::places_of(shape);
-    let start = layout.early;
-    let end = layout.late;
-    early::put(&mut state[start..end], shape.c as usize, e);
+    early::put(&mut state[layout.early..layout.late], shape.c as usize, e);
 }
 
 // Puts e after the last late entry.
@@ -108,9 +111,7 @@ fn add_late(shape: Shape, state: &mut [u8], e: Entry)
         Midway shape (with_waiting st.waiting.early (st.waiting.late ++ (e ∷ [])) st.waiting.notes st) state.new }
 {
     let layout = places::places_of(shape);
-    let start = layout.late;
-    let end = layout.notes;
-    entries::append(&mut state[start..end], shape.c as usize, e);
+    entries::append(&mut state[layout.late..layout.notes], shape.c as usize, e);
 }
 
 // A follower puts e in early if it lies after the log's last, else in late.
@@ -121,16 +122,16 @@ fn follower_takes(shape: Shape, state: &mut [u8], e: Entry, out: &mut [u8]) -> A
 {
     if stamps::may_follow(shape, state, e) {
         if shape.c as usize <= entries::count(places::early(shape, state)) {
-            return Answer::Refused(refusal::FULL, 0);
+            return Err(Refusal::Full);
         }
         add_early(shape, state, e);
-        return Answer::Done(0);
+        return Ok(0);
     }
     if shape.c as usize <= entries::count(places::late(shape, state)) {
-        return Answer::Refused(refusal::FULL, 0);
+        return Err(Refusal::Full);
     }
     add_late(shape, state, e);
-    Answer::Done(0)
+    Ok(0)
 }
 
 // How long the notes to the other masked groups' leaders are together.
@@ -151,11 +152,7 @@ fn tell_notes(shape: Shape, state: &[u8], e: Entry, out: &mut [u8]) -> usize
 {
     let mut bytes = [0u8; 24];
     entries::put_entry(&mut bytes, 0, e);
-    let asking = Asking {
-        kind: kind::TIMESTAMP_NOTE,
-        number: 0,
-    };
-    handler::tell_leaders(shape, state, out, asking, e.mask, &bytes)
+    handler::tell_leaders(shape, state, out, Asking::OfNote, e.mask, &bytes)
 }
 
 // Puts e in early with the own group's note of it.
@@ -178,17 +175,17 @@ fn leader_takes(shape: Shape, state: &mut [u8], e: Entry, out: &mut [u8]) -> Ans
         ≡ closes shape state.old out.old (leader_takes shape (state_of shape state.old) e) }
 {
     if shape.c as usize <= entries::count(places::early(shape, state)) {
-        return Answer::Refused(refusal::FULL, 0);
+        return Err(Refusal::Full);
     }
     if !room_for_note(shape, state, e) {
-        return Answer::Refused(refusal::FULL, 0);
+        return Err(Refusal::Full);
     }
     if out.len() < notes_length(shape, state, e) {
-        return Answer::Refused(refusal::NO_ROOM, 0);
+        return Err(Refusal::NoRoom);
     }
     let sent = tell_notes(shape, state, e, out);
     take_early(shape, state, e);
-    Answer::Done(sent)
+    Ok(sent)
 }
 
 // ---- the handlers
@@ -200,21 +197,21 @@ pub fn on_note(shape: Shape, state: &mut [u8], m: Message, message: &[u8], out: 
         ≡ handled 3 on_note shape m state.old message.now out.old }
 {
     let Message::Note(h) = m else {
-        return Answer::Refused(refusal::MALFORMED, 0);
+        return Err(Refusal::Malformed(0));
     };
     let from = h.from_group as u64;
     let e = handler::first_entry(shape, state, m, message, kind::TIMESTAMP_NOTE);
     if is_among(places::log(shape, state), shape.c as usize, e) {
-        return Answer::Refused(refusal::NOTHING_TO_DO, 0);
+        return Err(Refusal::NothingToDo);
     }
     if stamps::is_noted(shape, state, e, from) {
-        return Answer::Refused(refusal::NOTHING_TO_DO, 0);
+        return Err(Refusal::NothingToDo);
     }
     if !room_for_note(shape, state, e) {
-        return Answer::Refused(refusal::FULL, 0);
+        return Err(Refusal::Full);
     }
     keep_and_lift(shape, state, e, from, e.stamp);
-    Answer::Done(0)
+    Ok(0)
 }
 
 // Kind 1: a transaction that is in none of log, early and late gets its timestamp and is taken.
@@ -230,17 +227,17 @@ pub fn on_transaction(
         ≡ handled 1 on_transaction shape m state.old message.now out.old }
 {
     let Message::Transaction(_, send_time, bound) = m else {
-        return Answer::Refused(refusal::MALFORMED, 0);
+        return Err(Refusal::Malformed(0));
     };
     let entry = handler::first_entry(shape, state, m, message, kind::TRANSACTION);
     if known(shape, state, entry) {
-        return Answer::Refused(refusal::NOTHING_TO_DO, 0);
+        return Err(Refusal::NothingToDo);
     }
     let e = stamps::stamped(send_time + bound, entry);
     if handler::leads(shape, state) {
         let raised = stamps::raised(shape, state, e);
         if rules::LATEST < raised.stamp {
-            return Answer::Refused(refusal::FULL, 0);
+            return Err(Refusal::Full);
         }
         return leader_takes(shape, state, raised, out);
     }

@@ -1,21 +1,23 @@
 -- The votes that count, one replica more at a time: the greatest last normal gView and the best vote. Assumes nothing.
 use Prim.Native.Nat.{ℕ, ◌+◌, ◌≤◌, ◌<◌, max}
 use mathlib.Core.Path.{◌≡◌, refl, sym, ap, ◌∙◌}
-use mathlib.Core.Bool.{true, false, ◌&&◌}
+use mathlib.Core.Bool.{Bool, true, false, ◌&&◌}
 use mathlib.Core.Option.{Option, none, some}
+use Rattle.std.specs.Prelude as rust
+use Rattle.std.specs.Prelude.{Some, None, MatchOption}
 use mathlib.Core.List.{List, [], ◌∷◌, ◌++◌}
 use native.Mathlib.Omega.{arith}
 use native.Mathlib.Numerals.{add-one}
-use lib.ListN.{length, get_or, take, get_or-eq_default}
+use lib.ListN.{length, get_or, take}
 use lib.Seq.{take-suc, take_all}
 use lib.Dec.{eqb, ltb}
-use borrow.Author.Tests.{ltb-true, ltb-false}
+use borrow.Author.Tests.{ltb-true}
 use Rattle.rules.specs.Choice.{pick, is_some}
 use Rattle.rules.specs.State.{Vote}
 use Rattle.rules.specs.Rebuild.{top_from, with_normal, best_from, best}
-use Rattle.rules.proofs.Choice.{by_test, by_cases, pick_true, pick_false}
+use Rattle.rules.proofs.Choice.{by_test, by_cases}
 use Rattle.rules.proofs.Rebuilt.{counting_rising}
-use Rattle.ballots.specs.Ballots.{vote_of, counts_at, Tells, BestTo}
+use Rattle.ballots.specs.Ballots.{vote_of, counts_at, ballot_in, Tells, sync_of, better_of, BestTo}
 use Rattle.ballots.specs.declared.Ballot.{Ballot}
 use Rattle.ballots.specs.declared.Best.{Best}
 
@@ -39,11 +41,23 @@ lower_next top vs r h =
 pub lower_all : (top : ℕ) (vs : List (Option Vote)) (r : ℕ) → length vs ≤ r → with_normal top (take r vs) ≡ with_normal top vs
 lower_all top vs r h = ap (with_normal top) (take_all r vs h)
 
--- whether a vote counts, by what is told of it
-pub counts_told : (top : ℕ) (x : Option Vote) (t : Ballot) → Tells x t → (t.held && eqb t.normal top) ≡ counts_at top x
-unfolding counts_at vote_of
-counts_told top none t h = rw h.held
-counts_told top (some v) t h = rw (h.held, h.normal refl)
+-- ---- what is told of a vote
+
+pub none_told : (x : Option Vote) → Tells x None → x ≡ none
+unfolding ballot_in
+none_told none h = refl
+none_told (some v) h = cc
+
+pub some_told : (x : Option Vote) (t : Ballot) → Tells x (Some t) → (v : Vote) × (x ≡ some v) × (t ≡ record { normal = v.normal; sync = v.sync })
+unfolding ballot_in
+some_told none t h = cc
+some_told (some v) t h = (v, refl, cc)
+
+-- whether it counts, by the test of what is told
+pub counts_told : (top : ℕ) (x : Option Vote) (t : rust.Option Ballot) (r : Bool) → Tells x t → MatchOption t (r ≡ false) (λ b. r ≡ eqb b.normal top) → r ≡ counts_at top x
+unfolding counts_at ballot_in
+counts_told top none t r h m = rw h at m
+counts_told top (some v) t r h m = rw h at m
 
 -- ---- the greatest last normal gView
 
@@ -57,18 +71,19 @@ pub top_start : 0 ≡ top_from 0 []
 unfolding top_from
 top_start = refl
 
-top_told : (top : ℕ) (x : Option Vote) (t : Ballot) → Tells x t → pick (t.held && ltb top t.normal) t.normal top ≡ top_from top (x ∷ [])
-unfolding top_from vote_of
-top_told top none t h = rw h.held (pick_false false t.normal top refl)
-top_told top (some v) t h =
-    let n : t.normal ≡ v.normal = h.normal refl in
-    rw (h.held, n) (by_test (λ (m : ℕ). m ≡ max top v.normal) (ltb top v.normal) (λ q. omega (arith, ltb-true top v.normal q)) (λ q. omega (arith, ltb-false top v.normal q)))
+module _ (vs : List (Option Vote)) (n r top : ℕ) (l : length vs ≡ n) (h : r < n) (e : top ≡ top_from 0 (take r vs)) where
+  top_is : top_from 0 (take (r + 1) vs) ≡ top_from top (get_or vs r none ∷ [])
+  top_is = ap (top_from 0) (next vs r (omega arith)) ∙ top_append 0 (take r vs) (get_or vs r none ∷ []) ∙ ap (λ (m : ℕ). top_from m (get_or vs r none ∷ [])) (sym e)
 
-pub top_next : (vs : List (Option Vote)) (n r top u : ℕ) (t : Ballot) → length vs ≡ n → r < n → top ≡ top_from 0 (take r vs) → Tells (get_or vs r none) t → u ≡ pick (t.held && ltb top t.normal) t.normal top → u ≡ top_from 0 (take (r + 1) vs)
-top_next vs n r top u t l h e k q =
-    q ∙ top_told top (get_or vs r none) t k
-    ∙ ap (λ (m : ℕ). top_from m (get_or vs r none ∷ [])) e
-    ∙ sym (ap (top_from 0) (next vs r (omega arith)) ∙ top_append 0 (take r vs) (get_or vs r none ∷ []))
+  pub top_same : Tells (get_or vs r none) None → top ≡ top_from 0 (take (r + 1) vs)
+  unfolding top_from
+  top_same k = sym (top_is ∙ ap (λ (x : Option Vote). top_from top (x ∷ [])) (none_told (get_or vs r none) k))
+
+  pub top_next : (t : Ballot) → Tells (get_or vs r none) (Some t) → max top t.normal ≡ top_from 0 (take (r + 1) vs)
+  unfolding top_from
+  top_next t k =
+      let v = some_told (get_or vs r none) t k in
+      rw v.2 (sym (top_is ∙ ap (λ (x : Option Vote). top_from top (x ∷ [])) v.1))
 
 pub top_end : (vs : List (Option Vote)) (n r top : ℕ) → length vs ≡ n → n ≤ r → top ≡ top_from 0 (take r vs) → top ≡ top_from 0 vs
 top_end vs n r top l h e = e ∙ ap (top_from 0) (take_all r vs (omega arith))
@@ -80,69 +95,77 @@ unfolding best_from
 best_append u [] ys = refl
 best_append u (v ∷ xs) ys = best_append (pick (ltb u.sync v.sync) v u) xs ys
 
-pub best_start : (vs : List (Option Vote)) (n top : ℕ) → length vs ≡ n → BestTo n vs top 0 (record { replica = n; sync = 0 })
-unfolding with_normal best_from vote_of
-best_start vs n top l =
-    let e : get_or vs n none ≡ none = get_or-eq_default vs none (omega arith) in
-    record {
-      is = ap vote_of (sym e);
-      sync = ap (λ (x : Option Vote). (vote_of x).sync) (sym e);
-      within = omega arith;
-      held = λ h. absurd (omega arith);
-      some = λ h. absurd (omega arith);
-    }
+-- the sync point so far, by the test of it
+sync_told : (x : rust.Option Best) (m : ℕ) → MatchOption x (m ≡ 0) (λ b. m ≡ b.sync) → m ≡ sync_of x
+sync_told None m h = h
+sync_told (Some b) m h = h
 
-module _ (n : ℕ) (vs : List (Option Vote)) (top r : ℕ) (b : Best) (l : length vs ≡ n) (h : r < n) (k : BestTo n vs top r b) where
-  best_is : best (with_normal top (take (r + 1) vs)) ≡ best_from (vote_of (get_or vs b.replica none)) (pick (counts_at top (get_or vs r none)) (vote_of (get_or vs r none) ∷ []) [])
-  best_is =
-      ap best (lower_next top vs r (omega arith))
-      ∙ best_append _ (with_normal top (take r vs)) _
-      ∙ ap (λ (u : Vote). best_from u (pick (counts_at top (get_or vs r none)) (vote_of (get_or vs r none) ∷ []) [])) k.is
+pub better_none : (top r : ℕ) (x : rust.Option Best) (t : rust.Option Ballot) → t ≡ None → x ≡ better_of top x r t
+unfolding better_of
+better_none top r x t e = rw e
+
+module _ (top r m : ℕ) (x : rust.Option Best) (o : rust.Option Ballot) (t : Ballot) (e : o ≡ Some t) (h : MatchOption x (m ≡ 0) (λ b. m ≡ b.sync)) where
+  pub better_more : (eqb t.normal top && ltb m t.sync) ≡ true → Some (record { replica = r; sync = t.sync }) ≡ better_of top x r o
+  unfolding better_of pick
+  better_more q = rw (e, ← sync_told x m h, q)
+
+  pub better_same : (eqb t.normal top && ltb m t.sync) ≡ false → x ≡ better_of top x r o
+  unfolding better_of pick
+  better_same q = rw (e, ← sync_told x m h, q)
+
+pub best_start : (n top : ℕ) (vs : List (Option Vote)) → BestTo n vs top 0 None
+unfolding with_normal best_from vote_of
+best_start n top vs = refl
+
+module _ (n : ℕ) (vs : List (Option Vote)) (top r : ℕ) where
+  -- the best vote so far
+  abbrev standing : rust.Option Best → Vote
+  standing None = vote_of none
+  standing (Some b) = vote_of (get_or vs b.replica none)
+
+  standing_is : (x : rust.Option Best) → BestTo n vs top r x → best (with_normal top (take r vs)) ≡ standing x
+  unfolding vote_of
+  standing_is None k = k
+  standing_is (Some b) k = k.is
+
+  standing_sync : (x : rust.Option Best) → BestTo n vs top r x → sync_of x ≡ (standing x).sync
+  unfolding vote_of
+  standing_sync None k = refl
+  standing_sync (Some b) k = k.sync
 
   -- the vote of replica r is no better
-  stays : best (with_normal top (take (r + 1) vs)) ≡ vote_of (get_or vs b.replica none) → BestTo n vs top (r + 1) b
-  stays e = record { is = e; sync = k.sync; within = k.within; held = k.held; some = k.some }
+  stays : (x : rust.Option Best) → BestTo n vs top r x → best (with_normal top (take (r + 1) vs)) ≡ standing x → BestTo n vs top (r + 1) x
+  unfolding vote_of
+  stays None k e = e
+  stays (Some b) k e = record { is = e; sync = k.sync; within = k.within; held = k.held; some = k.some }
 
-  one_best : (u v : Vote) → best_from u (v ∷ []) ≡ pick (ltb u.sync v.sync) v u
-  unfolding best_from
-  one_best u v = refl
+  module _ (x : rust.Option Best) (l : length vs ≡ n) (h : r < n) (k : BestTo n vs top r x) where
+    best_is : best (with_normal top (take (r + 1) vs)) ≡ best_from (standing x) (pick (counts_at top (get_or vs r none)) (vote_of (get_or vs r none) ∷ []) [])
+    best_is =
+        ap best (lower_next top vs r (omega arith))
+        ∙ best_append _ (with_normal top (take r vs)) _
+        ∙ ap (λ (u : Vote). best_from u (pick (counts_at top (get_or vs r none)) (vote_of (get_or vs r none) ∷ []) [])) (standing_is x k)
 
-  none_best : (u : Vote) → best_from u [] ≡ u
-  unfolding best_from
-  none_best u = refl
+    pub best_next : (y : Option Vote) (t : rust.Option Ballot) → get_or vs r none ≡ y → Tells y t → BestTo n vs top (r + 1) (better_of top x r t)
+    unfolding counts_at vote_of ballot_in better_of best_from pick
+    best_next none t e f = rw f (stays x k (rw e at best_is))
+    best_next (some v) t e f =
+        let m : best (with_normal top (take (r + 1) vs)) ≡ best_from (standing x) (pick (eqb v.normal top) (v ∷ []) []) = rw e at best_is in
+        rw f
+        (by_cases (eqb v.normal top)
+        (λ p.
+        rw p
+        (by_test (BestTo n vs top (r + 1)) (ltb (sync_of x) v.sync)
+        (λ q.
+        record {
+          is = m ∙ rw (p, ← standing_sync x k, q, e);
+          sync = rw e;
+          within = h;
+          held = ap is_some e;
+          some = omega (arith, ltb-true (sync_of x) v.sync q);
+        })
+        (λ q. stays x k (m ∙ rw (p, ← standing_sync x k, q)))))
+        (λ p. rw p (stays x k (m ∙ rw p))))
 
-  told : (x : Option Vote) (t : Ballot) → get_or vs r none ≡ x → Tells x t → BestTo n vs top (r + 1) (pick (t.held && (eqb t.normal top && ltb b.sync t.sync)) (record { replica = r; sync = t.sync }) b)
-  unfolding counts_at vote_of
-  told none t e f =
-      rw (f.held, pick_false false (record { replica = r; sync = t.sync }) b refl)
-      (stays (best_is ∙ ap (λ (x : Option Vote). best_from (vote_of (get_or vs b.replica none)) (pick (counts_at top x) (vote_of x ∷ []) [])) e ∙ ap (best_from _) (pick_false false _ [] refl) ∙ none_best _))
-  told (some v) t e f =
-      let u : Vote = vote_of (get_or vs b.replica none) in
-      let m = best_is ∙ ap (λ (x : Option Vote). best_from u (pick (counts_at top x) (vote_of x ∷ []) [])) e in
-      rw (f.held, f.normal refl)
-      (by_cases (eqb v.normal top)
-      (λ p.
-      let m2 = m ∙ ap (best_from u) (pick_true (eqb v.normal top) (v ∷ []) [] p) ∙ one_best u v in
-      rw p
-      (by_test (BestTo n vs top (r + 1)) (ltb b.sync t.sync)
-      (λ q.
-      let s : ltb u.sync v.sync ≡ true = rw (← k.sync, ← f.sync refl) q in
-      record {
-        is = m2 ∙ pick_true (ltb u.sync v.sync) v u s ∙ ap vote_of (sym e);
-        sync = f.sync refl ∙ ap (λ (x : Option Vote). (vote_of x).sync) (sym e);
-        within = omega arith;
-        held = λ _. ap is_some e;
-        some = λ _. omega (arith, ltb-true b.sync t.sync q);
-      })
-      (λ q.
-      let s : ltb u.sync v.sync ≡ false = rw (← k.sync, ← f.sync refl) q in
-      stays (m2 ∙ pick_false (ltb u.sync v.sync) v u s))))
-      (λ p.
-      rw (p, pick_false false (record { replica = r; sync = t.sync }) b refl)
-      (stays (m ∙ ap (best_from u) (pick_false (eqb v.normal top) (v ∷ []) [] p) ∙ none_best u))))
-
-  pub best_next : (t : Ballot) (d : Best) → Tells (get_or vs r none) t → d ≡ pick (t.held && (eqb t.normal top && ltb b.sync t.sync)) (record { replica = r; sync = t.sync }) b → BestTo n vs top (r + 1) d
-  best_next t d f q = rw q (told (get_or vs r none) t refl f)
-
-pub best_end : (n : ℕ) (vs : List (Option Vote)) (top r : ℕ) (b : Best) → r ≤ n → n ≤ r → BestTo n vs top r b → BestTo n vs top n b
-best_end n vs top r b g h k = let e : r ≡ n = omega arith in rw e at k
+pub best_end : (n : ℕ) (vs : List (Option Vote)) (top r : ℕ) (x : rust.Option Best) → r ≤ n → n ≤ r → BestTo n vs top r x → BestTo n vs top n x
+best_end n vs top r x g h k = let e : r ≡ n = omega arith in rw e at k

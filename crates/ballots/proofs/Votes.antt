@@ -3,12 +3,13 @@ use Prim.Native.Nat.{ℕ, ◌+◌, ◌*◌, ◌<◌}
 use mathlib.Core.Path.{◌≡◌, refl, sym, ap, ◌∙◌}
 use mathlib.Core.Bool.{Bool, true, false}
 use mathlib.Core.Option.{Option, none, some}
+use Rattle.std.specs.Prelude.{Some, None}
 use mathlib.Core.List.{List}
 use native.Mathlib.Omega.{arith}
 use lib.ListN.{length, get_or, set, replicate, length-set, length-replicate, get_or-replicate}
 use lib.Seq.{get_or-set_same, get_or-set_other}
 use lib.Dec.{eqb}
-use borrow.Author.Tests.{eqb-true, eqb-false}
+use borrow.Author.Tests.{eqb-true, eqb-false, eq-eqb, ne_eqb}
 use Rattle.octets.specs.Bytes.{num}
 use Rattle.rules.specs.Choice.{pick, is_some}
 use Rattle.rules.specs.State.{Vote, State}
@@ -20,7 +21,7 @@ use Rattle.places.specs.Layout.{start_of}
 use Rattle.places.proofs.Sections.{stands_fits, stands_midway}
 use Rattle.places.proofs.Head.{replica_of, normal_of, sync_of}
 use Rattle.places.proofs.Kept.{vote_at_lem, vote_normal, vote_sync}
-use Rattle.ballots.specs.Ballots.{ballots, sent_log, votes_in, vote_of, Sent, Tells}
+use Rattle.ballots.specs.Ballots.{ballots, sent_log, votes_in, ballot_in, Sent, Tells}
 use Rattle.ballots.specs.declared.Cast.{Cast}
 
 -- ---- the votes that count, as the rules of the step say them
@@ -39,6 +40,12 @@ ballots_entering sh st r v = refl
 pub is_some_lem : {A : Type 0} (x : Option A) → is_some x ≡ true → (a : A) × (x ≡ some a)
 is_some_lem none h = absurd (let z : ◌≡◌ {A = ℕ} 0 1 = cc in omega arith)
 is_some_lem (some a) h = (a, refl)
+
+-- and of none nothing is told
+no_ballot : (x : Option Vote) → is_some x ≡ false → Tells x None
+unfolding ballot_in
+no_ballot none h = refl
+no_ballot (some v) h = cc
 
 module _ (sh : Shape) (b msg : List ℕ) (k : Cast) (g : Sent sh b k) where
   abbrev st : State
@@ -88,25 +95,29 @@ module _ (sh : Shape) (b msg : List ℕ) (k : Cast) (g : Sent sh b k) where
       ∙ ap (λ (xs : List (Option Vote)). get_or xs r none) (pick_false k.entering own st.change.votes e)
 
   -- ---- what is told of each
-  pub tells_sender : (r : ℕ) → r ≡ k.sender → Tells (get_or (votes_in sh b msg k) r none) (record { held = true; normal = k.normal; sync = k.sync })
-  unfolding vote_of
-  tells_sender r e = rw (at_sender r e) (record { held = refl; normal = λ h. refl; sync = λ h. refl })
+  pub tells_sender : (r : ℕ) → r ≡ k.sender → Tells (get_or (votes_in sh b msg k) r none) (Some (record { normal = k.normal; sync = k.sync }))
+  unfolding ballot_in
+  tells_sender r e = rw (at_sender r e)
 
-  own_tells : (v : Vote) (t : Bool) → Tells (pick t (some v) none) (record { held = t; normal = v.normal; sync = v.sync })
-  unfolding pick vote_of
-  own_tells v true = record { held = refl; normal = λ h. refl; sync = λ h. refl }
-  own_tells v false = record { held = refl; normal = λ h. absurd (let z : ◌≡◌ {A = ℕ} 0 1 = cc in omega arith); sync = λ h. absurd (let z : ◌≡◌ {A = ℕ} 0 1 = cc in omega arith) }
+  module _ (r : ℕ) (h : r < sh.n) (d : r ≡ k.sender → ⊥) where
+    pub tells_other : (own : ℕ) → k.entering ≡ true → own ≡ num b 1 1 → (r ≡ own → ⊥) → Tells (get_or (votes_in sh b msg k) r none) None
+    unfolding pick ballot_in
+    tells_other own e p q = rw (at_own r h d e, ne_eqb r st.site.replica (λ t. q (t ∙ sym (p ∙ replica_of (stands_midway g.stands)))))
 
-  pub tells_own : (r own normal sync : ℕ) → r < sh.n → (r ≡ k.sender → ⊥) → k.entering ≡ true → own ≡ num b 1 1 → normal ≡ num b 12 4 → sync ≡ num b 24 8 → Tells (get_or (votes_in sh b msg k) r none) (record { held = eqb r own; normal = normal; sync = sync })
-  tells_own r own normal sync h d e p q s =
-      rw (at_own r h d e, p ∙ replica_of (stands_midway g.stands), q ∙ normal_of (stands_midway g.stands), s ∙ sync_of (stands_midway g.stands)) (own_tells (own_vote st) (eqb r st.site.replica))
+    pub tells_own : (own normal sync : ℕ) → k.entering ≡ true → own ≡ num b 1 1 → r ≡ own → normal ≡ num b 12 4 → sync ≡ num b 24 8 → Tells (get_or (votes_in sh b msg k) r none) (Some (record { normal = normal; sync = sync }))
+    unfolding pick ballot_in
+    tells_own own normal sync e p o q s =
+        rw (at_own r h d e, eq-eqb r st.site.replica (o ∙ p ∙ replica_of (stands_midway g.stands)), q ∙ normal_of (stands_midway g.stands), s ∙ sync_of (stands_midway g.stands))
 
-  pub tells_kept : (r : ℕ) (held : Bool) (normal sync : ℕ) → r < sh.n → (r ≡ k.sender → ⊥) → k.entering ≡ false → held ≡ is_some (vote_at sh.c b (start_of sh at_votes + vote_length sh.c * r)) → normal ≡ num b (start_of sh at_votes + vote_length sh.c * r + 1) 4 → sync ≡ num b (start_of sh at_votes + vote_length sh.c * r + 5) 8 → Tells (get_or (votes_in sh b msg k) r none) (record { held = held; normal = normal; sync = sync })
-  unfolding vote_of
-  tells_kept r held normal sync h d e p q s =
-      rw (at_kept r d e)
-      (record {
-        held = p ∙ ap is_some (vote_at_lem (stands_midway g.stands) r h);
-        normal = λ t. let v = is_some_lem (get_or st.change.votes r none) t in q ∙ vote_normal (stands_midway g.stands) r v.0 h v.1 ∙ ap (λ (x : Option Vote). (vote_of x).normal) (sym v.1);
-        sync = λ t. let v = is_some_lem (get_or st.change.votes r none) t in s ∙ vote_sync (stands_midway g.stands) r v.0 h v.1 ∙ ap (λ (x : Option Vote). (vote_of x).sync) (sym v.1);
-      })
+    module _ (held : Bool) (e : k.entering ≡ false) (p : held ≡ is_some (vote_at sh.c b (start_of sh at_votes + vote_length sh.c * r))) where
+      held_is : held ≡ is_some (get_or st.change.votes r none)
+      held_is = p ∙ ap is_some (vote_at_lem (stands_midway g.stands) r h)
+
+      pub tells_none : held ≡ false → Tells (get_or (votes_in sh b msg k) r none) None
+      tells_none f = rw (at_kept r d e) (no_ballot (get_or st.change.votes r none) (sym held_is ∙ f))
+
+      pub tells_kept : (normal sync : ℕ) → held ≡ true → normal ≡ num b (start_of sh at_votes + vote_length sh.c * r + 1) 4 → sync ≡ num b (start_of sh at_votes + vote_length sh.c * r + 5) 8 → Tells (get_or (votes_in sh b msg k) r none) (Some (record { normal = normal; sync = sync }))
+      unfolding ballot_in
+      tells_kept normal sync f q s =
+          let v = is_some_lem (get_or st.change.votes r none) (sym held_is ∙ f) in
+          rw (at_kept r d e, v.1, q ∙ vote_normal (stands_midway g.stands) r v.0 h v.1, s ∙ vote_sync (stands_midway g.stands) r v.0 h v.1)

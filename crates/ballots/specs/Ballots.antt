@@ -1,5 +1,7 @@
 -- The votes that a step of kind 8 counts: of the state and of the message.
-use Rattle.std.specs.Prelude.{ℕ, ◌+◌, ◌*◌, ◌≤◌, ◌<◌, ◌≡◌, Bool, true, false, List, [], length, set, take, get_or, replicate, eqb}
+use Rattle.std.specs.Prelude.{ℕ, ◌+◌, ◌*◌, ◌≤◌, ◌<◌, ◌≡◌, Bool, true, false, ◌&&◌, List, [], length, set, take, get_or, replicate, eqb, ltb}
+use Rattle.std.specs.Prelude as rust
+use Rattle.std.specs.Prelude.{Some, None, MatchOption}
 use Rattle.std.proofs.Math.Option.{Option, none, some}
 use Rattle.octets.specs.Bytes.{num, items}
 use Rattle.rules.specs.Choice.{pick, is_some}
@@ -53,11 +55,14 @@ unfoldable pub counts_at : ℕ → Option Vote → Bool
 counts_at top none = false
 counts_at top (some v) = eqb v.normal top
 
+-- its last normal gView and its sync point, where it is there
+unfoldable pub ballot_in : Option Vote → rust.Option Ballot
+ballot_in none = None
+ballot_in (some v) = Some (record { normal = v.normal; sync = v.sync })
+
 -- what is told of it is right
-pub record Tells (x : Option Vote) (t : Ballot) : Type 0 where
-  pub held : t.held ≡ is_some x
-  pub normal : is_some x ≡ true → t.normal ≡ (vote_of x).normal
-  pub sync : is_some x ≡ true → t.sync ≡ (vote_of x).sync
+abbrev pub Tells : Option Vote → rust.Option Ballot → Type 0
+Tells x t = t ≡ ballot_in x
 
 -- the bytes begin with the count of these entries, and the entries
 pub record Lists (c : ℕ) (es : List Entry) (t : List ℕ) : Type 0 where
@@ -68,10 +73,24 @@ pub record Lists (c : ℕ) (es : List Entry) (t : List ℕ) : Type 0 where
 
 -- ---- the best of them
 
--- of the first r replicas, the best counted vote: its replica, n where no sync point is above 0
-pub record BestTo (n : ℕ) (vs : List (Option Vote)) (top r : ℕ) (b : Best) : Type 0 where
+-- the sync point of the best so far
+abbrev pub sync_of : rust.Option Best → ℕ
+sync_of None = 0
+sync_of (Some b) = b.sync
+
+-- the better of the best so far and the vote of replica r, of which this is told
+unfoldable pub better_of : ℕ → rust.Option Best → ℕ → rust.Option Ballot → rust.Option Best
+better_of top x r None = x
+better_of top x r (Some t) = pick (eqb t.normal top && ltb (sync_of x) t.sync) (Some (record { replica = r; sync = t.sync })) x
+
+-- of the first r replicas, this one's vote is the best that counts
+pub record BestIn (n : ℕ) (vs : List (Option Vote)) (top r : ℕ) (b : Best) : Type 0 where
   pub is : best (with_normal top (take r vs)) ≡ vote_of (get_or vs b.replica none)
   pub sync : b.sync ≡ (vote_of (get_or vs b.replica none)).sync
-  pub within : b.replica ≤ n
-  pub held : b.replica < n → is_some (get_or vs b.replica none) ≡ true
-  pub some : b.replica < n → 0 < b.sync
+  pub within : b.replica < n
+  pub held : is_some (get_or vs b.replica none) ≡ true
+  pub some : 0 < b.sync
+
+-- the best counted vote of the first r replicas, none where no sync point is above 0
+abbrev pub BestTo : ℕ → List (Option Vote) → ℕ → ℕ → rust.Option Best → Type 0
+BestTo n vs top r x = MatchOption x (best (with_normal top (take r vs)) ≡ vote_of none) (BestIn n vs top r)

@@ -1,11 +1,11 @@
 // The votes of a view change, where they stand in the state and in the message: what each says, which of them count, and which is best.
 #![tactic(auto)]
 
-ghost use Rattle.std.specs.Prelude.{◌≡◌, true, ◌&&◌, List, ℕ, ◌<◌, eqb, ltb, get_or};
+ghost use Rattle.std.specs.Prelude.{◌≡◌, true, List, ℕ, ◌<◌, get_or};
 ghost use Rattle.std.proofs.Math.Option.{none};
-ghost use Rattle.rules.specs.Choice.{pick, is_some};
+ghost use Rattle.rules.specs.Choice.{is_some};
 ghost use Rattle.rules.specs.Rebuild.{top_from};
-ghost use Rattle.ballots.specs.Ballots.{votes_in, vote_of, counts_at, Sent, Given, Tells, Lists, BestTo};
+ghost use Rattle.ballots.specs.Ballots.{votes_in, vote_of, counts_at, Sent, Given, Tells, Lists, better_of, BestTo};
 
 use rules::Shape;
 
@@ -21,15 +21,14 @@ pub struct Cast {
     pub entering: bool,
 }
 
-// Of a replica's vote: whether there is one, and its last normal gView and sync point.
+// Of a replica's vote: its last normal gView and sync point.
 #[derive(Clone, Copy)]
 struct Ballot {
-    held: bool,
     normal: u64,
     sync: u64,
 }
 
-// A replica whose vote has the largest sync point so far.
+// The replica whose vote has the largest sync point so far, and that sync point.
 #[derive(Clone, Copy)]
 pub struct Best {
     pub replica: u64,
@@ -38,30 +37,34 @@ pub struct Best {
 
 // ---- one vote
 
-// What the vote of replica r says: the sender's stands in the message, and where the step enters a greater view only the own one is kept beside it.
-fn ballot_of(shape: Shape, state: &[u8], cast: Cast, r: u64) -> Ballot
+// What the vote of replica r says, where there is one: the sender's stands in the message, and where the step enters a greater view only the own one is
+// kept beside it.
+fn ballot_of(shape: Shape, state: &[u8], cast: Cast, r: u64) -> Option<Ballot>
     requires { Sent shape state.now cast × (r < shape.n) }
     ensures { (msg : List ℕ) → Tells (get_or (votes_in shape state.now msg cast) r none) result }
 {
     if r == cast.sender {
-        return Ballot {
-            held: true,
+        return Some(Ballot {
             normal: cast.normal,
             sync: cast.sync,
-        };
+        });
     }
     if cast.entering {
-        return Ballot {
-            held: r == places::get_replica(state),
+        if r != places::get_replica(state) {
+            return None;
+        }
+        return Some(Ballot {
             normal: places::get_normal(state) as u64,
             sync: places::get_sync(state),
-        };
+        });
     }
-    Ballot {
-        held: places::vote_flag(shape, state, r),
+    if !places::vote_flag(shape, state, r) {
+        return None;
+    }
+    Some(Ballot {
         normal: places::vote_normal(shape, state, r) as u64,
         sync: places::vote_sync(shape, state, r),
-    }
+    })
 }
 
 // Whether the vote of replica r counts: there is one, with the greatest last normal gView.
@@ -69,62 +72,50 @@ pub fn counted(shape: Shape, state: &[u8], cast: Cast, top: u64, r: u64) -> bool
     requires { Sent shape state.now cast × (r < shape.n) }
     ensures { (msg : List ℕ) → result ≡ counts_at top (get_or (votes_in shape state.now msg cast) r none) }
 {
-    let ballot = ballot_of(shape, state, cast, r);
-    ballot.held & (ballot.normal == top)
+    ballot_of(shape, state, cast, r).is_some_and(|ballot| ballot.normal == top)
 }
 
 // ---- the votes that count
-
-// The greater of a last normal gView and that of one vote more.
-fn raised(top: u64, ballot: Ballot) -> u64
-    ensures { result ≡ pick (ballot.held && ltb top ballot.normal) ballot.normal top }
-{
-    if ballot.held & (top < ballot.normal) {
-        return ballot.normal;
-    }
-    top
-}
 
 // The greatest last normal gView.
 pub fn top_normal(shape: Shape, state: &[u8], cast: Cast) -> u64
     requires { Sent shape state.now cast }
     ensures { (msg : List ℕ) → result ≡ top_from 0 (votes_in shape state.now msg cast) }
 {
-    let mut top = 0;
-    let mut r = 0;
-    while r < shape.n {
-        top = raised(top, ballot_of(shape, state, cast, r));
-        r += 1;
+    let mut top: u64 = 0;
+    for r in 0..shape.n {
+        if let Some(ballot) = ballot_of(shape, state, cast, r) {
+            top = top.max(ballot.normal);
+        }
     }
     top
 }
 
 // The better of the best vote so far and that of replica r, which has to count and to have a larger sync point: so the lowest replica wins a tie.
-fn better(top: u64, best: Best, r: u64, ballot: Ballot) -> Best
-    ensures { result ≡ pick (ballot.held && (eqb ballot.normal top && ltb best.sync ballot.sync)) (record { replica = r; sync = ballot.sync }) best }
+fn better(top: u64, best: Option<Best>, r: u64, ballot: Option<Ballot>) -> Option<Best>
+    ensures { result ≡ better_of top best r ballot }
 {
-    if ballot.held & ((ballot.normal == top) & (best.sync < ballot.sync)) {
-        return Best {
+    let Some(ballot) = ballot else {
+        return best;
+    };
+    let most = best.map_or(0, |best| best.sync);
+    if (ballot.normal == top) & (most < ballot.sync) {
+        return Some(Best {
             replica: r,
             sync: ballot.sync,
-        };
+        });
     }
     best
 }
 
-// The vote that gives the prefix; n where no sync point is above 0.
-pub fn best_vote(shape: Shape, state: &[u8], cast: Cast, top: u64) -> Best
+// The vote that gives the prefix; none where no sync point is above 0.
+pub fn best_vote(shape: Shape, state: &[u8], cast: Cast, top: u64) -> Option<Best>
     requires { Sent shape state.now cast }
     ensures { (msg : List ℕ) → BestTo shape.n (votes_in shape state.now msg cast) top shape.n result }
 {
-    let mut best = Best {
-        replica: shape.n,
-        sync: 0,
-    };
-    let mut r = 0;
-    while r < shape.n {
+    let mut best: Option<Best> = None;
+    for r in 0..shape.n {
         best = better(top, best, r, ballot_of(shape, state, cast, r));
-        r += 1;
     }
     best
 }

@@ -14,7 +14,7 @@ ghost use Rattle.handler.specs.Sending.{message_bytes};
 ghost use Rattle.views.specs.Views.{views_of};
 ghost use Rattle.changes.specs.Changes.{leads_with, entered_by, led_by, log_in, vote_in, start_in};
 
-use rules::{Answer, Message, Shape, kind, refusal, status};
+use rules::{Answer, Message, Refusal, Shape, kind, status};
 
 // ---- entering a view
 
@@ -104,20 +104,20 @@ pub fn on_change_view(
         ≡ handled 7 on_change_view shape m state.old message.now out.old }
 {
     let Message::ChangeView(h) = m else {
-        return Answer::Refused(refusal::MALFORMED, 0);
+        return Err(Refusal::Malformed(0));
     };
     let view = h.view;
     if leads_by(shape, state, message) {
         enter(shape, state, view, true, message);
-        return Answer::Done(0);
+        return Ok(0);
     }
     let count = places::log_length(shape, state);
     if out.len() < kinds::length_for(shape.s, kind::VOTE, count) {
-        return Answer::Refused(refusal::NO_ROOM, 0);
+        return Err(Refusal::NoRoom);
     }
     enter(shape, state, view, false, message);
     let sent = tell_vote(shape, state, out);
-    Answer::Done(sent)
+    Ok(sent)
 }
 
 // ---- starting a view
@@ -135,16 +135,16 @@ pub fn on_start_view(
         ≡ handled 9 on_start_view shape m state.old message.now out.old }
 {
     let Message::StartView(h) = m else {
-        return Answer::Refused(refusal::MALFORMED, 0);
+        return Err(Refusal::Malformed(0));
     };
     let view = h.view;
     let at = kinds::entries_at(shape.s, kind::START_VIEW);
     let number = octets::get32(message, at) as usize;
     if (shape.c as usize) < number {
-        return Answer::Refused(refusal::FULL, 0);
+        return Err(Refusal::Full);
     }
     views::begin(shape, state, view, message, message, at + 4, number);
-    Answer::Done(0)
+    Ok(0)
 }
 
 // The leader starts the view with the log in the table `draft`, and sends it to all followers.
@@ -164,9 +164,9 @@ pub fn start_leading(
 {
     let number = entries::count(draft);
     if out.len() < kinds::length_for(shape.s, kind::START_VIEW, number) {
-        return Answer::Refused(refusal::NO_ROOM, 0);
+        return Err(Refusal::NoRoom);
     }
     views::begin(shape, state, view, message, draft, 4, number);
     let sent = tell_start(shape, state, out);
-    Answer::Done(sent)
+    Ok(sent)
 }

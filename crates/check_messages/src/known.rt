@@ -1,39 +1,27 @@
 // Known answers: FNV-1a at 64 bits by the published vectors and past 64 bytes, the sizes that follow from n, and the commit rule.
 use scripts::Row;
 
+// A hundred bytes, and how many the first of two parts has.
+const HUNDRED: &[u8] =
+    b"chongo was here!\nchongo was here!\nchongo was here!\nchongo was here!\nchongo was here!\nchongo was here";
+
+const FRONT: usize = 51;
+
 // The digest of the text that stands in the check's name, behind "digest of ".
-fn named(text: &[u8], row: Row) -> u64 {
-    let from = row.name;
-    let upto = row.end;
-    if 1000000 < from {
-        return 0;
-    }
-    if upto < from + 10 {
-        return 0;
-    }
-    if text.len() < upto {
-        return 0;
-    }
-    digest::digest_of(&text[from + 10..upto])
+fn named(name: &str) -> Option<u64> {
+    let text = name.strip_prefix("digest of ")?;
+    Some(digest::digest_of(text.as_bytes()))
 }
 
-// A hundred bytes, at once or in two parts.
-fn long(in_parts: bool) -> u64 {
-    if in_parts {
-        let front = digest::digest_of(b"chongo was here!\nchongo was here!\nchongo was here!\n");
-        return digest::digest_on(
-            front,
-            b"chongo was here!\nchongo was here!\nchongo was here",
-        );
-    }
-    digest::digest_of(
-        b"chongo was here!\nchongo was here!\nchongo was here!\nchongo was here!\nchongo was here!\nchongo was here",
-    )
+// The digest of the hundred bytes in two parts.
+fn run_on() -> Option<u64> {
+    let (front, back) = HUNDRED.split_at_checked(FRONT)?;
+    Some(digest::digest_on(digest::digest_of(front), back))
 }
 
 // The commit point of replica 0 as the leader of five: 4, 6 and 2 heard, the last not.
 fn some_heard(logged: u64, before: u64) -> u64 {
-    let mut heard = [0u8; 45];
+    let mut heard = [0; 45];
     heard[9] = 1;
     heard[10] = 4;
     heard[18] = 1;
@@ -45,22 +33,21 @@ fn some_heard(logged: u64, before: u64) -> u64 {
 
 // The commit point of replica 0 as the leader of three: none heard.
 fn none_heard(logged: u64, before: u64) -> u64 {
-    let heard = [0u8; 27];
-    group::commit_point(3, 0, logged, &heard, before)
+    group::commit_point(3, 0, logged, &[0; 27], before)
 }
 
 // What a row asks.
-pub fn ask(text: &[u8], row: Row) -> u64 {
-    let asks = row.asks;
-    match asks {
-        b'd' => named(text, row),
-        b'n' => digest::digest_of(b""),
-        b'l' => long(false),
-        b'p' => long(true),
-        b'm' => rules::GroupSize(row.first).majority(),
-        b'r' => rules::GroupSize(row.first).recovery(),
-        b'h' => some_heard(row.first, row.second),
-        b'c' => none_heard(row.first, row.second),
-        _ => 1000,
+pub fn ask(row: &Row<'_>) -> Option<u64> {
+    let [first, second, ..] = row.numbers;
+    match row.asks {
+        'd' => named(row.name),
+        'n' => Some(digest::digest_of(b"")),
+        'l' => Some(digest::digest_of(HUNDRED)),
+        'p' => run_on(),
+        'm' => Some(rules::GroupSize(first).majority()),
+        'r' => Some(rules::GroupSize(first).recovery()),
+        'h' => Some(some_heard(first, second)),
+        'c' => Some(none_heard(first, second)),
+        _ => None,
     }
 }

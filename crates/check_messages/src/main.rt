@@ -19,82 +19,60 @@ mod samples;
 mod ticks;
 
 use rules::Message;
-use samples::{answer_of, told_by};
-use scripts::Row;
+use scripts::{Report, Row};
 use std::io;
+use wire::decode::{answer_of, offset_of};
+
+// A kind's message with some of its bytes changed, read.
+fn changed(kind: u64, changes: &[(u64, u64)]) -> Option<Message> {
+    let mut bytes = [0; 128];
+    let length = samples::write_in(3, 2, u8::try_from(kind).ok()?, &mut bytes).unwrap_or(0);
+    for (place, value) in changes {
+        *bytes.get_mut(*place as usize)? = u8::try_from(*value).ok()?;
+    }
+    Some(samples::read(bytes.get(..length)?))
+}
+
+// The bytes that a row speaks of, read; none where there are no such bytes.
+fn read_of(row: &Row<'_>) -> Option<Message> {
+    let [first, place, value, last, other, _] = row.numbers;
+    match row.asks {
+        'o' => changed(first, &[(place, value)]),
+        'b' => changed(first, &[(place, value), (last, other)]),
+        _ => ticks::read_tick(first as usize),
+    }
+}
 
 // Bytes that are no message: the answer, and the offset of the first wrong field.
-fn none(rt: &impl Print, text: &[u8], row: Row, m: Message) -> io::Result<u64> {
-    scripts::write_name(rt, text, row)?;
-    print!(rt; ": answer 2")?;
-    let failed = scripts::same(rt, answer_of(m), 2)?;
-    let offset = told_by(m).first;
-    scripts::write_name(rt, text, row)?;
-    print!(rt; ": offset {offset}")?;
-    Ok(scripts::more(failed, scripts::same(rt, offset, row.want)?))
+fn none<R: Print>(report: &mut Report<'_, R>, row: &Row<'_>) -> io::Result<()> {
+    let m = read_of(row).unwrap_or(Message::WrongSizes);
+    let name = row.name;
+    report.line(
+        format_args!("{name}: answer 2"),
+        Some(u64::from(answer_of(m))),
+        2,
+    )?;
+    let offset = offset_of(m) as u64;
+    report.line(
+        format_args!("{name}: offset {offset}"),
+        Some(offset),
+        row.want,
+    )
 }
 
-// A kind's message with two of its bytes changed.
-fn changed(kind: u64, at: usize, value: u64, last: usize, other: u64) -> Message {
-    let mut bytes = [0u8; 128];
-    let length = samples::length_of(samples::write_in(3, 2, (kind % 256) as u8, &mut bytes));
-    if 127 < at {
-        return Message::WrongSizes;
+// Does what a row says.
+fn check<R: Print>(report: &mut Report<'_, R>, row: &Row<'_>) -> io::Result<()> {
+    let [first, second, ..] = row.numbers;
+    match row.asks {
+        'k' => rounds::check(report, first, second),
+        'o' | 'b' | 't' => none(report, row),
+        'A'..='Z' => report.row(row, ticks::ask(row)),
+        _ => report.row(row, known::ask(row)),
     }
-    if 127 < last {
-        return Message::WrongSizes;
-    }
-    octets::put8(&mut bytes, at, (value % 256) as u8);
-    octets::put8(&mut bytes, last, (other % 256) as u8);
-    samples::read_first(&bytes, length)
-}
-
-// The bytes that a row speaks of, read.
-fn read_of(row: Row) -> Message {
-    let at = row.second as usize;
-    let asks = row.asks;
-    match asks {
-        b'o' => changed(row.first, at, row.third, at, row.third),
-        b'b' => changed(row.first, at, row.third, row.fourth as usize, row.fifth),
-        _ => ticks::read_tick(row.first as usize),
-    }
-}
-
-// Does what a row says, and answers how many of its checks failed.
-fn check(rt: &impl Print, text: &[u8], row: Row) -> io::Result<u64> {
-    let asks = row.asks;
-    match asks {
-        b'k' => rounds::check(rt, row.first, row.second),
-        b'o' | b'b' | b't' => none(rt, text, row, read_of(row)),
-        b'A'..=b'Z' => scripts::told(rt, text, row, ticks::ask(row)),
-        _ => scripts::told(rt, text, row, known::ask(text, row)),
-    }
-}
-
-// Runs a script, and answers how many of its checks failed.
-fn run(rt: &impl Print, text: &[u8]) -> io::Result<u64> {
-    let mut failed = 0;
-    let mut at = 0;
-    while at < text.len() {
-        let row = scripts::row_at(text, at);
-        failed = scripts::more(failed, check(rt, text, row)?);
-        let end = row.end;
-        if end < at {
-            return Ok(1000);
-        }
-        if text.len() <= end {
-            return Ok(failed);
-        }
-        at = end + 1;
-    }
-    Ok(failed)
 }
 
 // Published vectors and worked numbers.
-fn published(rt: &impl Print) -> io::Result<u64> {
-    run(
-        rt,
-        b"\
+const PUBLISHED: &str = "\
 n|xcbf29ce484222325|digest of nothing
 d|xaf63dc4c8601ec8c|digest of a
 d|xaf63df4c8601f1a5|digest of b
@@ -119,15 +97,10 @@ h 7 0|4|commit, three heard
 h 7 5|5|commit, 5 before
 c 5 0|0|commit, none heard
 c 5 2|2|commit, none heard, 2 before
-",
-    )
-}
+";
 
 // Every kind and the length of its message.
-fn kinds(rt: &impl Print) -> io::Result<u64> {
-    run(
-        rt,
-        b"\
+const KINDS: &str = "\
 k 1 64
 k 3 56
 k 4 80
@@ -141,15 +114,10 @@ k 11 40
 k 18 40
 k 19 80
 k 23 32
-",
-    )
-}
+";
 
 // What is refused of every kind alike.
-fn heads(rt: &impl Print) -> io::Result<u64> {
-    run(
-        rt,
-        b"\
+const HEADS: &str = "\
 o 11 0 0|0|kind 0
 o 11 0 2|0|kind 2
 o 11 0 24|0|kind 24
@@ -162,15 +130,10 @@ o 11 5 1|5|first zero
 o 11 7 1|5|last zero
 o 11 12 1|12|one view
 o 11 12 3|12|three views
-",
-    )
-}
+";
 
 // Kinds 1 and 3.
-fn transactions(rt: &impl Print) -> io::Result<u64> {
-    run(
-        rt,
-        b"\
+const TRANSACTIONS: &str = "\
 b 1 20 0 28 0|28|kind 1, due 0
 o 1 27 128|28|kind 1, due past 2^63
 o 1 8 1|8|kind 1, gView 1
@@ -185,30 +148,20 @@ o 3 54 1|54|kind 3, not of the sender's group
 o 3 54 2|54|kind 3, not of its group
 o 3 32 0|32|kind 3, timestamp 0
 o 3 39 128|32|kind 3, timestamp past 2^63
-",
-    )
-}
+";
 
 // Kinds 5 and 6.
-fn replies(rt: &impl Print) -> io::Result<u64> {
-    run(
-        rt,
-        b"\
+const REPLIES: &str = "\
 o 5 28 2|28|kind 5, placed 2
 o 5 28 0|36|kind 5, not placed, position 9
 o 5 36 0|36|kind 5, placed, position 0
 o 5 52 0|52|kind 5, no entry
 o 6 2 2|2|kind 6, to replica 1
 o 6 1 0|1|kind 6, to group 0
-",
-    )
-}
+";
 
 // The kinds with a log.
-fn logs(rt: &impl Print) -> io::Result<u64> {
-    run(
-        rt,
-        b"\
+const LOGS: &str = "\
 o 4 56 4|56|kind 4, timestamps fall
 o 4 78 2|56|kind 4, second not of its group
 o 4 28 3|80|kind 4, three entries
@@ -218,15 +171,10 @@ o 8 36 3|44|kind 8, sync point 3 of 2
 o 9 72 1|56|kind 9, a transaction twice
 o 9 72 0|72|kind 9, request 0
 o 19 78 1|78|kind 19, second not of the sender's group
-",
-    )
-}
+";
 
 // The kinds with no entry.
-fn others(rt: &impl Print) -> io::Result<u64> {
-    run(
-        rt,
-        b"\
+const OTHERS: &str = "\
 o 7 3 0|3|kind 7, from group 0
 o 7 4 0|4|kind 7, from replica 0
 o 7 24 1|24|kind 7, a number
@@ -236,15 +184,10 @@ o 18 36 1|36|kind 18, an entry
 o 23 27 128|20|kind 23, time 2^63
 o 23 8 1|8|kind 23, gView 1
 o 23 4 0|4|kind 23, from replica 0
-",
-    )
-}
+";
 
 // The tick of document 01, one byte fewer and one more, and sizes that are not permitted.
-fn ticks_and_sizes(rt: &impl Print) -> io::Result<u64> {
-    run(
-        rt,
-        b"\
+const TICKS_AND_SIZES: &str = "\
 A|0|tick of document 01
 K|23|its kind
 T|5|its time
@@ -266,18 +209,21 @@ I 3 0|1|S = 0, read
 O 3 0|1|S = 0, written
 I 3 9|1|S = 9, read
 O 3 9|1|S = 9, written
-",
-    )
-}
+";
 
 fn main(rt: HostRuntime) -> io::Result<()> {
-    let mut failed = published(&rt)?;
-    failed = scripts::more(failed, kinds(&rt)?);
-    failed = scripts::more(failed, heads(&rt)?);
-    failed = scripts::more(failed, transactions(&rt)?);
-    failed = scripts::more(failed, replies(&rt)?);
-    failed = scripts::more(failed, logs(&rt)?);
-    failed = scripts::more(failed, others(&rt)?);
-    failed = scripts::more(failed, ticks_and_sizes(&rt)?);
-    scripts::total(&rt, failed)
+    let mut report = Report::new(&rt);
+    for script in [
+        PUBLISHED,
+        KINDS,
+        HEADS,
+        TRANSACTIONS,
+        REPLIES,
+        LOGS,
+        OTHERS,
+        TICKS_AND_SIZES,
+    ] {
+        scripts::run(script, |row| check(&mut report, &row))?;
+    }
+    report.total()
 }

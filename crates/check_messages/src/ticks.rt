@@ -1,75 +1,80 @@
 // The tick of document 01, and sizes that are not permitted.
-use crate::samples::{
-    answer_of, length_of, message_of, number_of, read_first, same_header, told_by, write_in,
-};
-use rules::Message;
+use crate::samples::{Told, message_of, number_of, read, write_in};
+use rules::{Message, kind};
 use scripts::Row;
+use wire::decode::answer_of;
+
+// How long the tick is.
+const LENGTH: usize = 32;
 
 // The tick of document 01: time 5, to group 0, replica 1; and a zero behind it.
 fn tick() -> [u8; 33] {
-    let mut bytes = [0u8; 33];
-    bytes[0] = 0x17;
+    let mut bytes = [0; 33];
+    bytes[0] = kind::TICK;
     bytes[2] = 2;
-    bytes[3] = 0xff;
-    bytes[4] = 0xff;
+    bytes[3] = rules::OUTSIDE;
+    bytes[4] = rules::OUTSIDE;
     bytes[16] = 1;
     bytes[20] = 5;
     bytes
 }
 
 // What the first `length` bytes of them are.
-pub fn read_tick(length: usize) -> Message {
-    let bytes = tick();
-    read_first(&bytes, length)
+pub fn read_tick(length: usize) -> Option<Message> {
+    Some(read(tick().get(..length)?))
+}
+
+// Whether the tick has the header of the sample.
+fn has_header(tick: &Told) -> Option<u64> {
+    let sample = Told::by(message_of(kind::TICK))?;
+    Some(u64::from(tick.header == sample.header))
 }
 
 // What a row asks of that tick read.
-fn read_as(asks: u8) -> u64 {
-    let m = read_tick(32);
-    let got = told_by(m);
-    let want = told_by(message_of(23));
+fn ask_read(asks: char) -> Option<u64> {
+    let m = read_tick(LENGTH)?;
+    let told = Told::by(m)?;
+    let [time, ..] = told.numbers;
     match asks {
-        b'A' => answer_of(m),
-        b'K' => got.kind,
-        b'T' => got.first,
-        b'G' => got.header.to_group as u64,
-        b'R' => got.header.to_mask as u64,
-        _ => same_header(got.header, want.header) as u64,
+        'A' => Some(u64::from(answer_of(m))),
+        'K' => Some(u64::from(told.kind)),
+        'T' => Some(time),
+        'G' => Some(u64::from(told.header.to_group)),
+        'R' => Some(u64::from(told.header.to_mask)),
+        _ => has_header(&told),
     }
 }
 
 // Whether the written tick has those bytes, and its length.
-fn written_as(asks: u8) -> u64 {
-    let bytes = tick();
-    let mut out = [0u8; 33];
-    let answer = write_in(3, 2, 23, &mut out);
-    if asks == b'L' {
-        return length_of(answer) as u64;
+fn ask_written(asks: char) -> u64 {
+    let mut out = [0; 33];
+    let answer = write_in(3, 2, kind::TICK, &mut out);
+    if asks == 'L' {
+        return answer.unwrap_or(0) as u64;
     }
-    (out == bytes) as u64
+    u64::from(out == tick())
 }
 
 // The writer's number for sizes that are not permitted.
 fn written_for(n: u64, s: u64) -> u64 {
-    let mut out = [0u8; 32];
-    number_of(write_in(n, s, 23, &mut out))
+    let mut out = [0; LENGTH];
+    number_of(write_in(n, s, kind::TICK, &mut out))
 }
 
 // The reader's.
 fn read_for(n: u64, s: u64) -> u64 {
-    let bytes = tick();
-    let mut slots = [0u16; 80];
-    answer_of(wire::read(n, s, &bytes, &mut slots))
+    let mut slots = [0; 80];
+    u64::from(answer_of(wire::read(n, s, &tick(), &mut slots)))
 }
 
 // What a row asks.
-pub fn ask(row: Row) -> u64 {
-    let asks = row.asks;
-    match asks {
-        b'A' | b'K' | b'T' | b'G' | b'R' | b'H' => read_as(asks),
-        b'L' | b'B' => written_as(asks),
-        b'I' => read_for(row.first, row.second),
-        b'O' => written_for(row.first, row.second),
-        _ => 1000,
+pub fn ask(row: &Row<'_>) -> Option<u64> {
+    let [n, s, ..] = row.numbers;
+    match row.asks {
+        'A' | 'K' | 'T' | 'G' | 'R' | 'H' => ask_read(row.asks),
+        'L' | 'B' => Some(ask_written(row.asks)),
+        'I' => Some(read_for(n, s)),
+        'O' => Some(written_for(n, s)),
+        _ => None,
     }
 }

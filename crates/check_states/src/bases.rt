@@ -1,157 +1,20 @@
 // Good states of three replicas and three groups with room for 16 entries, all of replica 2 of group 1, as bytes at their places: a fresh
 // one (0), a leader (1), a follower (2), a leader in a view change (3) and across shards (4), a follower without early entries (5), one
 // without a log (6) and one with every table full (7).
+use rules::{Entry, Shape};
 use scripts::Row;
 
-// Where a section of docs/STATE.md begins in these states.
-fn start_of(section: u64) -> u64 {
-    match section {
-        1 => 48,
-        2 => 60,
-        3 => 87,
-        4 => 475,
-        5 => 863,
-        6 => 1251,
-        7 => 1783,
-        8 => 2986,
-        9 => 3374,
-        _ => 0,
-    }
-}
+// The shape and the length of these states.
+pub const SHAPE: Shape = Shape { n: 3, s: 3, c: 16 };
 
-// A place in a section; 5000, past the state's end, for one that is too far.
-pub fn place(section: u64, offset: u64) -> usize {
-    let start = start_of(section);
-    if 4000 < start {
-        return 5000;
-    }
-    if 4000 < offset {
-        return 5000;
-    }
-    (start + offset) as usize
-}
+pub const LENGTH: usize = 4541;
 
-// Writes the lowest 1, 2, 4 or 8 bytes of a number; nothing where they have no room, so that a check of it fails.
-pub fn put(bytes: &mut [u8], at: usize, width: u64, value: u64) {
-    if bytes.len() <= at {
-        return;
-    }
-    if bytes.len() - at < 8 {
-        return;
-    }
-    match width {
-        1 => octets::put8(bytes, at, (value % 256) as u8),
-        2 => octets::put16(bytes, at, (value % 65536) as u16),
-        4 => octets::put32(bytes, at, (value % 4294967296) as u32),
-        8 => octets::put64(bytes, at, value),
-        _ => (),
-    }
-}
+// Where the sections of docs/STATE.md begin in these states.
+const STARTS: [usize; 10] = [0, 48, 60, 87, 475, 863, 1251, 1783, 2986, 3374];
 
-// Writes an entry: a request of coordinator 7, whose number is its command too.
-fn put_entry(memory: &mut [u8], at: usize, stamp: u64, request: u64, mask: u64) {
-    if 5000 < at {
-        return;
-    }
-    put(memory, at, 8, stamp);
-    put(memory, at + 8, 8, request);
-    put(memory, at + 16, 4, request);
-    put(memory, at + 20, 2, 7);
-    put(memory, at + 22, 2, mask);
-}
-
-// Writes a note at its place: of a request of coordinator 7, by the own group.
-fn put_note(memory: &mut [u8], at: usize, request: u64) {
-    if 5000 < at {
-        return;
-    }
-    put(memory, at, 4, request);
-    put(memory, at + 4, 2, 7);
-    put(memory, at + 15, 1, 1);
-    put(memory, at + 16, 8, request);
-}
-
-// Writes number i of a full table's entries, or of the full notes.
-fn put_number(row: Row, memory: &mut [u8], i: usize) {
-    if 15 < i {
-        return;
-    }
-    let request = 100 + i as u64;
-    let at = place(row.second, row.third);
-    if 5000 < at {
-        return;
-    }
-    if row.asks == b'n' {
-        put_note(memory, at + 33 * i, request);
-        return;
-    }
-    let other = scripts::more(request, row.fourth);
-    put_entry(memory, at + 24 * i, other, other, 7);
-}
-
-// Fills a table of entries, or the notes.
-fn fill(row: Row, memory: &mut [u8]) {
-    let mut i = 0;
-    while i < 16 {
-        put_number(row, memory, i);
-        i += 1;
-    }
-}
-
-// The bit of a state in the first number of a row: the sum of those that have what the row says.
-fn bit(base: u64) -> u64 {
-    match base {
-        0 => 1,
-        1 => 2,
-        2 => 4,
-        3 => 8,
-        4 => 16,
-        5 => 32,
-        6 => 64,
-        _ => 128,
-    }
-}
-
-// Does what a row says of a state: p puts a number, e an entry; t fills a table, n the notes.
-fn lay(row: Row, base: u64, memory: &mut [u8]) {
-    if (row.first & bit(base)) == 0 {
-        return;
-    }
-    let at = place(row.second, row.third);
-    let asks = row.asks;
-    match asks {
-        b'p' => put(memory, at, row.fourth, row.fifth),
-        b'e' => put_entry(memory, at, row.fourth, row.fifth, row.sixth),
-        b't' | b'n' => fill(row, memory),
-        _ => (),
-    }
-}
-
-// Does what the rows of a state say.
-fn lay_all(text: &[u8], base: u64, memory: &mut [u8]) {
-    let mut at = 0;
-    while at < text.len() {
-        let row = scripts::row_at(text, at);
-        lay(row, base, memory);
-        let end = row.end;
-        if end < at {
-            return;
-        }
-        if text.len() <= end {
-            return;
-        }
-        at = end + 1;
-    }
-}
-
-// Makes the first bytes one of the states, and what stands behind it zero.
-pub fn build(base: u64, memory: &mut [u8]) {
-    if memory.len() < 5000 {
-        return;
-    }
-    octets::fill_zero(memory, 0, 5000);
-    lay_all(
-        b"\
+// What the states hold. The first number of a row is the sum of the bits of those that have what it says: p puts a number, e an entry; t fills
+// a table, n the notes.
+const ROWS: &str = "\
 # Own group 1, own replica 2, and the status.
 p 255 0 0 1 1
 p 255 0 1 1 2
@@ -237,8 +100,92 @@ p 128 8 0 4 16
 t 128 8 4 0
 p 128 9 1 4 16
 t 128 9 5 0
-",
-        base,
-        memory,
-    );
+";
+
+// A place in a section.
+pub fn place(section: u64, offset: u64) -> Option<usize> {
+    STARTS.get(section as usize)?.checked_add(offset as usize)
+}
+
+// Writes bytes over what stands at a place, none where they have no room.
+fn lay(memory: &mut [u8], at: usize, bytes: &[u8]) -> Option<()> {
+    let place = memory.get_mut(at..)?.get_mut(..bytes.len())?;
+    place.copy_from_slice(bytes);
+    Some(())
+}
+
+// Writes the lowest bytes of a number.
+pub fn put(memory: &mut [u8], at: usize, width: u64, value: u64) -> Option<()> {
+    lay(memory, at, value.to_le_bytes().get(..width as usize)?)
+}
+
+// An entry's bytes.
+pub fn bytes_of(entry: Entry) -> [u8; 24] {
+    let mut bytes = [0; 24];
+    octets::put64(&mut bytes, 0, entry.stamp);
+    octets::put64(&mut bytes, 8, entry.command);
+    octets::put32(&mut bytes, 16, entry.request);
+    octets::put16(&mut bytes, 20, entry.coordinator);
+    octets::put16(&mut bytes, 22, entry.mask);
+    bytes
+}
+
+// An entry: a request of coordinator 7, whose number is its command too.
+fn entry(stamp: u64, request: u64, mask: u64) -> Option<[u8; 24]> {
+    Some(bytes_of(Entry {
+        stamp,
+        command: request,
+        request: u32::try_from(request).ok()?,
+        coordinator: 7,
+        mask: u16::try_from(mask).ok()?,
+    }))
+}
+
+// A note: of a request of coordinator 7, by the own group.
+fn note(request: u64) -> Option<[u8; 33]> {
+    let mut bytes = [0; 33];
+    octets::put32(&mut bytes, 0, u32::try_from(request).ok()?);
+    octets::put16(&mut bytes, 4, 7);
+    octets::put8(&mut bytes, 15, 1);
+    octets::put64(&mut bytes, 16, request);
+    Some(bytes)
+}
+
+// Fills a table of entries, or the notes, from a place on: with 16 requests, to which a table of entries adds a number.
+fn fill(row: &Row<'_>, memory: &mut [u8], at: usize, add: u64) -> Option<()> {
+    for i in 0..16 {
+        let request = 100 + i as u64;
+        if row.asks == 'n' {
+            lay(memory, at.checked_add(33 * i)?, &note(request)?)?;
+        } else {
+            let other = request.checked_add(add)?;
+            lay(memory, at.checked_add(24 * i)?, &entry(other, other, 7)?)?;
+        }
+    }
+    Some(())
+}
+
+// Does what a row says of a state.
+fn follow(row: &Row<'_>, memory: &mut [u8]) -> Option<()> {
+    let [_, section, offset, first, second, third] = row.numbers;
+    let at = place(section, offset)?;
+    match row.asks {
+        'p' => put(memory, at, first, second),
+        'e' => lay(memory, at, &entry(first, second, third)?),
+        't' | 'n' => fill(row, memory, at, first),
+        _ => None,
+    }
+}
+
+// Makes the first bytes one of the states, and what stands behind it zero.
+pub fn build(base: u64, memory: &mut [u8]) -> Option<()> {
+    memory.get_mut(..5000)?.fill(0);
+    let base = u32::try_from(base).ok()?;
+    for row in ROWS.lines().filter_map(Row::of) {
+        let [bases, ..] = row.numbers;
+        if bases.checked_shr(base)? % 2 == 1 {
+            follow(&row, memory)?;
+        }
+    }
+    Some(())
 }

@@ -1,11 +1,7 @@
 // Each conjunct of a good state, broken alone by one number, and numbers at their bounds.
-use std::io;
 
 // The head, the views, the points and the points heard.
-fn heads(rt: &impl Print, memory: &mut [u8], out: &mut [u8]) -> io::Result<u64> {
-    crate::run(
-        rt,
-        b"\
+pub const HEADS: &str = "\
 # The own numbers. With entries, a group S would also be in none of their masks.
 g 0 0 0 1 3|0|fresh, broken: own group S
 g 0 0 0 1 2|1|fresh, good: own group S - 1
@@ -45,17 +41,10 @@ g 1 2 1 8 3|1|leader, good: heard equal to sync
 g 3 2 1 8 4|1|view change, good: heard above sync
 g 2 2 0 1 1|0|follower, broken: heard 0
 g 2 2 0 2 257|0|follower, broken: heard 1
-",
-        memory,
-        out,
-    )
-}
+";
 
 // Votes and replies kept, the notes, and what a leader's early entries have to do with them.
-fn kept(rt: &impl Print, memory: &mut [u8], out: &mut [u8]) -> io::Result<u64> {
-    crate::run(
-        rt,
-        b"\
+pub const KEPT: &str = "\
 # Votes: that of replica 0, and an empty one of replica 1, with which there are F + 1.
 g 3 7 1 4 5|0|view change, broken: vote, last normal gView
 g 3 7 1 4 4|1|view change, good: vote, last normal gView - 1
@@ -89,17 +78,10 @@ g 3 4 4 8 21|1|view change, good: not agreed, off its note
 g 1 6 43 2 4865|1|leader, good: agreed by a lower note
 g 1 6 43 2 8705|0|leader, broken: agreed by a greater note
 g 1 6 61 2 8705|1|leader, good: noted past its mask
-",
-        memory,
-        out,
-    )
-}
+";
 
 // The entries of each log.
-fn logs(rt: &impl Print, memory: &mut [u8], out: &mut [u8]) -> io::Result<u64> {
-    crate::run(
-        rt,
-        b"\
+pub const LOGS: &str = "\
 # A log: its first entry out of range, at its bounds, or not of the own group (an empty mask also lacks it); the last timestamp that is in
 # range, and the next, of an entry after which none stands; order, and a transaction that stands twice. In the log itself such a
 # transaction also stands twice over log, early and late.
@@ -150,17 +132,10 @@ g 4 9 29 8 x7fffffffffffffff|1|cross-shard, reply: last timestamp, good
 g 4 9 29 8 x8000000000000000|0|cross-shard, reply: timestamp 2^63
 g 4 9 5 8 22|0|cross-shard, reply: timestamps fall
 g 4 9 21 4 2|0|cross-shard, reply: transaction twice
-",
-        memory,
-        out,
-    )
-}
+";
 
 // The entries of the early buffer and of the late one.
-fn buffers(rt: &impl Print, memory: &mut [u8], out: &mut [u8]) -> io::Result<u64> {
-    crate::run(
-        rt,
-        b"\
+pub const BUFFERS: &str = "\
 # Early entries. Without a log, since an early timestamp 0 would also be below the log's last.
 g 6 4 4 8 0|0|no log, early: timestamp 0
 g 6 4 20 4 0|0|no log, early: request 0
@@ -194,16 +169,4 @@ g 3 4 4 8 31|0|view change, broken: early not in order
 g 2 4 4 8 30|0|follower, broken: early, requests of one timestamp fall
 g 2 4 28 8 21|1|follower, good: early at a lower timestamp, still in order
 g 2 5 4 8 21|1|follower, good: late above the log
-",
-        memory,
-        out,
-    )
-}
-
-// All of these.
-pub fn check(rt: &impl Print, memory: &mut [u8], out: &mut [u8]) -> io::Result<u64> {
-    let mut failed = heads(rt, memory, out)?;
-    failed = scripts::more(failed, kept(rt, memory, out)?);
-    failed = scripts::more(failed, logs(rt, memory, out)?);
-    Ok(scripts::more(failed, buffers(rt, memory, out)?))
-}
+";

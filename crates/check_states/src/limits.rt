@@ -1,11 +1,7 @@
 // The room of a log and of what is sent, through the whole step.
-use std::io;
 
 // Every row of the topic.
-pub fn check(rt: &impl Print, memory: &mut [u8], out: &mut [u8]) -> io::Result<u64> {
-    crate::run(
-        rt,
-        b"\
+pub const ROWS: &str = "\
 # Replica 1 of one group, a follower in view 0, takes 16 transactions, each due at the time of its request, and releases them at 100. Its log
 # begins at 79, and early at 467.
 s 3 1 16 0 1 3467|0|follower of C = 16, start
@@ -77,8 +73,4 @@ k 0|5|kind 5 first
 k 76|10|kind 10 behind it
 r 79 4|16|logged
 r 467 4|0|early
-",
-        memory,
-        out,
-    )
-}
+";

@@ -25,6 +25,7 @@
 #![tactic(auto)]
 
 mod bases;
+mod bench;
 mod conjuncts;
 mod forms;
 mod limits;
@@ -34,86 +35,79 @@ mod shapes;
 mod starts;
 mod steps;
 
+use bench::Bench;
 use rules::Shape;
-use scripts::Row;
+use scripts::{Report, Row};
+use shapes::Start;
 use std::io;
 
 // Whether a state is good with a number put over what stood there.
-fn good_with(row: Row, memory: &mut [u8]) -> bool {
-    bases::build(row.first, memory);
-    let at = bases::place(row.second, row.third);
-    bases::put(memory, at, row.fourth, row.fifth);
-    shapes::good_in(Shape { n: 3, s: 3, c: 16 }, memory, 4541)
+fn good_with(row: &Row<'_>, memory: &mut [u8]) -> Option<bool> {
+    let [base, section, offset, width, value, _] = row.numbers;
+    bases::build(base, memory)?;
+    let state = memory.get_mut(..bases::LENGTH)?;
+    bases::put(state, bases::place(section, offset)?, width, value)?;
+    Some(shapes::good_in(bases::SHAPE, state))
 }
 
 // Whether the first bytes of a state are a good one.
-fn good_part(row: Row, memory: &mut [u8]) -> bool {
-    bases::build(row.first, memory);
-    let length = row.second as usize;
-    shapes::good_in(Shape { n: 3, s: 3, c: 16 }, memory, length)
+fn good_part(base: u64, length: u64, memory: &mut [u8]) -> Option<bool> {
+    bases::build(base, memory)?;
+    let part = memory.get(..length as usize)?;
+    Some(shapes::good_in(bases::SHAPE, part))
 }
 
 // A start on bytes that are all 255.
-fn start(row: Row, shape: Shape, memory: &mut [u8]) -> u64 {
-    shapes::fill(memory);
-    let length = row.sixth as usize;
-    shapes::start_in(shape, row.fourth, row.fifth, memory, length)
+fn start(start: Start, memory: &mut [u8], length: u64) -> Option<u64> {
+    memory.fill(255);
+    let state = memory.get_mut(..length as usize)?;
+    Some(start.on(state))
 }
 
 // What a row asks.
-fn ask(row: Row, memory: &mut [u8], out: &mut [u8]) -> u64 {
-    let shape = Shape {
-        n: row.first,
-        s: row.second,
-        c: row.third,
-    };
-    let length = row.fourth as usize;
-    let asks = row.asks;
-    match asks {
-        b'g' => good_with(row, memory) as u64,
-        b'b' => good_part(row, memory) as u64,
-        b'w' => shapes::good_in(shape, memory, length) as u64,
-        b'z' => shapes::fresh_good(shape, memory, length) as u64,
-        b'l' => replica::jallumere_state_length(row.first, row.second, row.third),
-        b's' => start(row, shape, memory),
-        b'h' => shapes::right_of(row.first, row.second, row.third, memory),
-        _ => said::ask(row, memory, out),
+fn ask(row: &Row<'_>, bench: &mut Bench<'_>) -> Option<u64> {
+    let [n, s, c, fourth, own, length] = row.numbers;
+    let shape = Shape { n, s, c };
+    match row.asks {
+        'g' => good_with(row, bench.memory).map(u64::from),
+        'b' => good_part(n, s, bench.memory).map(u64::from),
+        'w' => shapes::good_first(shape, bench.memory, fourth).map(u64::from),
+        'z' => shapes::fresh_good(shape, bench.memory, fourth).map(u64::from),
+        'l' => Some(replica::jallumere_state_length(n, s, c)),
+        's' => {
+            let group = fourth;
+            start(Start { shape, group, own }, bench.memory, length)
+        }
+        'h' => Some(shapes::right_of(n, s, c, bench.memory)),
+        _ => said::ask(row, bench),
     }
 }
 
-// Runs a script, and answers how many of its checks failed.
-pub fn run(rt: &impl Print, text: &[u8], memory: &mut [u8], out: &mut [u8]) -> io::Result<u64> {
-    let mut failed = 0;
-    let mut at = 0;
-    while at < text.len() {
-        let row = scripts::row_at(text, at);
-        let got = ask(row, memory, out);
-        failed = scripts::more(failed, scripts::told(rt, text, row, got)?);
-        let end = row.end;
-        if end < at {
-            return Ok(1000);
-        }
-        if text.len() <= end {
-            return Ok(failed);
-        }
-        at = end + 1;
-    }
-    Ok(failed)
-}
+// One byte more than the greatest state.
+const MEMORY: usize = 2187587;
 
 // Every topic, on one memory.
-fn check(rt: &impl Print, memory: &mut [u8; 2187587], out: &mut [u8; 2080]) -> io::Result<u64> {
-    let mut failed = starts::check(rt, memory, out)?;
-    failed = scripts::more(failed, conjuncts::check(rt, memory, out)?);
-    failed = scripts::more(failed, forms::check(rt, memory, out)?);
-    failed = scripts::more(failed, limits::check(rt, memory, out)?);
-    Ok(scripts::more(failed, questions::check(rt, memory, out)?))
+fn check(rt: &impl Print, memory: &mut [u8; MEMORY], out: &mut [u8; 2048]) -> io::Result<()> {
+    let mut bench = Bench::new(memory, out);
+    let mut report = Report::new(rt);
+    for script in [
+        starts::ROWS,
+        conjuncts::HEADS,
+        conjuncts::KEPT,
+        conjuncts::LOGS,
+        conjuncts::BUFFERS,
+        forms::ROWS,
+        limits::ROWS,
+        questions::ROWS,
+    ] {
+        scripts::run(script, |row| report.row(&row, ask(&row, &mut bench)))?;
+    }
+    report.total()
 }
 
-// The memory has one byte more than the greatest state. It is made here alone, since it is long.
+// The memory is made here alone, since it is long.
 fn main(rt: HostRuntime) -> io::Result<()> {
-    let mut memory = [0u8; 2187587];
-    let mut out = [255u8; 2080];
-    let failed = check(&rt, &mut memory, &mut out)?;
-    scripts::total(&rt, failed)
+    let mut memory = [0; MEMORY];
+    let mut out = [255; 2048];
+    check(&rt, &mut memory, &mut out)
 }

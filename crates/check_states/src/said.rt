@@ -1,62 +1,47 @@
 // What the core says of itself, of the first bytes of the memory as a state, and of outgoing bytes.
 use crate::bases::put;
+use crate::bench::Bench;
 use scripts::Row;
 
-// The next message's length in the outgoing bytes from one place up to another, or 1000 where there are fewer.
-fn next_length(row: Row, out: &[u8]) -> u64 {
-    let from = row.third as usize;
-    let upto = row.fourth as usize;
-    if upto < from {
-        return 1000;
-    }
-    if out.len() < upto {
-        return 1000;
-    }
-    replica::jallumere_message_length(row.first, row.second, &out[from..upto])
+// The next message's length in the outgoing bytes from one place up to another.
+fn next_length(row: &Row<'_>, out: &[u8]) -> Option<u64> {
+    let [n, s, from, upto, ..] = row.numbers;
+    let bytes = out.get(from as usize..upto as usize)?;
+    Some(replica::jallumere_message_length(n, s, bytes))
 }
 
 // A field, a view or an entry's field that a state says.
-fn said(row: Row, memory: &[u8]) -> u64 {
-    let length = row.fourth as usize;
-    if memory.len() < length {
-        return 1000;
-    }
-    let state = &memory[0..length];
-    let asks = row.asks;
-    match asks {
-        b'f' => replica::jallumere_field(row.first, row.second, row.third, row.fifth, state),
-        b'v' => replica::jallumere_group_view(row.first, row.second, row.third, row.fifth, state),
-        _ => replica::jallumere_entry(
-            row.first, row.second, row.third, row.fifth, row.sixth, state,
-        ),
+fn said(row: &Row<'_>, memory: &[u8]) -> Option<u64> {
+    let [n, s, c, length, number, field] = row.numbers;
+    let state = memory.get(..length as usize)?;
+    match row.asks {
+        'f' => Some(replica::jallumere_field(n, s, c, number, state)),
+        'v' => Some(replica::jallumere_group_view(n, s, c, number, state)),
+        'e' => Some(replica::jallumere_entry(n, s, c, number, field, state)),
+        _ => None,
     }
 }
 
 // The number at a place of the memory, of 4 or 8 bytes.
-fn look(at: usize, width: u64, memory: &[u8]) -> u64 {
-    if width == 4 {
-        return octets::look32(memory, at) as u64;
+fn look(at: u64, width: u64, memory: &[u8]) -> Option<u64> {
+    match width {
+        4 => Some(u64::from(octets::look32(memory, at as usize))),
+        8 => Some(octets::look64(memory, at as usize)),
+        _ => None,
     }
-    octets::look64(memory, at)
-}
-
-// Puts a number over what stands at a place.
-fn write(row: Row, bytes: &mut [u8]) -> u64 {
-    put(bytes, row.first as usize, row.second, row.third);
-    0
 }
 
 // What a row asks.
-pub fn ask(row: Row, memory: &mut [u8], out: &mut [u8]) -> u64 {
-    let asks = row.asks;
-    match asks {
-        b'f' | b'v' | b'e' => said(row, memory),
-        b'n' => next_length(row, out),
-        b'r' => look(row.first as usize, row.second, memory),
-        b'p' => write(row, memory),
-        b'x' => write(row, out),
-        b'i' => replica::jallumere_version(),
-        b'm' => replica::jallumere_is_model(),
-        _ => crate::steps::ask(row, memory, out),
+pub fn ask(row: &Row<'_>, bench: &mut Bench<'_>) -> Option<u64> {
+    let [at, width, value, ..] = row.numbers;
+    match row.asks {
+        'f' | 'v' | 'e' => said(row, bench.memory),
+        'n' => next_length(row, bench.out),
+        'r' => look(at, width, bench.memory),
+        'p' => put(bench.memory, at as usize, width, value).map(|()| 0),
+        'x' => put(bench.out, at as usize, width, value).map(|()| 0),
+        'i' => Some(replica::jallumere_version()),
+        'm' => Some(replica::jallumere_is_model()),
+        _ => bench.ask(row),
     }
 }

@@ -1,121 +1,89 @@
 // Starts: every n and S, with the least C, the next and the greatest, at the last replica of the last group.
 use rules::Shape;
 
-// Fills the memory, so that what a start writes or leaves can be seen.
-pub fn fill(memory: &mut [u8]) {
-    let mut i = 0;
-    while i < memory.len() {
-        memory[i] = 255;
-        i += 1;
-    }
+// Whether these bytes are a good state.
+pub fn good_in(shape: Shape, state: &[u8]) -> bool {
+    replica::jallumere_good(shape.n, shape.s, shape.c, state) == 0
 }
 
-// The digest of the first bytes, 0 where there are fewer.
-pub fn digest_in(bytes: &[u8], length: usize) -> u64 {
-    if bytes.len() < length {
-        return 0;
-    }
-    digest::digest_of(&bytes[0..length])
+// Whether the first bytes are.
+pub fn good_first(shape: Shape, memory: &[u8], length: u64) -> Option<bool> {
+    Some(good_in(shape, memory.get(..length as usize)?))
 }
 
-// Whether the first bytes are a good state.
-pub fn good_in(shape: Shape, memory: &[u8], length: usize) -> bool {
-    if memory.len() < length {
-        return false;
-    }
-    replica::jallumere_good(shape.n, shape.s, shape.c, &memory[0..length]) == 0
+// Makes the first bytes those of a fresh state, of replica 0 of group 0, and asks whether they are a good one.
+pub fn fresh_good(shape: Shape, memory: &mut [u8], length: u64) -> Option<bool> {
+    let state = memory.get_mut(..length as usize)?;
+    state.fill(0);
+    *state.get_mut(2)? = 1;
+    Some(good_in(shape, state))
 }
 
-// Starts on the first bytes, and answers the number, or 1000 where there are fewer.
-pub fn start_in(shape: Shape, group: u64, own: u64, memory: &mut [u8], length: usize) -> u64 {
-    if memory.len() < length {
-        return 1000;
-    }
-    replica::jallumere_start(
-        shape.n,
-        shape.s,
-        shape.c,
-        group,
-        own,
-        &mut memory[0..length],
-    )
+// A start: the shape, the own group and the own replica.
+#[derive(Clone, Copy)]
+pub struct Start {
+    pub shape: Shape,
+    pub group: u64,
+    pub own: u64,
 }
 
-// Whether a start on one byte less and on one more is refused with 1, and leaves every byte as it came.
-fn others_refused(shape: Shape, group: u64, own: u64, memory: &mut [u8], length: usize) -> bool {
-    if length < 1 {
-        return false;
+impl Start {
+    // Starts on these bytes, and answers the number.
+    pub fn on(self, state: &mut [u8]) -> u64 {
+        let Shape { n, s, c } = self.shape;
+        replica::jallumere_start(n, s, c, self.group, self.own, state)
     }
-    if memory.len() <= length {
-        return false;
-    }
-    let before = digest_in(memory, length + 1);
-    let less = start_in(shape, group, own, memory, length - 1);
-    let above = start_in(shape, group, own, memory, length + 1);
-    (less == 1) & (above == 1) & (digest_in(memory, length + 1) == before)
-}
 
-// Whether the first bytes are the fresh state's, and the next is as it was.
-fn fresh(group: u64, own: u64, memory: &[u8], length: usize) -> bool {
-    if length < 3 {
-        return false;
+    // Whether a start on one byte less and on one more is refused with 1, and leaves every byte as it came.
+    fn refuses_others(self, bytes: &mut [u8], length: usize) -> Option<bool> {
+        let before = digest::digest_of(bytes);
+        let less = self.on(bytes.get_mut(..length.checked_sub(1)?)?);
+        let above = self.on(bytes);
+        Some(less == 1 && above == 1 && digest::digest_of(bytes) == before)
     }
-    if memory.len() < length {
-        return false;
-    }
-    let group_own = octets::look8(memory, 0) as u64 == group;
-    let named = octets::look8(memory, 1) as u64 == own;
-    let normal = octets::look8(memory, 2) == 1;
-    let free = octets::all_zero(memory, 3, length - 3);
-    group_own & named & normal & free & (octets::look8(memory, length) == 255)
-}
 
-// Whether a fresh state is good, and not with one byte less, with one more, or with its last byte changed.
-fn good_alone(shape: Shape, memory: &mut [u8], length: usize) -> bool {
-    if length < 1 {
-        return false;
+    // Whether these bytes but the last are the fresh state's, and the last is as it was.
+    fn stands_in(self, bytes: &[u8]) -> bool {
+        let [group, own, status, rest @ .., last] = bytes else {
+            return false;
+        };
+        u64::from(*group) == self.group
+            && u64::from(*own) == self.own
+            && *status == 1
+            && octets::all_zero(rest, 0, rest.len())
+            && *last == 255
     }
-    if memory.len() <= length {
-        return false;
-    }
-    let exact = good_in(shape, memory, length);
-    let less = good_in(shape, memory, length - 1);
-    let above = good_in(shape, memory, length + 1);
-    octets::put8(memory, length - 1, 1);
-    exact & !less & !above & !good_in(shape, memory, length)
-}
 
-// Answers 1 where all of this holds of a shape.
-fn right(shape: Shape, group: u64, own: u64, memory: &mut [u8]) -> u64 {
-    let length = replica::jallumere_state_length(shape.n, shape.s, shape.c) as usize;
-    fill(memory);
-    let others = others_refused(shape, group, own, memory, length);
-    let exact = start_in(shape, group, own, memory, length) == 0;
-    let started = fresh(group, own, memory, length);
-    (others & exact & started & good_alone(shape, memory, length)) as u64
+    // Whether these bytes but the last are a good state, and not with one byte less, with one more, or with their last byte changed.
+    fn alone_is_good(self, bytes: &mut [u8], length: usize) -> Option<bool> {
+        let less = length.checked_sub(1)?;
+        let exact = good_in(self.shape, bytes.get(..length)?);
+        let others = good_in(self.shape, bytes.get(..less)?) || good_in(self.shape, bytes);
+        *bytes.get_mut(less)? = 1;
+        Some(exact && !others && !good_in(self.shape, bytes.get(..length)?))
+    }
+
+    // Whether all of this holds.
+    fn is_right(self, memory: &mut [u8]) -> Option<bool> {
+        let Shape { n, s, c } = self.shape;
+        let length = replica::jallumere_state_length(n, s, c) as usize;
+        memory.fill(255);
+        let bytes = memory.get_mut(..length.checked_add(1)?)?;
+        let others = self.refuses_others(bytes, length)?;
+        let exact = self.on(bytes.get_mut(..length)?) == 0;
+        Some(others && exact && self.stands_in(bytes) && self.alone_is_good(bytes, length)?)
+    }
 }
 
 // How many of the eight S start right.
 pub fn right_of(n: u64, c: u64, own: u64, memory: &mut [u8]) -> u64 {
-    let mut count = 0;
-    let mut group = 0;
-    while group < 8 {
-        let s = group + 1;
-        count = scripts::more(count, right(Shape { n, s, c }, group, own, memory));
-        group += 1;
-    }
-    count
-}
-
-// Makes the first bytes those of a fresh state, of replica 0 of group 0, and asks whether they are a good one.
-pub fn fresh_good(shape: Shape, memory: &mut [u8], length: usize) -> bool {
-    if length < 3 {
-        return false;
-    }
-    if memory.len() < length {
-        return false;
-    }
-    octets::fill_zero(memory, 0, length);
-    octets::put8(memory, 2, 1);
-    good_in(shape, memory, length)
+    let right = (1..=8).zip(0..8).filter(|(s, group)| {
+        let start = Start {
+            shape: Shape { n, s: *s, c },
+            group: *group,
+            own,
+        };
+        start.is_right(memory) == Some(true)
+    });
+    right.count() as u64
 }

@@ -1,13 +1,16 @@
 -- The ways through the handler of kind 10. Assumes nothing.
 use Prim.Native.Nat.{ℕ, ◌+◌, ◌*◌, ◌≤◌, ◌<◌}
 use mathlib.Core.Path.{◌≡◌, refl, sym, ap, ◌∙◌}
-use mathlib.Core.Bool.{Bool, true, false, ◌&&◌}
+use mathlib.Core.Bool.{Bool, true, false}
 use mathlib.Core.Option.{Option, none, some}
 use mathlib.Core.List.{List, [], ◌∷◌}
 use native.Mathlib.Omega.{arith}
 use lib.ListN.{length, get_or, set}
-use lib.Dec.{eqb, leb}
+use lib.Dec.{eqb}
 use borrow.Author.Tests.{lt-ltb, le-ltb}
+use Rattle.std.specs.Prelude as Maybe
+use Rattle.std.specs.Prelude.{MatchOption}
+use Rattle.std.specs.Bool.{then_some}
 use Rattle.octets.specs.Bytes.{num, splice, flat}
 use Rattle.rules.specs.Choice.{pick, is_some, any}
 use Rattle.rules.specs.Group.{only}
@@ -35,12 +38,12 @@ use Rattle.handler.proofs.Sends.{Sender, sender, sent_length, own_group, message
 
 -- ---- what is read
 
--- a point is stale where one was heard that is not below it
-pub stale_read : (b : List ℕ) (a p v : ℕ) (f : Bool) → f ≡ is_some (point_at b a) → v ≡ num b (a + 1) 8 → (f && leb p v) ≡ stale p (point_at b a)
+-- a point that was heard is read as such
+pub reported_read : (b : List ℕ) (a v : ℕ) (f : Bool) (r : Maybe.Option ℕ) → f ≡ is_some (point_at b a) → v ≡ num b (a + 1) 8 → r ≡ then_some f v → MatchOption r (point_at b a ≡ none) (λ last. point_at b a ≡ some last)
 unfolding point_at pick
-stale_read b a p v f e q = rw (e, q) (go (eqb (num b a 1) 0))
+reported_read b a v f r e q t = rw (t, e, q) (go (eqb (num b a 1) 0))
   where
-    go : (t : Bool) → (is_some (pick t none (some (num b (a + 1) 8))) && leb p (num b (a + 1) 8)) ≡ stale p (pick t none (some (num b (a + 1) 8)))
+    go : (t : Bool) → MatchOption (then_some (is_some (pick t none (some (num b (a + 1) 8)))) (num b (a + 1) 8)) (pick t none (some (num b (a + 1) 8)) ≡ none) (λ last. pick t none (some (num b (a + 1) 8)) ≡ some last)
     go true = refl
     go false = refl
 

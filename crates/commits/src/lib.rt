@@ -1,8 +1,8 @@
 // The handlers of sync status (kind 10) and commit (kind 11): each changes the state's bytes in place and writes its message to the outgoing buffer.
 #![tactic(auto)]
 
-ghost use Rattle.std.specs.Prelude.{◌≡◌, [], ◌+◌, ◌*◌, ◌<◌, ◌≤◌, length, set};
-ghost use Rattle.std.proofs.Math.Option.{some};
+ghost use Rattle.std.specs.Prelude.{◌≡◌, [], ◌+◌, ◌*◌, ◌<◌, ◌≤◌, MatchOption, length, set};
+ghost use Rattle.std.proofs.Math.Option.{none, some};
 ghost use Rattle.octets.specs.Bytes.{num, splice};
 ghost use Rattle.rules.specs.Group as sets;
 ghost use Rattle.rules.specs.Read.{length_for};
@@ -15,7 +15,7 @@ ghost use Rattle.places.specs.Layout.{start_of, Sized, Stands};
 ghost use Rattle.handler.specs.Handler.{Ready, handled};
 ghost use Rattle.handler.specs.Sending.{message_bytes, headed_in};
 
-use rules::{Answer, Message, Shape, kind, refusal};
+use rules::{Answer, Message, Refusal, Shape, kind};
 
 // Kind 11: the leader's commit point is taken over where it is above the own one and not above the own sync point.
 pub fn on_commit(
@@ -30,16 +30,16 @@ pub fn on_commit(
         ≡ handled 11 on_commit shape m state.old message.now out.old }
 {
     let Message::Commit(_, point) = m else {
-        return Answer::Refused(refusal::MALFORMED, 0);
+        return Err(Refusal::Malformed(0));
     };
     if point <= places::get_commit(state) {
-        return Answer::Refused(refusal::NOTHING_TO_DO, 0);
+        return Err(Refusal::NothingToDo);
     }
     if places::get_sync(state) < point {
-        return Answer::Refused(refusal::NOTHING_TO_DO, 0);
+        return Err(Refusal::NothingToDo);
     }
     places::put_commit(state, point);
-    Answer::Done(0)
+    Ok(0)
 }
 
 // Kind 10, once nothing refuses it: keeps the point that a follower reports, raises the commit point by it, and gives the commit point.
@@ -52,13 +52,22 @@ pub fn keep_status(shape: Shape, state: &mut [u8], from: u64, point: u64, len: u
 {
     places::put_heard(shape, state, from, point);
     let layout = places::places_of(shape);
-    let start = layout.heard;
-    let end = layout.log;
     let own = places::get_replica(state);
     let before = places::get_commit(state);
-    let commit = group::commit_point(shape.n, own, len, &state[start..end], before);
+    let commit = group::commit_point(shape.n, own, len, &state[layout.heard..layout.log], before);
     places::put_commit(state, commit);
     commit
+}
+
+// The point that a replica reported, where it has reported one.
+fn reported(shape: Shape, state: &[u8], from: u64) -> Option<u64>
+    requires { Sized shape state.now × (from < shape.n) }
+    ensures { let heard = point_at state.now (start_of shape at_heard + 9 * from) in
+        MatchOption result (heard ≡ none) (λ last. heard ≡ some last) }
+{
+    let heard = places::heard_flag(shape, state, from);
+    let last = places::heard_point(shape, state, from);
+    heard.then_some(last)
 }
 
 // Whether the point is not above what this replica reported. One that has reported nothing is not taken as having reported 0.
@@ -66,9 +75,7 @@ fn is_stale(shape: Shape, state: &[u8], from: u64, point: u64) -> bool
     requires { Sized shape state.now × (from < shape.n) }
     ensures { result ≡ stale point (point_at state.now (start_of shape at_heard + 9 * from)) }
 {
-    let heard = places::heard_flag(shape, state, from);
-    let last = places::heard_point(shape, state, from);
-    heard & (point <= last)
+    reported(shape, state, from).is_some_and(|last| point <= last)
 }
 
 // Writes the commit point as kind 11 to one replica of the own group, first into the outgoing buffer, and says where it ends.
@@ -98,20 +105,20 @@ pub fn on_sync_status(
         ≡ handled 10 on_sync_status shape m state.old message.now out.old }
 {
     let Message::SyncStatus(h, point) = m else {
-        return Answer::Refused(refusal::MALFORMED, 0);
+        return Err(Refusal::Malformed(0));
     };
     let from = h.from_replica as u64;
     if is_stale(shape, state, from, point) {
-        return Answer::Refused(refusal::NOTHING_TO_DO, 0);
+        return Err(Refusal::NothingToDo);
     }
     let len = places::log_length(shape, state) as u64;
     if len < point {
-        return Answer::Refused(refusal::NOTHING_TO_DO, 0);
+        return Err(Refusal::NothingToDo);
     }
     if out.len() < kinds::length_for(shape.s, kind::COMMIT, 0) {
-        return Answer::Refused(refusal::NO_ROOM, 0);
+        return Err(Refusal::NoRoom);
     }
     let commit = keep_status(shape, state, from, point, len);
     let sent = tell_commit(shape, state, out, from, commit);
-    Answer::Done(sent)
+    Ok(sent)
 }

@@ -70,12 +70,9 @@ pub fn digest_on(h: u64, bytes: &[u8]) -> u64
         low: (h % 4294967296) as u32,
         high: (h >> 32) as u32,
     };
-    let mut i = 0;
-    while i < bytes.len() {
-        let byte = bytes[i] as u32;
-        sum.low = byte ^ sum.low;
+    for byte in bytes {
+        sum.low = *byte as u32 ^ sum.low;
         sum = times_prime(sum);
-        i += 1;
     }
     ((sum.high as u64) << 32) + sum.low as u64
 }

@@ -10,7 +10,7 @@ ghost use Rattle.rules.specs.Step as steps;
 ghost use Rattle.handler.specs.Handler.{Ready};
 ghost use Rattle.dispatch.specs.Concluded.{concluded};
 
-use rules::{Answer, Message, Shape, refusal};
+use rules::{Answer, Message, Refusal, Shape};
 
 // Kinds 8 and 19: what they conclude with goes into the lent table first.
 fn conclude(
@@ -31,8 +31,8 @@ fn conclude(
     replies::on_verify_reply(shape, state, m, message, out, slots, table)
 }
 
-// With a table for at most 16 entries.
-fn conclude_few(
+// With a table of ROOM bytes: each size has a frame of its own.
+fn conclude_in<const ROOM: usize>(
     shape: Shape,
     state: &mut [u8],
     m: Message,
@@ -40,49 +40,16 @@ fn conclude_few(
     out: &mut [u8],
     slots: &mut [u16],
 ) -> Answer
-    requires { Ready shape state.old m message.now × (shape.c ≤ 16) }
+    requires { Ready shape state.old m message.now × (4 + 24 * shape.c ≤ ROOM) × (ROOM ≤ 98308) }
     ensures { left result state.new out.new ≡ concluded shape m state.old message.now out.old }
 {
-    let mut table = [0u8; 388];
+    let mut room = [0u8; ROOM];
     let end = 4 + 24 * shape.c as usize;
+    let table = &mut room[..];
     conclude(shape, state, m, message, out, slots, &mut table[0..end])
 }
 
-// With a table for at most 256 entries.
-fn conclude_more(
-    shape: Shape,
-    state: &mut [u8],
-    m: Message,
-    message: &[u8],
-    out: &mut [u8],
-    slots: &mut [u16],
-) -> Answer
-    requires { Ready shape state.old m message.now × (shape.c ≤ 256) }
-    ensures { left result state.new out.new ≡ concluded shape m state.old message.now out.old }
-{
-    let mut table = [0u8; 6148];
-    let end = 4 + 24 * shape.c as usize;
-    conclude(shape, state, m, message, out, slots, &mut table[0..end])
-}
-
-// With a table for the largest capacity.
-fn conclude_many(
-    shape: Shape,
-    state: &mut [u8],
-    m: Message,
-    message: &[u8],
-    out: &mut [u8],
-    slots: &mut [u16],
-) -> Answer
-    requires { Ready shape state.old m message.now }
-    ensures { left result state.new out.new ≡ concluded shape m state.old message.now out.old }
-{
-    let mut table = [0u8; 98308];
-    let end = 4 + 24 * shape.c as usize;
-    conclude(shape, state, m, message, out, slots, &mut table[0..end])
-}
-
-// With a table by the capacity: other kinds are not charged for its room.
+// With a table by the capacity, for at most 16 entries, 256 or 4096: a state with few is not charged for the room of many, nor other kinds for any.
 fn concluding(
     shape: Shape,
     state: &mut [u8],
@@ -95,12 +62,12 @@ fn concluding(
     ensures { left result state.new out.new ≡ concluded shape m state.old message.now out.old }
 {
     if shape.c <= 16 {
-        return conclude_few(shape, state, m, message, out, slots);
+        return conclude_in::<388>(shape, state, m, message, out, slots);
     }
     if shape.c <= 256 {
-        return conclude_more(shape, state, m, message, out, slots);
+        return conclude_in::<6148>(shape, state, m, message, out, slots);
     }
-    conclude_many(shape, state, m, message, out, slots)
+    conclude_in::<98308>(shape, state, m, message, out, slots)
 }
 
 // The handler of the message's kind.
@@ -118,10 +85,10 @@ pub fn handle(
         left result state.new out.new ≡ closes shape b out.old outcome }
 {
     match m {
-        Message::WrongSizes => Answer::Refused(refusal::MALFORMED, 0),
-        Message::Malformed(_) => Answer::Refused(refusal::MALFORMED, 0),
-        Message::FastReply(_, _, _, _) => Answer::Refused(refusal::MALFORMED, 0),
-        Message::SlowReply(_, _) => Answer::Refused(refusal::MALFORMED, 0),
+        Message::WrongSizes => Err(Refusal::Malformed(0)),
+        Message::Malformed(_) => Err(Refusal::Malformed(0)),
+        Message::FastReply(_, _, _, _) => Err(Refusal::Malformed(0)),
+        Message::SlowReply(_, _) => Err(Refusal::Malformed(0)),
         Message::Transaction(_, _, _) => arrivals::on_transaction(shape, state, m, message, out),
         Message::Note(_) => arrivals::on_note(shape, state, m, message, out),
         Message::ReplicaSync(_) => syncs::on_replica_sync(shape, state, m, message, out, slots),

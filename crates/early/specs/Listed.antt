@@ -7,6 +7,7 @@ use Rattle.rules.specs.State.{Note, note_of}
 use Rattle.rules.specs.Read.{entry_at}
 use Rattle.rules.specs.declared.Entry.{Entry}
 use Rattle.entries.specs.Rows.{Found}
+use Rattle.early.specs.declared.Index.{Index}
 use Rattle.early.specs.declared.Listed.{Listed}
 use Rattle.early.specs.declared.Which.{Which}
 use Rattle.early.specs.declared.Which.TheVariants.{Any, After, NotAfter}
@@ -20,6 +21,13 @@ pub record Lookup (b : List ℕ) (listed : Listed) (slots : List ℕ) : Type 0 w
   pub inside : listed.at + 24 * listed.count ≤ length b
   pub few : listed.count ≤ 4096
   pub found : Found (listed_in b listed) slots
+
+-- the same of the value that lends the bytes and the slots
+abbrev pub indexed : Index → List Entry
+indexed index = listed_in index.bytes.now index.listed
+
+abbrev pub Ready : Index → Type 0
+Ready index = Lookup index.bytes.now index.listed index.slots.now
 
 -- an entry lies where those that are meant do
 unfoldable pub placed : Which → Entry → Bool

@@ -13,7 +13,7 @@ ghost use Rattle.entries.specs.First.{is_of};
 ghost use Rattle.entries.specs.Table.{Holds, Table};
 ghost use Rattle.notes.specs.Notes.{notes_at, no_note, note_in, NotesHold, Notes};
 ghost use Rattle.early.specs.Listed as listing;
-ghost use Rattle.early.specs.Listed.{listed_in, Lookup, placed, stays};
+ghost use Rattle.early.specs.Listed.{indexed, Lookup, Ready, placed, stays};
 ghost use Rattle.early.specs.declared.Which.TheVariants.{Any, After, NotAfter};
 ghost use Rattle.early.specs.Moved.{moved, moved_to};
 ghost use Rattle.early.specs.Buffers.{BothHold, early_in, late_in, Both};
@@ -40,6 +40,14 @@ pub enum Which {
 pub struct Listed {
     pub at: usize,
     pub count: usize,
+}
+
+// Listed entries: the bytes that they stand in, and the slots by which they are found.
+#[derive(Clone, Copy)]
+pub struct Index<'a> {
+    pub bytes: &'a [u8],
+    pub listed: Listed,
+    pub slots: &'a [u16],
 }
 
 // ---- an entry comes
@@ -69,13 +77,11 @@ pub fn count_due(t: &[u8], c: usize, time: u64) -> usize
     ensures { result ≡ length (due_of time (table_at c t.now 0)) }
 {
     let n = entries::count(t);
-    let mut k = 0;
-    while k < n {
+    for k in 0..n {
         let e = entries::entry_of(t, c, k);
         if time < e.stamp {
             return k;
         }
-        k += 1;
     }
     n
 }
@@ -91,12 +97,12 @@ pub fn list(b: &[u8], listed: Listed, slots: &mut [u16])
 }
 
 // Whether a transaction is among those listed.
-fn is_listed(b: &[u8], listed: Listed, slots: &[u16], request: u32, coordinator: u16) -> bool
-    requires { Lookup b.now listed slots.now }
-    ensures { result ≡ any (is_of request coordinator) (listed_in b.now listed) }
+fn is_listed(index: Index, request: u32, coordinator: u16) -> bool
+    requires { Ready index }
+    ensures { result ≡ any (is_of request coordinator) (indexed index.entry) }
 {
-    let row = entries::find_row(b, listed.at, listed.count, slots, request, coordinator);
-    row < listed.count
+    let Listed { at, count } = index.listed;
+    entries::find_row(index.bytes, at, count, index.slots, request, coordinator) < count
 }
 
 // Whether an entry lies where those that are meant do.
@@ -111,51 +117,41 @@ fn is_placed(which: Which, e: Entry) -> bool
 }
 
 // Whether an entry is meant and its transaction is not listed. Its place is tested first: it costs less.
-fn chosen(b: &[u8], listed: Listed, slots: &[u16], which: Which, e: Entry) -> bool
-    requires { Lookup b.now listed slots.now }
-    ensures { result ≡ listing.chosen (listed_in b.now listed) which e }
+fn chosen(index: Index, which: Which, e: Entry) -> bool
+    requires { Ready index }
+    ensures { result ≡ listing.chosen (indexed index.entry) which e }
 {
     if !is_placed(which, e) {
         return false;
     }
-    !is_listed(b, listed, slots, e.request, e.coordinator)
+    !is_listed(index, e.request, e.coordinator)
 }
 
 // How many entries of a table are chosen.
-fn count_chosen(t: &[u8], c: usize, b: &[u8], listed: Listed, slots: &[u16], which: Which) -> usize
-    requires { Table c t.now × Lookup b.now listed slots.now }
-    ensures { result ≡ length (keep (listing.chosen (listed_in b.now listed) which) (table_at c t.now 0)) }
+fn count_chosen(t: &[u8], c: usize, index: Index, which: Which) -> usize
+    requires { Table c t.now × Ready index }
+    ensures { result ≡ length (keep (listing.chosen (indexed index.entry) which) (table_at c t.now 0)) }
 {
     let n = entries::count(t);
     let mut found = 0;
-    let mut i = 0;
-    while i < n {
+    for i in 0..n {
         let e = entries::entry_of(t, c, i);
-        if chosen(b, listed, slots, which, e) {
+        if chosen(index, which, e) {
             found += 1;
         }
-        i += 1;
     }
     found
 }
 
 // Moves the entry whose turn it is to the front if it is chosen, and tells how many are kept then.
-fn sift(
-    t: &mut [u8],
-    c: usize,
-    turn: Turn,
-    b: &[u8],
-    listed: Listed,
-    slots: &[u16],
-    which: Which,
-) -> usize
-    requires { Table c t.old × (turn.next < length (table_at c t.old 0)) × (turn.kept ≤ turn.next) × Lookup b.now listed slots.now }
-    ensures { let stays = listing.chosen (listed_in b.now listed) which in
+fn sift(t: &mut [u8], c: usize, turn: Turn, index: Index, which: Which) -> usize
+    requires { Table c t.old × (turn.next < length (table_at c t.old 0)) × (turn.kept ≤ turn.next) × Ready index }
+    ensures { let stays = listing.chosen (indexed index.entry) which in
         Holds c (moved stays no_entry (table_at c t.old 0) turn.next turn.kept) t.new
         × (result ≡ moved_to stays no_entry (table_at c t.old 0) turn.next turn.kept) }
 {
     let e = entries::entry_of(t, c, turn.next);
-    if !chosen(b, listed, slots, which, e) {
+    if !chosen(index, which, e) {
         return turn.kept;
     }
     entries::replace_at(t, c, turn.kept, e);
@@ -163,52 +159,29 @@ fn sift(
 }
 
 // Takes out of a table all entries but those that are meant and whose transactions are not listed, in one pass.
-pub fn leave(t: &mut [u8], c: usize, b: &[u8], listed: Listed, slots: &[u16], which: Which)
-    requires { Table c t.old × Lookup b.now listed slots.now }
-    ensures { Holds c (keep (listing.chosen (listed_in b.now listed) which) (table_at c t.old 0)) t.new }
+pub fn leave(t: &mut [u8], c: usize, index: Index, which: Which)
+    requires { Table c t.old × Ready index }
+    ensures { Holds c (keep (listing.chosen (indexed index.entry) which) (table_at c t.old 0)) t.new }
 {
     let n = entries::count(t);
     let mut kept = 0;
-    let mut i = 0;
-    while i < n {
+    for i in 0..n {
         let turn = Turn { next: i, kept };
-        kept = sift(t, c, turn, b, listed, slots, which);
-        i += 1;
+        kept = sift(t, c, turn, index, which);
     }
     entries::truncate(t, c, kept);
 }
 
 // ---- the notes of those that are listed
-
-// Where note i stands.
-fn note_place(s: usize, i: usize) -> usize
-    requires { (s ≤ 8) × (i ≤ 4096) }
-    ensures { (result ≡ 4 + note_length s * i) × (result ≤ 319492) }
-{
-    4 + (6 + 9 * s) * i
-}
+// The passes over entries and over notes are two: one generic pass would need a trait of tables with the laws of both, longer than either.
 
 // Whether the transaction of note i is among those listed.
-fn note_listed(
-    t: &[u8],
-    c: usize,
-    s: usize,
-    i: usize,
-    b: &[u8],
-    listed: Listed,
-    slots: &[u16],
-) -> bool
-    requires { Notes c s t.now × (i < length (notes_at c s t.now)) × Lookup b.now listed slots.now }
-    ensures { result ≡ any (λ e. note_of e (note_in (notes_at c s t.now) i)) (listed_in b.now listed) }
+fn note_listed(t: &[u8], c: usize, s: usize, i: usize, index: Index) -> bool
+    requires { Notes c s t.now × (i < length (notes_at c s t.now)) × Ready index }
+    ensures { result ≡ any (λ e. note_of e (note_in (notes_at c s t.now) i)) (indexed index.entry) }
 {
-    let at = note_place(s, i);
-    is_listed(
-        b,
-        listed,
-        slots,
-        octets::get32(t, at),
-        octets::get16(t, at + 4),
-    )
+    let at = notes::place(s, i);
+    is_listed(index, octets::get32(t, at), octets::get16(t, at + 4))
 }
 
 // Puts note i in the place of an earlier one.
@@ -216,8 +189,8 @@ fn move_note(t: &mut [u8], c: usize, s: usize, kept: usize, i: usize)
     requires { Notes c s t.old × (i < length (notes_at c s t.old)) × (kept ≤ i) }
     ensures { NotesHold c s (set (notes_at c s t.old) kept (note_in (notes_at c s t.old) i)) t.new }
 {
-    let to = note_place(s, kept);
-    let from = note_place(s, i);
+    let to = notes::place(s, kept);
+    let from = notes::place(s, i);
     octets::move_down(t, to, from, 6 + 9 * s);
 }
 
@@ -227,27 +200,19 @@ fn truncate_notes(t: &mut [u8], c: usize, s: usize, n: usize)
     ensures { NotesHold c s (take n (notes_at c s t.old)) t.new }
 {
     let m = notes::count(t);
-    let from = note_place(s, n);
-    octets::fill_zero(t, from, note_place(s, m) - from);
+    let from = notes::place(s, n);
+    octets::fill_zero(t, from, notes::place(s, m) - from);
     octets::put32(t, 0, n as u32);
 }
 
 // Moves the note whose turn it is to the front unless its transaction is listed, and tells how many are kept then.
-fn sift_note(
-    t: &mut [u8],
-    c: usize,
-    s: usize,
-    turn: Turn,
-    b: &[u8],
-    listed: Listed,
-    slots: &[u16],
-) -> usize
-    requires { Notes c s t.old × (turn.next < length (notes_at c s t.old)) × (turn.kept ≤ turn.next) × Lookup b.now listed slots.now }
-    ensures { let gone = listed_in b.now listed in
+fn sift_note(t: &mut [u8], c: usize, s: usize, turn: Turn, index: Index) -> usize
+    requires { Notes c s t.old × (turn.next < length (notes_at c s t.old)) × (turn.kept ≤ turn.next) × Ready index }
+    ensures { let gone = indexed index.entry in
         NotesHold c s (moved (stays gone) no_note (notes_at c s t.old) turn.next turn.kept) t.new
         × (result ≡ moved_to (stays gone) no_note (notes_at c s t.old) turn.next turn.kept) }
 {
-    if note_listed(t, c, s, turn.next, b, listed, slots) {
+    if note_listed(t, c, s, turn.next, index) {
         return turn.kept;
     }
     move_note(t, c, s, turn.kept, turn.next);
@@ -255,17 +220,15 @@ fn sift_note(
 }
 
 // Takes out the notes of listed transactions, in one pass.
-pub fn leave_notes(t: &mut [u8], c: usize, s: usize, b: &[u8], listed: Listed, slots: &[u16])
-    requires { Notes c s t.old × Lookup b.now listed slots.now }
-    ensures { NotesHold c s (notes_without (listed_in b.now listed) (notes_at c s t.old)) t.new }
+pub fn leave_notes(t: &mut [u8], c: usize, s: usize, index: Index)
+    requires { Notes c s t.old × Ready index }
+    ensures { NotesHold c s (notes_without (indexed index.entry) (notes_at c s t.old)) t.new }
 {
     let n = notes::count(t);
     let mut kept = 0;
-    let mut i = 0;
-    while i < n {
+    for i in 0..n {
         let turn = Turn { next: i, kept };
-        kept = sift_note(t, c, s, turn, b, listed, slots);
-        i += 1;
+        kept = sift_note(t, c, s, turn, index);
     }
     truncate_notes(t, c, s, kept);
 }
@@ -273,28 +236,28 @@ pub fn leave_notes(t: &mut [u8], c: usize, s: usize, b: &[u8], listed: Listed, s
 // ---- early and late, one after the other in a slice, beside a log that is taken over
 
 // How long late becomes: what is not listed of late, and of early what does not lie after the new log's last.
-pub fn late_after(t: &[u8], c: usize, b: &[u8], log: Listed, slots: &[u16], last: Entry) -> usize
-    requires { Both c t.now × Lookup b.now log slots.now }
-    ensures { let gone = listed_in b.now log in
+pub fn late_after(t: &[u8], c: usize, index: Index, last: Entry) -> usize
+    requires { Both c t.now × Ready index }
+    ensures { let gone = indexed index.entry in
         result ≡ length (keep (listing.chosen gone Any) (late_in c t.now)) + length (keep (listing.chosen gone (NotAfter last)) (early_in c t.now)) }
 {
     let half = 4 + 24 * c;
     let end = half + half;
-    let stay = count_chosen(&t[half..end], c, b, log, slots, Which::Any);
-    stay + count_chosen(&t[0..half], c, b, log, slots, Which::NotAfter(last))
+    let stay = count_chosen(&t[half..end], c, index, Which::Any);
+    stay + count_chosen(&t[0..half], c, index, Which::NotAfter(last))
 }
 
 // Puts early entry i after the last of late where it is not listed and does not lie after the new log's last.
-fn fall(t: &mut [u8], c: usize, i: usize, b: &[u8], log: Listed, slots: &[u16], last: Entry)
-    requires { let falls = listing.chosen (listed_in b.now log) (NotAfter last) in
-        Both c t.old × (i < length (early_in c t.old)) × (falls (entry_of (early_in c t.old) i) ≡ true → length (late_in c t.old) < c) × Lookup b.now log slots.now }
-    ensures { let falls = listing.chosen (listed_in b.now log) (NotAfter last) in
+fn fall(t: &mut [u8], c: usize, i: usize, index: Index, last: Entry)
+    requires { let falls = listing.chosen (indexed index) (NotAfter last) in
+        Both c t.old × (i < length (early_in c t.old)) × (falls (entry_of (early_in c t.old) i) ≡ true → length (late_in c t.old) < c) × Ready index }
+    ensures { let falls = listing.chosen (indexed index.entry) (NotAfter last) in
         let e = entry_of (early_in c t.old) i in
         BothHold c (early_in c t.old) (late_in c t.old ++ pick (falls e) (e ∷ []) []) t.new }
 {
     let half = 4 + 24 * c;
     let e = entries::entry_of(&t[0..half], c, i);
-    if !chosen(b, log, slots, Which::NotAfter(last), e) {
+    if !chosen(index, Which::NotAfter(last), e) {
         return;
     }
     let end = half + half;
@@ -302,31 +265,29 @@ fn fall(t: &mut [u8], c: usize, i: usize, b: &[u8], log: Listed, slots: &[u16], 
 }
 
 // Puts the early entries that are not listed and do not lie after the new log's last after the last of late, in their order.
-fn fall_late(t: &mut [u8], c: usize, b: &[u8], log: Listed, slots: &[u16], last: Entry)
-    requires { let falls = listing.chosen (listed_in b.now log) (NotAfter last) in
-        Both c t.old × (length (late_in c t.old) + length (keep falls (early_in c t.old)) ≤ c) × Lookup b.now log slots.now }
-    ensures { let falls = listing.chosen (listed_in b.now log) (NotAfter last) in
+fn fall_late(t: &mut [u8], c: usize, index: Index, last: Entry)
+    requires { let falls = listing.chosen (indexed index) (NotAfter last) in
+        Both c t.old × (length (late_in c t.old) + length (keep falls (early_in c t.old)) ≤ c) × Ready index }
+    ensures { let falls = listing.chosen (indexed index.entry) (NotAfter last) in
         BothHold c (early_in c t.old) (late_in c t.old ++ keep falls (early_in c t.old)) t.new }
 {
     let n = entries::count(t);
-    let mut i = 0;
-    while i < n {
-        fall(t, c, i, b, log, slots, last);
-        i += 1;
+    for i in 0..n {
+        fall(t, c, i, index, last);
     }
 }
 
 // Listed entries leave early and late, and what is left of early and does not lie after the new log's last goes to late.
-pub fn settle(t: &mut [u8], c: usize, b: &[u8], log: Listed, slots: &[u16], last: Entry)
-    requires { let chosen = listing.chosen (listed_in b.now log) in
-        Both c t.old × (length (keep (chosen Any) (late_in c t.old)) + length (keep (chosen (NotAfter last)) (early_in c t.old)) ≤ c) × Lookup b.now log slots.now }
-    ensures { let chosen = listing.chosen (listed_in b.now log) in
+pub fn settle(t: &mut [u8], c: usize, index: Index, last: Entry)
+    requires { let chosen = listing.chosen (indexed index) in
+        Both c t.old × (length (keep (chosen Any) (late_in c t.old)) + length (keep (chosen (NotAfter last)) (early_in c t.old)) ≤ c) × Ready index }
+    ensures { let chosen = listing.chosen (indexed index.entry) in
         let early = early_in c t.old in
         BothHold c (keep (chosen (After last)) early) (keep (chosen Any) (late_in c t.old) ++ keep (chosen (NotAfter last)) early) t.new }
 {
     let half = 4 + 24 * c;
     let end = half + half;
-    leave(&mut t[half..end], c, b, log, slots, Which::Any);
-    fall_late(t, c, b, log, slots, last);
-    leave(&mut t[0..half], c, b, log, slots, Which::After(last));
+    leave(&mut t[half..end], c, index, Which::Any);
+    fall_late(t, c, index, last);
+    leave(&mut t[0..half], c, index, Which::After(last));
 }

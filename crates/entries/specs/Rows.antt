@@ -7,7 +7,7 @@ use Rattle.repeats.specs.declared.Spots.{Spots}
 
 -- where the transactions of n entries from `at` on stand
 abbrev pub entry_spots : ℕ → ℕ → Spots
-entry_spots at n = record { first = at + 16; first_count = n; second = 0; second_count = 0; third = 0; third_count = 0; stride = 24 }
+entry_spots at n = record { first = record { at = at + 16; count = n }; second = record { at = 0; count = 0 }; third = record { at = 0; count = 0 }; stride = 24 }
 
 -- the transaction of entry i, as one number
 unfoldable pub key_in : List Entry → ℕ → ℕ

@@ -5,7 +5,7 @@ use Rattle.rules.specs.Kind.{numbers_in}
 use Rattle.rules.specs.Read.{Fields, Row, ◌to◌is◌, stamp_right, mask_right, number_rows, first_wrong}
 use Rattle.rules.specs.declared.Entry.{Entry}
 use Rattle.rules.specs.declared.Header.{Header}
-use Rattle.rules.specs.declared.Verdict.{Verdict}
+use Rattle.rules.specs.Read.{Verdict}
 use Rattle.fields.specs.declared.Parts.{Parts}
 
 -- the fields of a message of these parts, whose numbers are xs and whose entries are f

@@ -11,20 +11,8 @@ use kinds::{
     bare, entries_at, from_outside, known, numbers_at, numbers_in, to_outside, views_in, with_log,
     with_one,
 };
-use rules::{Entry, Header, Verdict};
-
-// The kinds whose fields are limited each in its own way.
-const TRANSACTION: u8 = 1;
-
-const NOTE: u8 = 3;
-
-const FAST_REPLY: u8 = 5;
-
-const VOTE: u8 = 8;
-
-const VERIFY_REPLY: u8 = 19;
-
-const TICK: u8 = 23;
+use rules::kind::{FAST_REPLY, TICK, TIMESTAMP_NOTE, TRANSACTION, VERIFY_REPLY, VOTE};
+use rules::{Entry, Header, Verdict, WrongField};
 
 // What a message says beside its numbers and its entries: the header, the three zeros, and the three counts.
 #[derive(Clone, Copy)]
@@ -36,11 +24,15 @@ pub struct Parts {
     pub entries: u64,
 }
 
-// A field from a up to u, and what comes after it.
-pub fn field(right: bool, a: usize, u: usize, rest: Verdict) -> Verdict
-    ensures { result ≡ choice.pick right rest (Verdict.Wrong a u) }
+// A field from `at` up to `end`, which is to be right.
+pub fn expect(right: bool, at: usize, end: usize) -> Verdict
+    ensures { result ≡ choice.pick right reading.all_right (reading.wrong_field at end) }
 {
-    if right { rest } else { Verdict::Wrong(a, u) }
+    if right {
+        Ok(())
+    } else {
+        Err(WrongField { at, end })
+    }
 }
 
 // One of two tests, by a third.
@@ -55,40 +47,19 @@ pub fn head_wrong(n: u64, s: u64, p: Parts) -> Verdict
     ensures { result ≡ reading.first_wrong (reading.head_rows n s (parts.fields_of p [])) }
 {
     let h = p.header;
-    let k = h.kind;
-    let to = to_outside(k);
-    let from = from_outside(k);
-    field(
-        known(k),
-        0,
-        1,
-        field(
-            either(to, h.to_group == 255, (h.to_group as u64) < s),
-            1,
-            2,
-            field(
-                either(to, h.to_mask == 1, group::some_of(h.to_mask as u16, n)),
-                2,
-                3,
-                field(
-                    either(from, h.from_group == 255, (h.from_group as u64) < s),
-                    3,
-                    4,
-                    field(
-                        either(from, h.from_replica == 255, (h.from_replica as u64) < n),
-                        4,
-                        5,
-                        field(
-                            p.zeros == 0,
-                            5,
-                            8,
-                            field(!bare(k) | (h.view == 0), 8, 12, Verdict::Fine),
-                        ),
-                    ),
-                ),
-            ),
-        ),
-    )
+    let to = to_outside(h.kind);
+    let from = from_outside(h.kind);
+    let to_group = either(to, h.to_group == 255, (h.to_group as u64) < s);
+    let to_mask = either(to, h.to_mask == 1, group::some_of(h.to_mask as u16, n));
+    let from_group = either(from, h.from_group == 255, (h.from_group as u64) < s);
+    let from_replica = either(from, h.from_replica == 255, (h.from_replica as u64) < n);
+    expect(known(h.kind), 0, 1)
+        .and(expect(to_group, 1, 2))
+        .and(expect(to_mask, 2, 3))
+        .and(expect(from_group, 3, 4))
+        .and(expect(from_replica, 4, 5))
+        .and(expect(p.zeros == 0, 5, 8))
+        .and(expect(!bare(h.kind) | (h.view == 0), 8, 12))
 }
 
 // Whether a timestamp is one.
@@ -147,15 +118,11 @@ fn numbers_wrong(s: u64, p: Parts, numbers: &[u64]) -> Verdict
     let k = h.kind;
     let count = numbers_in(k) as usize;
     let from = numbers_at(s, k) + 4;
-    let mut i = 0;
-    while i < count {
-        if !number_fits(p, numbers, i) {
-            let at = from + 8 * i;
-            return Verdict::Wrong(at, at + 8);
-        }
-        i += 1;
+    for i in 0..count {
+        let at = from + 8 * i;
+        expect(number_fits(p, numbers, i), at, at + 8)?;
     }
-    Verdict::Fine
+    Ok(())
 }
 
 // Whether the count of entries is right.
@@ -176,29 +143,18 @@ fn entries_fit(p: Parts, numbers: &[u64]) -> bool
     )
 }
 
-// One verdict, and where it is fine another.
-pub fn and_then(first: Verdict, rest: Verdict) -> Verdict
-    ensures { result ≡ reading.and_then first rest }
-{
-    match first {
-        Verdict::Fine => rest,
-        Verdict::Wrong(a, u) => Verdict::Wrong(a, u),
-    }
-}
-
 // The first wrong count or number.
 pub fn body_wrong(s: u64, p: Parts, numbers: &[u64]) -> Verdict
     requires { s ≤ 8 }
     ensures { result ≡ reading.first_wrong (reading.body_rows s (parts.fields_of p numbers.now)) }
 {
-    let h = p.header;
-    let k = h.kind;
-    let q = numbers_at(s, k);
-    let e = entries_at(s, k);
-    let last = field(entries_fit(p, numbers), e, e + 4, Verdict::Fine);
-    let rest = and_then(numbers_wrong(s, p, numbers), last);
-    let counted = field(p.numbers == numbers_in(k), q, q + 4, rest);
-    field(p.views == views_in(s, k), 12, 16, counted)
+    let k = p.header.kind;
+    let counted = numbers_at(s, k);
+    let entered = entries_at(s, k);
+    expect(p.views == views_in(s, k), 12, 16)
+        .and(expect(p.numbers == numbers_in(k), counted, counted + 4))
+        .and(numbers_wrong(s, p, numbers))
+        .and(expect(entries_fit(p, numbers), entered, entered + 4))
 }
 
 // Whether the mask names no group past s.
@@ -221,8 +177,9 @@ fn mask_right(s: u64, h: Header, mask: u16) -> bool
     ensures { result ≡ reading.mask_right s (parts.head_fields h) mask }
 {
     let k = h.kind;
-    let to = !((k == TRANSACTION) | (k == NOTE)) | group::holds(mask, h.to_group as u64);
-    let from = !((k == NOTE) | (k == VERIFY_REPLY)) | group::holds(mask, h.from_group as u64);
+    let to = !((k == TRANSACTION) | (k == TIMESTAMP_NOTE)) | group::holds(mask, h.to_group as u64);
+    let from = !((k == TIMESTAMP_NOTE) | (k == VERIFY_REPLY))
+        | group::holds(mask, h.from_group as u64);
     group::some_of(mask, s) & (to & from)
 }
 
@@ -231,25 +188,9 @@ pub fn entry_wrong(s: u64, h: Header, a: usize, standing: bool, e: Entry) -> Ver
     requires { a ≤ 2 ^ 62 }
     ensures { result ≡ reading.first_wrong (parts.rows_of s h a standing e) }
 {
-    field(
-        standing,
-        a,
-        a,
-        field(
-            stamp_right(h.kind, e.stamp),
-            a,
-            a + 8,
-            field(
-                1 <= e.request,
-                a + 16,
-                a + 20,
-                field(
-                    e.coordinator <= 65534,
-                    a + 20,
-                    a + 22,
-                    field(mask_right(s, h, e.mask), a + 22, a + 24, Verdict::Fine),
-                ),
-            ),
-        ),
-    )
+    expect(standing, a, a)
+        .and(expect(stamp_right(h.kind, e.stamp), a, a + 8))
+        .and(expect(1 <= e.request, a + 16, a + 20))
+        .and(expect(e.coordinator <= 65534, a + 20, a + 22))
+        .and(expect(mask_right(s, h, e.mask), a + 22, a + 24))
 }

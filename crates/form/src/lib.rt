@@ -23,11 +23,10 @@ pub fn point_form(b: &[u8], at: usize) -> bool
     requires { at + 9 ≤ length b.now }
     ensures { result ≡ same (point_bytes (point_at b.now at)) (part b.now at 9) }
 {
-    let flag = octets::get8(b, at);
-    if flag == 0 {
-        return octets::all_zero(b, at + 1, 8);
+    match octets::get8(b, at) {
+        0 => octets::all_zero(b, at + 1, 8),
+        flag => flag == 1,
     }
-    flag == 1
 }
 
 // Whether the table at `at`, with room for c entries, has its form.
@@ -39,19 +38,16 @@ fn table_form(b: &[u8], at: usize, c: usize) -> bool
     entries::table_good(&b[at..end], c)
 }
 
-// Whether the vote at `at` has its form.
+// Whether the vote at `at` has its form. Votes and replies have functions of their own, for each promises the bytes of its kind.
 fn vote_form(b: &[u8], at: usize, c: usize) -> bool
     requires { (at + vote_length c ≤ length b.now) × (c ≤ 4096) }
     ensures { result ≡ same (vote_bytes c (vote_at c b.now at)) (part b.now at (vote_length c)) }
 {
-    let flag = octets::get8(b, at);
-    if flag == 0 {
-        return octets::all_zero(b, at + 1, 4 + (8 + (4 + 24 * c)));
+    match octets::get8(b, at) {
+        0 => octets::all_zero(b, at + 1, 4 + (8 + (4 + 24 * c))),
+        1 => table_form(b, at + 13, c),
+        _ => false,
     }
-    if flag != 1 {
-        return false;
-    }
-    table_form(b, at + 13, c)
 }
 
 // Whether the reply at `at` has its form.
@@ -59,14 +55,11 @@ fn reply_form(b: &[u8], at: usize, c: usize) -> bool
     requires { (at + reply_length c ≤ length b.now) × (c ≤ 4096) }
     ensures { result ≡ same (reply_bytes c (reply_at c b.now at)) (part b.now at (reply_length c)) }
 {
-    let flag = octets::get8(b, at);
-    if flag == 0 {
-        return octets::all_zero(b, at + 1, 4 + 24 * c);
+    match octets::get8(b, at) {
+        0 => octets::all_zero(b, at + 1, 4 + 24 * c),
+        1 => table_form(b, at + 1, c),
+        _ => false,
     }
-    if flag != 1 {
-        return false;
-    }
-    table_form(b, at + 1, c)
 }
 
 // Whether each of n votes has its form.
@@ -76,12 +69,8 @@ fn votes_form(b: &[u8], n: usize, c: usize) -> bool
 {
     let size = 13 + (4 + 24 * c);
     let mut fine = true;
-    let mut at = 0;
-    let mut i = 0;
-    while i < n {
-        fine = fine & vote_form(b, at, c);
-        at += size;
-        i += 1;
+    for i in 0..n {
+        fine = fine & vote_form(b, size * i, c);
     }
     fine
 }
@@ -93,12 +82,8 @@ fn replies_form(b: &[u8], s: usize, c: usize) -> bool
 {
     let size = 1 + (4 + 24 * c);
     let mut fine = true;
-    let mut at = 0;
-    let mut i = 0;
-    while i < s {
-        fine = fine & reply_form(b, at, c);
-        at += size;
-        i += 1;
+    for i in 0..s {
+        fine = fine & reply_form(b, size * i, c);
     }
     fine
 }
@@ -113,17 +98,13 @@ pub fn tables_form(shape: Shape, state: &[u8]) -> bool
     let n = shape.n as usize;
     let s = shape.s as usize;
     let c = shape.c as usize;
-    let votes = layout.votes;
-    let draft = layout.draft;
-    let replies = layout.replies;
-    let end = layout.end;
     let head_fine = head_form(state);
     let log_fine = table_form(state, layout.log, c);
     let early_fine = table_form(state, layout.early, c);
     let late_fine = table_form(state, layout.late, c);
-    let votes_fine = votes_form(&state[votes..draft], n, c);
-    let draft_fine = table_form(state, draft, c);
-    let replies_fine = replies_form(&state[replies..end], s, c);
+    let votes_fine = votes_form(&state[layout.votes..layout.draft], n, c);
+    let draft_fine = table_form(state, layout.draft, c);
+    let replies_fine = replies_form(&state[layout.replies..layout.end], s, c);
     let tables_fine = log_fine & (early_fine & late_fine);
     head_fine & (tables_fine & (votes_fine & (draft_fine & replies_fine)))
 }

@@ -15,7 +15,8 @@ use Rattle.rules.specs.State.{State, in_view, fresh}
 use Rattle.rules.specs.Image.{lengths, state_length, zero_bytes, head_section, sections, image}
 use Rattle.rules.specs.Bytes.{left, start_bytes}
 use Rattle.rules.specs.declared.Shape.{Shape}
-use Rattle.rules.specs.declared.Answer.TheVariants.{Done, Refused}
+use Rattle.std.specs.Prelude.{Ok, Err}
+use Rattle.rules.specs.declared.refusals.Refusal.TheVariants.{WrongState}
 use Rattle.rules.proofs.Tests.{and_both, pick_true, pick_false}
 use Rattle.rules.proofs.Tables.{flat_zeros, points_zeros}
 use Rattle.places.specs.Layout.{length_for}
@@ -67,7 +68,7 @@ module _ (sh : Shape) (k r : ℕ) (b : List ℕ) where
   abbrev asked : Bool
   asked = shape_fits sh && (ltb k sh.s && (ltb r sh.n && eqb (length b) (state_length sh)))
 
-  pub started : (b4 : List ℕ) → shape_fits sh ≡ true → k < sh.s → r < sh.n → length b ≡ state_length sh → Laid sh (fresh sh k r) b4 → left (Done 0) b4 [] ≡ start_bytes sh k r b
+  pub started : (b4 : List ℕ) → shape_fits sh ≡ true → k < sh.s → r < sh.n → length b ≡ state_length sh → Laid sh (fresh sh k r) b4 → left (Ok 0) b4 [] ≡ start_bytes sh k r b
   unfolding start_bytes
   started b4 z hk hr l f =
       let t : asked ≡ true
@@ -76,20 +77,20 @@ module _ (sh : Shape) (k r : ℕ) (b : List ℕ) where
       (and_both (ltb r sh.n) (eqb (length b) (state_length sh)) (lt-ltb r sh.n hr) (eq-eqb (length b) (state_length sh) l))) in
       ap (λ (x : List ℕ). record { refused = false; number = 0; offset = 0; sent = 0; state = x; out = [] }) f.bytes ∙ sym (pick_true asked _ _ t)
 
-  not_asked : asked ≡ false → left (Refused 1 0) b [] ≡ start_bytes sh k r b
+  not_asked : asked ≡ false → left (Err WrongState) b [] ≡ start_bytes sh k r b
   unfolding start_bytes
   not_asked t = sym (pick_false asked _ _ t)
 
-  pub wrong_shape : shape_fits sh ≡ false → left (Refused 1 0) b [] ≡ start_bytes sh k r b
+  pub wrong_shape : shape_fits sh ≡ false → left (Err WrongState) b [] ≡ start_bytes sh k r b
   wrong_shape e = not_asked (first (shape_fits sh) _ e)
 
-  pub wrong_group : sh.s ≤ k → left (Refused 1 0) b [] ≡ start_bytes sh k r b
+  pub wrong_group : sh.s ≤ k → left (Err WrongState) b [] ≡ start_bytes sh k r b
   wrong_group h = not_asked (second (shape_fits sh) _ (first (ltb k sh.s) _ (le-ltb k sh.s h)))
 
-  pub wrong_replica : sh.n ≤ r → left (Refused 1 0) b [] ≡ start_bytes sh k r b
+  pub wrong_replica : sh.n ≤ r → left (Err WrongState) b [] ≡ start_bytes sh k r b
   wrong_replica h = not_asked (second (shape_fits sh) _ (second (ltb k sh.s) _ (first (ltb r sh.n) _ (le-ltb r sh.n h))))
 
-  pub wrong_size : (length b ≡ state_length sh → ⊥) → left (Refused 1 0) b [] ≡ start_bytes sh k r b
+  pub wrong_size : (length b ≡ state_length sh → ⊥) → left (Err WrongState) b [] ≡ start_bytes sh k r b
   wrong_size h = not_asked (second (shape_fits sh) _ (second (ltb k sh.s) _ (second (ltb r sh.n) _ (ne_eqb (length b) (state_length sh) h))))
 
 -- ---- the length of a state

@@ -3,19 +3,19 @@ use Prim.Native.Nat.{ℕ}
 use mathlib.Core.Path.{◌≡◌, refl, sym, ap, ◌∙◌}
 use mathlib.Core.List.{List, []}
 use Rattle.rules.specs.Bytes.{Left, left}
-use Rattle.rules.specs.declared.Answer.{Answer}
-use Rattle.rules.specs.declared.Answer.TheVariants.{Done, Refused}
+use Rattle.std.specs.Prelude.{Ok, Err}
+use Rattle.rules.specs.Refusals.{Answer}
 use Rattle.rules.specs.declared.Shape.{Shape}
 use Rattle.rules.proofs.Answers.{left_answer}
 use Rattle.fresh.specs.Statements.{Starts, Measures}
 
 pub left_state : (x : Answer) (c o : List ℕ) → (left x c o).state ≡ c
-left_state (Done sent) c o = refl
-left_state (Refused number offset) c o = refl
+left_state (Ok sent) c o = refl
+left_state (Err r) c o = refl
 
 pub left_out : (x : Answer) (c o : List ℕ) → (left x c o).out ≡ o
-left_out (Done sent) c o = refl
-left_out (Refused number offset) c o = refl
+left_out (Ok sent) c o = refl
+left_out (Err r) c o = refl
 
 -- what is left says the answer itself, and every byte of state and buffer
 pub left_one : (x y : Answer) (c d o u : List ℕ) → left x c o ≡ left y d u → (x ≡ y) × (c ≡ d) × (o ≡ u)

@@ -1,7 +1,7 @@
 -- The statements of the start and of the state's length, as predicates over what is given and what is left.
 use Rattle.std.specs.Prelude.{ℕ, ◌≡◌, List, []}
 use Rattle.rules.specs.Bytes.{left, start_bytes}
-use Rattle.rules.specs.declared.Answer.{Answer}
+use Rattle.rules.specs.Refusals.{Answer}
 use Rattle.rules.specs.declared.Shape.{Shape}
 use Rattle.places.specs.Layout.{length_for}
 

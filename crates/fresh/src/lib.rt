@@ -3,7 +3,7 @@
 
 ghost use Rattle.fresh.specs.Statements.{Starts, Measures};
 
-use rules::{Answer, Shape, refusal, status};
+use rules::{Answer, Refusal, Shape, status};
 
 // How many bytes a state has, 0 for sizes that are not permitted.
 pub fn state_length(n: u64, s: u64, c: u64) -> u64
@@ -21,20 +21,20 @@ pub fn start(shape: Shape, group: u64, replica: u64, state: &mut [u8]) -> Answer
     ensures { Starts shape group replica state.old result state.new }
 {
     if !group::shape_fits(shape) {
-        return Answer::Refused(refusal::WRONG_STATE, 0);
+        return Err(Refusal::WrongState);
     }
     if shape.s <= group {
-        return Answer::Refused(refusal::WRONG_STATE, 0);
+        return Err(Refusal::WrongState);
     }
     if shape.n <= replica {
-        return Answer::Refused(refusal::WRONG_STATE, 0);
+        return Err(Refusal::WrongState);
     }
     if state.len() != places::places_of(shape).end {
-        return Answer::Refused(refusal::WRONG_STATE, 0);
+        return Err(Refusal::WrongState);
     }
     octets::fill_zero(state, 0, state.len());
     octets::put8(state, 0, group as u8);
     octets::put8(state, 1, replica as u8);
     octets::put8(state, 2, status::NORMAL);
-    Answer::Done(0)
+    Ok(0)
 }

@@ -25,8 +25,8 @@ use Rattle.rules.proofs.Logs.{after_nothing}
 use Rattle.rules.proofs.Tests.{and_l, and_r, and_both, split, join, ◌also◌, each, each_of, each_front, each_back, each_append}
 use Rattle.logs.specs.Place.{fits, fit_from, Within}
 use Rattle.notes.specs.Notes.{note_in, notes_at, row, said, sized, Notes}
-use Rattle.notes.specs.declared.Point.{Point}
-use Rattle.notes.specs.declared.Point.TheVariants.{Unheard, Heard}
+use Rattle.std.specs.Prelude as rust
+use Rattle.std.specs.Prelude.{Some, None}
 use Rattle.notes.proofs.Row.{ask_found, ask_none}
 use Rattle.places.specs.Layout.{start_of}
 use Rattle.good.specs.Known.{noted_right, entries_good, early_right, notes_right, Lent, asked}
@@ -48,7 +48,7 @@ module _ (c s : ℕ) (xs : List Note) (e : Entry) (i : ℕ) (q : i ≡ row e.req
   unfolding pick
   own_stamp own a l p k = rw (sym (agreed_by a l p) ∙ k)
 
-  said_by : (k : ℕ) (p : Point) → i < length xs → said p ≡ get_or (note_in xs i).stamps k none → said p ≡ noted xs e k
+  said_by : (k : ℕ) (p : rust.Option ℕ) → i < length xs → said p ≡ get_or (note_in xs i).stamps k none → said p ≡ noted xs e k
   said_by k p l w = ask_found (λ (ts : List (Option ℕ)). get_or ts k none) e xs i q (said p) l w
 
 -- the ways through the test of an entry whose note is note i of n
@@ -63,14 +63,14 @@ module _ (c s : ℕ) (t : List ℕ) (h : Notes c s t) (e : Entry) (i n : ℕ) (q
       let z : noted those e k ≡ none = sym (ask_none (λ (ts : List (Option ℕ)). get_or ts k none) e those i q none j refl) in
       rw z
 
-  pub not_noted : (k : ℕ) (p : Point) → i < n → said p ≡ get_or (note_in those i).stamps k none → p ≡ Unheard → false ≡ noted_right s those k e
+  pub not_noted : (k : ℕ) (p : rust.Option ℕ) → i < n → said p ≡ get_or (note_in those i).stamps k none → p ≡ None → false ≡ noted_right s those k e
   unfolding noted_right
   not_noted k p l w u =
       let j : i < length those = omega (arith, h.count) in
       let z : noted those e k ≡ none = sym (said_by c s those e i q k p j w) ∙ ap said u in
       rw z
 
-  pub was_noted : (k own : ℕ) (p : Point) (r : Bool) → i < n → said p ≡ get_or (note_in those i).stamps k none → p ≡ Heard own → r ≡ eqb e.stamp (pick (rule.agreed (sized c s) those e) (rule.greatest (sized c s) those e) own) → r ≡ noted_right s those k e
+  pub was_noted : (k own : ℕ) (p : rust.Option ℕ) (r : Bool) → i < n → said p ≡ get_or (note_in those i).stamps k none → p ≡ Some own → r ≡ eqb e.stamp (pick (rule.agreed (sized c s) those e) (rule.greatest (sized c s) those e) own) → r ≡ noted_right s those k e
   unfolding noted_right
   was_noted k own p r l w u g =
       let j : i < length those = omega (arith, h.count) in

@@ -16,7 +16,7 @@ use Rattle.rules.specs.Entry.{latest}
 use Rattle.rules.specs.Log.{good_log, all_hold}
 use Rattle.rules.specs.State.{leads, view_good, heard_good, vote_good, reply_good, kept_good, held}
 use Rattle.rules.specs.Read.{entry_at}
-use Rattle.rules.specs.Image.{vote_length, reply_length, state_length, point_bytes, point_at, table_at, vote_at, reply_at, state_of, at_gvec, at_heard, at_log, at_replies, at_votes}
+use Rattle.rules.specs.Image.{vote_length, reply_length, state_length, point_bytes, point_at, table_at, vote_at, reply_at, state_of, at_gvec, at_heard, at_replies, at_votes}
 use Rattle.rules.specs.declared.Entry.{Entry}
 use Rattle.rules.specs.declared.Shape.{Shape}
 use Rattle.rules.proofs.Choice.{every_append}
@@ -137,14 +137,11 @@ module _ (sh : Shape) (b : List ℕ) (z : length b ≡ state_length sh) where
       let v : view ≡ get_or (state_of sh b).view.g_vec (state_of sh b).site.group 0 = e2 ∙ sym (view_of sh b z group h) ∙ ap (λ (j : ℕ). get_or (state_of sh b).view.g_vec j 0) g in
       e4 ∙ ap₂ (λ (x y : ℕ). eqb x (y % sh.n)) (e3 ∙ sym f.replica) v
 
-  log_count : (at n : ℕ) → at ≡ start_of sh at_log → n ≡ min (num b at 4) sh.c → n ≡ length (state_of sh b).logged.log
-  log_count at n p q = count_is sh.c b at n q ∙ ap (λ (a : ℕ). length (table_at sh.c b a)) p ∙ ap length (sym (fields sh b z).log)
-
-  pub points_is : (at n sync commit : ℕ) → at ≡ start_of sh at_log → n ≡ min (num b at 4) sh.c → sync ≡ num b 24 8 → commit ≡ num b 32 8 → (leb commit sync && leb sync n) ≡ points_good (state_of sh b)
+  pub points_is : (n sync commit : ℕ) → n ≡ length (state_of sh b).logged.log → sync ≡ num b 24 8 → commit ≡ num b 32 8 → (leb commit sync && leb sync n) ≡ points_good (state_of sh b)
   unfolding points_good
-  points_is at n sync commit p q e2 e1 =
+  points_is n sync commit q e2 e1 =
       let f = fields sh b z in
-      rw (log_count at n p q, e1, e2, f.commit, f.sync)
+      rw (q, e1, e2, f.commit, f.sync)
 
   pub view_is : (status normal view : ℕ) (l : Bool) → status ≡ num b 2 1 → normal ≡ num b 12 4 → view ≡ num b 8 4 → l ≡ leads sh (state_of sh b)
       → (((eqb status 1 && eqb normal view) || (not (eqb status 1) && ltb normal view)) && (not (eqb status 3) || l)) ≡ view_good sh (state_of sh b)
@@ -160,16 +157,16 @@ module _ (sh : Shape) (b : List ℕ) (z : length b ≡ state_length sh) where
       let e : start_of sh at_heard ≡ 0 + 48 + 4 * sh.s = omega arith in
       ap₂ (λ (xs : List (Option ℕ)) (j : ℕ). same (flat point_bytes xs) (part b j (9 * sh.n))) (sym (fields sh b z).heard) e
 
-  pub heard_is : (at n status sync : ℕ) (l w : Bool) → at ≡ start_of sh at_log → n ≡ min (num b at 4) sh.c → status ≡ num b 2 1 → sync ≡ num b 24 8 → l ≡ leads sh (state_of sh b)
+  pub heard_is : (n status sync : ℕ) (l w : Bool) → n ≡ length (state_of sh b).logged.log → status ≡ num b 2 1 → sync ≡ num b 24 8 → l ≡ leads sh (state_of sh b)
       → w ≡ (same (flat point_bytes (items (point_at b) 9 (start_of sh at_heard) sh.n)) (part b (start_of sh at_heard) (9 * sh.n)) && every (passes (λ p. not (eqb status 1) || (l && leb p sync))) (items (point_at b) 9 (start_of sh at_heard) sh.n))
       → (w && (not (eqb status 1) || (not l || eqb sync n))) ≡ (section_form sh b 2 && heard_good sh (state_of sh b))
   unfolding heard_good
-  heard_is at n status sync l w p q e1 e2 e4 e5 =
+  heard_is n status sync l w q e1 e2 e4 e5 =
       let f = fields sh b z in
       let st = state_of sh b in
       let g : Bool = same (flat point_bytes (items (point_at b) 9 (start_of sh at_heard) sh.n)) (part b (start_of sh at_heard) (9 * sh.n)) in
       heard_both (eqb status 1) g l (eqb sync n) w sync (items (point_at b) 9 (start_of sh at_heard) sh.n) e5
-      ∙ rw (heard_form, e1 ∙ sym f.status, e2 ∙ sym f.sync, log_count at n p q, e4, sym f.heard)
+      ∙ rw (heard_form, e1 ∙ sym f.status, e2 ∙ sym f.sync, q, e4, sym f.heard)
 
   -- ---- votes and replies
 

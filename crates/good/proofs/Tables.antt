@@ -18,6 +18,7 @@ use Rattle.rules.specs.Image.{table_at}
 use Rattle.rules.specs.declared.Entry.{Entry}
 use Rattle.rules.proofs.Choice.{every_more}
 use Rattle.repeats.specs.Repeat.{first_to}
+use Rattle.notes.proofs.Points.{fold_stop}
 use Rattle.logs.specs.Place.{row_at, fits, fit_from, unfit_at}
 use Rattle.logs.proofs.Tables.{good_items}
 use Rattle.logs.proofs.Apart.{good_two}
@@ -45,16 +46,20 @@ module _ {A : Type 0} (p : A → Bool) (f : ℕ → A) (k o : ℕ) where
   pub row_end : (i n : ℕ) (fine : Bool) → fine ≡ every p (items f k o i) → i ≤ n → n ≤ i → fine ≡ every p (items f k o n)
   row_end i n fine e l h = let q : i ≡ n = omega arith in rw q at e
 
+-- a loop that asks of each in turn, up to the first of which it does not hold
 module _ (p : ℕ → Bool) where
-  pub below_none : true ≡ every p (below 0)
+  pub below_start : every p (below 0) ≡ true
   unfolding below every
-  below_none = refl
+  below_start = refl
 
-  pub below_next : (i : ℕ) (fine t : Bool) → fine ≡ every p (below i) → t ≡ p i → (fine && t) ≡ every p (below (i + 1))
-  below_next i fine t e h = ap₂ ◌&&◌ e h ∙ sym (below_turn p i)
+  pub below_next : (i : ℕ) → every p (below i) ≡ true → p i ≡ true → every p (below (i + 1)) ≡ true
+  below_next i e h = below_turn p i ∙ rw (e, h)
 
-  pub below_end : (i n : ℕ) (fine : Bool) → fine ≡ every p (below i) → i ≤ n → n ≤ i → fine ≡ every p (below n)
-  below_end i n fine e l h = let q : i ≡ n = omega arith in rw q at e
+  pub below_stop : (i n : ℕ) → i < n → p i ≡ false → false ≡ every p (below n)
+  below_stop i n l h = fold_stop (λ m. every p (below m)) p n (λ m d. below_turn p m) i l h
+
+  pub below_end : (i n : ℕ) → every p (below i) ≡ true → i ≤ n → n ≤ i → true ≡ every p (below n)
+  below_end i n e l h = let q : i ≡ n = omega arith in rw q at (sym e)
 
 -- ---- a table
 

@@ -17,7 +17,6 @@ ghost use Rattle.form.specs.Sections.{section_form};
 ghost use Rattle.good.specs.Known.{head_fits, points_good, noted_right, entries_good, early_right, notes_right, Known, Lent, Formed, rest_good, asked, judged};
 ghost use Rattle.good.specs.Statements.{Judges, Orders};
 
-use notes::Point;
 use rules::{Entry, Shape, status};
 
 // ---- a table anywhere in bytes
@@ -28,10 +27,7 @@ fn count_at(b: &[u8], at: usize, c: usize) -> usize
     ensures { result ≡ min (num b.now at 4) c }
 {
     let n = octets::get32(b, at) as usize;
-    if c < n {
-        return c;
-    }
-    n
+    n.min(c)
 }
 
 // Whether the table at `at` holds a good log of group k.
@@ -65,6 +61,7 @@ fn table_fits(b: &[u8], at: usize, c: usize, last: Entry, s: u64, k: u64, ordere
 }
 
 // The last entry of the table at `at`, no entry where it has none.
+// Of any table and not places::last_entry, which knows the log alone: an edit that has to be refused asks it of the draft.
 fn last_entry(b: &[u8], at: usize, c: usize) -> Entry
     requires { at + table_length c ≤ length b.now }
     ensures { result ≡ last_of (table_at c b.now at) }
@@ -108,7 +105,7 @@ fn points_good(shape: Shape, state: &[u8]) -> bool
     requires { Sized shape state.now }
     ensures { result ≡ points_good (state_of shape state.now) }
 {
-    let count = count_at(state, places::places_of(shape).log, shape.c as usize);
+    let count = places::log_length(shape, state);
     let sync = places::get_sync(state);
     (places::get_commit(state) <= sync) & (sync <= count as u64)
 }
@@ -136,15 +133,14 @@ fn heard_within(shape: Shape, state: &[u8], asked: bool, leading: bool, most: u6
         && every (passes (λ p. not asked || (leading && leb p most))) points) }
 {
     let at = places::places_of(shape).heard;
+    // One pass for two tests of each point: two chains would go over the points twice.
     let mut formed = true;
     let mut within = true;
-    let mut i: u64 = 0;
-    while i < shape.n {
+    for i in 0..shape.n {
         let point = places::heard_point(shape, state, i);
         let right = !asked | (leading & (point <= most));
         formed = formed & form::point_form(state, at + 9 * (i as usize));
         within = within & (!places::heard_flag(shape, state, i) | right);
-        i += 1;
     }
     formed & within
 }
@@ -154,7 +150,7 @@ fn heard_good(shape: Shape, state: &[u8]) -> bool
     requires { Known shape state.now }
     ensures { result ≡ (section_form shape state.now 2 && heard_good shape (state_of shape state.now)) }
 {
-    let count = count_at(state, places::places_of(shape).log, shape.c as usize);
+    let count = places::log_length(shape, state);
     let status = places::get_status(state);
     let sync = places::get_sync(state);
     let leading = leads(shape, state);
@@ -195,13 +191,13 @@ fn votes_good(shape: Shape, state: &[u8], slots: &mut [u16]) -> bool
     ensures { result ≡ every (passes (vote_good shape (state_of shape state.now)))
         (items (vote_at shape.c state.now) (vote_length shape.c) (start_of shape at_votes) shape.n) }
 {
-    let mut fine = true;
-    let mut r: u64 = 0;
-    while r < shape.n {
-        fine = fine & vote_good(shape, state, r, slots);
-        r += 1;
+    // A loop and not `all`: of a closure that writes the slots a proof knows nothing.
+    for r in 0..shape.n {
+        if !vote_good(shape, state, r, slots) {
+            return false;
+        }
     }
-    fine
+    true
 }
 
 // Whether the reply of group j, where one is kept, is one of another group to the own.
@@ -225,13 +221,13 @@ fn replies_good(shape: Shape, state: &[u8], slots: &mut [u16]) -> bool
     ensures { result ≡ every (λ j. passes (reply_good shape (state_of shape state.now) j)
         (reply_at shape.c state.now (start_of shape at_replies + reply_length shape.c * j))) (below shape.s) }
 {
-    let mut fine = true;
-    let mut j: u64 = 0;
-    while j < shape.s {
-        fine = fine & reply_good(shape, state, j, slots);
-        j += 1;
+    // A loop and not `all`: of a closure that writes the slots a proof knows nothing.
+    for j in 0..shape.s {
+        if !reply_good(shape, state, j, slots) {
+            return false;
+        }
     }
-    fine
+    true
 }
 
 // Whether what is kept is good, and less than would have been acted upon.
@@ -300,8 +296,8 @@ fn noted_right(t: &[u8], c: usize, s: usize, e: Entry, i: usize, k: usize) -> bo
         return false;
     }
     match notes::stamp_of(t, c, s, i, k) {
-        Point::Unheard => false,
-        Point::Heard(own) => stamp_right(t, c, s, e, i, own),
+        None => false,
+        Some(own) => stamp_right(t, c, s, e, i, own),
     }
 }
 
@@ -312,14 +308,12 @@ fn all_noted(b: &[u8], at: usize, t: &[u8], c: usize, s: usize, k: usize, slots:
     ensures { result ≡ every (noted_right s (notes_at c s t.now) k) (table_at c b.now at) }
 {
     let n = count_at(b, at, c);
-    let mut i = 0;
-    while i < n {
+    for i in 0..n {
         let e = entries::entry_at(b, at + 4 + 24 * i);
         let note = lookups::note_row(t, c, s, slots, e.request, e.coordinator);
         if !noted_right(t, c, s, e, note, k) {
             return false;
         }
-        i += 1;
     }
     true
 }

@@ -65,43 +65,51 @@ pub fn leads(n: u64, view: u32, replica: u64) -> bool
     replica == view as u64 % n
 }
 
-// Whether replica i has reached c: the own log's length counts, a replica that was not heard does not.
-fn has_reached(own: u64, len: u64, heard: &[u8], c: u64, i: u64) -> bool
-    requires { 9 * i + 9 ≤ length heard.now }
-    ensures { result ≡ reached_in own len heard.now c i }
-{
-    if i == own {
-        return c <= len;
-    }
-    let at = 9 * i as usize;
-    if octets::get8(heard, at) == 0 {
-        return false;
-    }
-    c <= octets::get64(heard, at + 1)
+// What replicas have reached: the own replica by its log's length, and the others of the n by the points heard of them.
+#[derive(Clone, Copy)]
+struct Reached<'a> {
+    n: u64,
+    own: u64,
+    len: u64,
+    heard: &'a [u8],
+    ghost whole: { 9 * n ≤ length heard.now },
 }
 
-// How many of the n replicas have reached c.
-fn reachers(n: u64, own: u64, len: u64, heard: &[u8], c: u64) -> u64
-    requires { 9 * n ≤ length heard.now }
-    ensures { result ≡ count (reached own len (points n heard.now) c) n }
-{
-    let mut sum: u64 = 0;
-    let mut i: u64 = 0;
-    while i < n {
-        if has_reached(own, len, heard, c, i) {
-            sum += 1;
+impl<'a> Reached<'a> {
+    // Whether replica i has reached c: the own log's length counts, a replica that was not heard does not.
+    fn by(&self, c: u64, i: u64) -> bool
+        requires { i < self.now.n }
+        ensures { result ≡ reached_in self.now.own self.now.len self.now.heard.now c i }
+    {
+        if i == self.own {
+            return c <= self.len;
         }
-        i += 1;
+        let at = 9 * i as usize;
+        if octets::get8(self.heard, at) == 0 {
+            return false;
+        }
+        c <= octets::get64(self.heard, at + 1)
     }
-    sum
-}
 
-// Whether at least F+1 of the n replicas have reached c.
-fn majority_reached(n: u64, own: u64, len: u64, heard: &[u8], c: u64) -> bool
-    requires { 9 * n ≤ length heard.now }
-    ensures { result ≡ held n own len (points n heard.now) c }
-{
-    rules::GroupSize(n).majority() <= reachers(n, own, len, heard, c)
+    // How many of the n replicas have reached c.
+    fn by_how_many(&self, c: u64) -> u64
+        ensures { result ≡ count (reached self.now.own self.now.len (points self.now.n self.now.heard.now) c) self.now.n }
+    {
+        let mut sum: u64 = 0;
+        for i in 0..self.n {
+            if self.by(c, i) {
+                sum += 1;
+            }
+        }
+        sum
+    }
+
+    // Whether at least F+1 of the n replicas have reached c.
+    fn by_majority(&self, c: u64) -> bool
+        ensures { result ≡ held self.now.n self.now.own self.now.len (points self.now.n self.now.heard.now) c }
+    {
+        rules::GroupSize(self.n).majority() <= self.by_how_many(c)
+    }
 }
 
 // The commit point: what F+1 have reached they have reached lower down too, so it is found by halves between the point before and
@@ -110,11 +118,13 @@ pub fn commit_point(n: u64, own: u64, len: u64, heard: &[u8], before: u64) -> u6
     requires { 9 * n ≤ length heard.now }
     ensures { result ≡ commit_point n own len (points n heard.now) before }
 {
+    let reached = Reached { n, own, len, heard };
     let mut low = before;
     let mut high = len;
+    // By a while, since either end moves: no range counts that.
     while low < high {
         let middle = high - (high - low) / 2;
-        if majority_reached(n, own, len, heard, middle) {
+        if reached.by_majority(middle) {
             low = middle;
         } else {
             high = middle - 1;

@@ -2,12 +2,13 @@
 use mathlib.Core.Path.{◌≡◌, ◌∙◌, ap, refl, sym}
 use mathlib.Core.Bool.{Bool, true, false, ◌||◌, or-true}
 use mathlib.Core.List.{List, [], ◌∷◌}
-use Prim.Native.Nat.{ℕ, zero, suc, ◌+◌, ◌-◌, ◌<◌, ◌≤◌}
+use Prim.Native.Nat.{ℕ, zero, suc, ◌+◌, ◌<◌, ◌≤◌}
 use native.Mathlib.Decide.{dec_lt}
 use native.Mathlib.Omega.{arith}
 use borrow.Author.Tests.{eq-eqb, ne_eqb, eqb-true, le-leb, lt-leb, leb-false}
 use lib.Dec.{eqb, leb}
-use lib.ListN.{length, get_or, set, length-set, get_or-eq_default}
+use lib.ListN.{length, get_or, set, replicate, length-set, get_or-eq_default}
+use Rattle.std.proofs.lemmas.List.{get_or-replicate}
 use lib.Seq.{get_or-set_same, get_or-set_other}
 use Rattle.rules.specs.Choice.{pick}
 use Rattle.repeats.specs.Repeat.{row_of, Distinct}
@@ -76,11 +77,10 @@ module _ (key : ℕ → ℕ) (m : ℕ) where
         sym (stop_here t x p n l en (ends_row t x p (ap key z ∙ f)))
 
     -- it holds another row
-    pub path_on : (p n e : ℕ) → n < 64 → p + n < length t → e ≡ get_or t (p + n) 0 → e < m → (key e ≡ x → ⊥) → stop key m t x (p + (n + 1)) (64 - (n + 1)) ≡ stop key m t x (p + n) (64 - n)
-    path_on p n e hn h ee l d =
-        let z : get_or t (p + n) m ≡ e = inside t (p + n) m 0 h ∙ sym ee in
-        let y : p + (n + 1) ≡ p + n + 1 = omega arith in
-        rw y (sym (stop_next t x (p + n) (64 - n) (64 - (n + 1)) (omega arith) (ends_not t x (p + n) (omega arith) (λ q. d (ap key (sym z) ∙ q)))))
+    pub path_on : (p n l e : ℕ) → n ≡ suc l → p < length t → e ≡ get_or t p 0 → e < m → (key e ≡ x → ⊥) → stop key m t x (p + 1) l ≡ stop key m t x p n
+    path_on p n l e en h ee f d =
+        let z : get_or t p m ≡ e = inside t p m 0 h ∙ sym ee in
+        sym (stop_next t x p n l en (ends_not t x p (omega arith) (λ q. d (ap key (sym z) ∙ q))))
 
   -- a path that ends inside ends at a slot that ends it
   ends_turn : (t : List ℕ) (x p n : ℕ) → (stop key m t x (p + 1) n < length t → ends key m t x (stop key m t x (p + 1) n) ≡ true) → (b : Bool) → ends key m t x p ≡ b → stop key m t x p (suc n) < length t → ends key m t x (stop key m t x p (suc n)) ≡ true
@@ -118,9 +118,9 @@ pub record Went (key : ℕ → ℕ) (m i : ℕ) (t u : List ℕ) : Type 0 where
 
 module _ (key : ℕ → ℕ) (m : ℕ) where
   -- a path begins
-  pub path_starts : (t : List ℕ) (x p : ℕ) → p ≡ slot_of (length t) x → stop key m t x (p + 0) (64 - 0) ≡ slot_at key m t x
+  pub path_starts : (t : List ℕ) (x p n : ℕ) → p ≡ slot_of (length t) x → n ≡ 64 → stop key m t x p n ≡ slot_at key m t x
   unfolding slot_at
-  path_starts t x p e = let z : p + 0 ≡ slot_of (length t) x = omega arith in rw z
+  path_starts t x p n e f = rw (e, f)
 
   module _ (t u : List ℕ) (l : length u ≡ length t) (w : (p : ℕ) → get_or t p m < m → get_or u p m ≡ get_or t p m) where
     still_not : (x p : ℕ) → ends key m t x p ≡ false → ends key m u x p ≡ false
@@ -224,29 +224,11 @@ module _ (key : ℕ → ℕ) (m : ℕ) where
       (λ i k q. let v : held key m t x ≡ i = ap (held key m t) (sym q) ∙ w i (omega arith) in omega arith)
       (λ k. row_there t x p e ep l ee h))
 
--- ---- a table that is emptied, slot after slot
+-- ---- a table that is emptied
 
--- the first n slots are free
-unfoldable pub FreeTo : List ℕ → ℕ → Type 0
-FreeTo t n = (p : ℕ) → p < n → get_or t p 0 ≡ 65535
-
-pub free_none : (t : List ℕ) → FreeTo t 0
-unfolding FreeTo
-free_none t p h = absurd (omega arith)
-
-free_last : (t : List ℕ) (n p : ℕ) → n < length t → (p < n → get_or t p 0 ≡ 65535) → p < n + 1 → Dec (p < n) → get_or (set t n 65535) p 0 ≡ 65535
-free_last t n p l w h (yes k) = get_or-set_other t n p 65535 0 (λ e. omega arith) ∙ w k
-free_last t n p l w h (no k) =
-    let e : p ≡ n = omega (arith, k) in
-    ap (λ (q : ℕ). get_or (set t n 65535) q 0) e ∙ get_or-set_same t n 65535 0 l
-
-pub free_more : (t : List ℕ) (n : ℕ) → n < length t → FreeTo t n → FreeTo (set t n 65535) (n + 1)
-unfolding FreeTo
-free_more t n l w p h = free_last t n p l (w p) h (dec_lt p n)
-
-pub free_all : (t : List ℕ) (n : ℕ) → length t ≤ n → FreeTo t n → Empty t
-unfolding FreeTo Empty
-free_all t n l w p h = w p (omega arith)
+pub free_all : (t : List ℕ) (n : ℕ) → length t ≡ n → t ≡ replicate n 65535 → Empty t
+unfolding Empty
+free_all t n l e p h = rw e (get_or-replicate n p 65535 0 (omega arith))
 
 -- ---- rows laid into a table, one after the other
 
@@ -279,10 +261,6 @@ module _ (m : ℕ) where
       only_set t i p q l w lt h (dec_lt q p) (dec_lt p q)
 
 module _ (key : ℕ → ℕ) (m : ℕ) (t₀ : List ℕ) where
-  -- no slot on a path was free
-  pub laid_full : (u : List ℕ) (r : ℕ) → m < r → Laid key m t₀ u r
-  laid_full u r h = record { placed = λ e l. absurd (omega arith); whole = λ e. absurd (omega arith) }
-
   -- all are in
   pub laid_all : (u : List ℕ) (r i : ℕ) → r ≡ m → i ≡ m → Holds key m u i → Laid key m t₀ u r
   laid_all u r i er ei w =

@@ -2,7 +2,7 @@
 // keys cannot make them longer; where one is full, or they are long on the whole, the table is given up.
 #![tactic(auto)]
 
-ghost use Rattle.std.specs.Prelude.{◌≡◌, ◌+◌, ◌≤◌, ◌<◌, length};
+ghost use Rattle.std.specs.Prelude.{◌≡◌, ◌+◌, ◌≤◌, ◌<◌, length, IfSome, MatchOption};
 ghost use Rattle.repeats.specs.Rows.{count_of, key_of, Inside};
 ghost use Rattle.repeats.specs.Repeat.{repeat_place, row_of};
 ghost use Rattle.hashed.specs.Table.{hash_of, slot_of, slot_at, Holds, Empty, Laid};
@@ -25,6 +25,7 @@ const SPARE: usize = 1024;
 // ---- the hash
 
 // A number of 4 bytes that scatters the keys. Requests are mostly consecutive, and their products are not.
+#[tactic(auto, unfolding(crate::specs::Table::hash_of))]
 fn hash(x: u64) -> u64
     ensures { (result ≡ hash_of x) × (result < 4294967296) }
 {
@@ -41,96 +42,68 @@ fn slot(x: u64, size: usize) -> usize
 
 // ---- the table
 
-// The slot at which the path of key x ends, which begins at `start`, or the table's size.
-fn path_end(b: &[u8], sp: Spots, table: &[u16], x: u64, start: usize) -> usize
+// The slot at which the path of key x ends, which begins at `start`.
+fn path_end(b: &[u8], sp: Spots, table: &[u16], x: u64, start: usize) -> Option<usize>
     requires { Inside b.now sp × (start ≡ slot_of (length table.now) x) × (start + 64 ≤ length table.now) × (length table.now ≤ 65535) }
-    ensures { (result ≡ slot_at (key_of b.now sp) (count_of sp) table.now x) × (start ≤ result) }
+    ensures { MatchOption result (slot_at (key_of b.now sp) (count_of sp) table.now x ≡ length table.now)
+        (λ p. (p ≡ slot_at (key_of b.now sp) (count_of sp) table.now x) × (start ≤ p) × (p < length table.now)) }
 {
     let m = count(sp);
-    let mut n = 0;
-    while n < PATH {
-        let e = row(table[start + n]);
-        if m <= e {
-            return start + n;
+    for p in start..start + PATH {
+        let e = row(table[p]);
+        if m <= e || key(b, sp, e) == x {
+            return Some(p);
         }
-        if key(b, sp, e) == x {
-            return start + n;
-        }
-        n += 1;
     }
-    table.len()
-}
-
-// Frees every slot of a table.
-fn empty(table: &mut [u16])
-    ensures { Empty table.new }
-{
-    let mut p = 0;
-    while p < table.len() {
-        table[p] = FREE;
-        p += 1;
-    }
+    None
 }
 
 // Puts row after row from row `from` on into the slot at which the path of its key ends. Tells at which row it stopped: it has the key of
-// an earlier one, or it is the end; or one more than there are rows, where no slot on a path was free, or paths are long on the whole.
-pub fn lay(b: &[u8], sp: Spots, table: &mut [u16], from: usize) -> usize
+// an earlier one, or it is the end; None where no slot on a path was free, or paths are long on the whole.
+pub fn lay(b: &[u8], sp: Spots, table: &mut [u16], from: usize) -> Option<usize>
     requires { Inside b.now sp × (64 ≤ length table.old) × (length table.old ≤ 65535)
         × (count_of sp ≤ 65535) × (from ≤ count_of sp) × Holds (key_of b.now sp) (count_of sp) table.old from }
-    ensures { Laid (key_of b.now sp) (count_of sp) table.old table.new result }
+    ensures { IfSome result (λ r. (r ≤ count_of sp) × Laid (key_of b.now sp) (count_of sp) table.old table.new r) }
 {
     let m = count(sp);
-    let given_up = m + 1;
     let mut passed = 0;
-    let mut i = from;
-    while i < m {
+    for i in from..m {
         let x = key(b, sp, i);
         let start = slot(x, table.len());
         let mut p = start;
         // most paths end where they begin
         if row(table[start]) < m {
-            p = path_end(b, sp, table, x, start);
-            if table.len() <= p {
-                return given_up;
-            }
+            p = path_end(b, sp, table, x, start)?;
             if row(table[p]) < m {
-                return i;
+                return Some(i);
             }
             passed += p - start;
             if SPARE + WAY * i < passed {
-                return given_up;
+                return None;
             }
         }
         table[p] = i as u16;
-        i += 1;
     }
-    m
+    Some(m)
 }
 
 // Puts every row into a table, whatever stands in it.
-pub fn lay_all(b: &[u8], sp: Spots, table: &mut [u16]) -> usize
+pub fn lay_all(b: &[u8], sp: Spots, table: &mut [u16]) -> Option<usize>
     requires { Inside b.now sp × (64 ≤ length table.old) × (length table.old ≤ 65535) × (count_of sp ≤ 65535) }
-    ensures { (result ≤ count_of sp → result ≡ repeat_place (key_of b.now sp) (count_of sp))
-        × (result ≡ count_of sp → Holds (key_of b.now sp) (count_of sp) table.new (count_of sp)) }
+    ensures { IfSome result (λ r. (r ≡ repeat_place (key_of b.now sp) (count_of sp))
+        × (r ≡ count_of sp → Holds (key_of b.now sp) (count_of sp) table.new (count_of sp))) }
 {
-    empty(table);
+    table.fill(FREE);
     lay(b, sp, table, 0)
 }
 
-// The row with key x, or how many rows there are where none has it.
-pub fn find(b: &[u8], sp: Spots, table: &[u16], x: u64) -> usize
+// The row with key x, where one has it.
+pub fn find(b: &[u8], sp: Spots, table: &[u16], x: u64) -> Option<usize>
     requires { Inside b.now sp × (64 ≤ length table.now) × (length table.now ≤ 65535) × Holds (key_of b.now sp) (count_of sp) table.now (count_of sp) }
-    ensures { result ≡ row_of (key_of b.now sp) x (count_of sp) }
+    ensures { MatchOption result (count_of sp ≡ row_of (key_of b.now sp) x (count_of sp)) (λ e. e ≡ row_of (key_of b.now sp) x (count_of sp)) }
 {
-    let m = count(sp);
     let start = slot(x, table.len());
-    let p = path_end(b, sp, table, x, start);
-    if table.len() <= p {
-        return m;
-    }
+    let p = path_end(b, sp, table, x, start)?;
     let e = row(table[p]);
-    if m <= e {
-        return m;
-    }
-    e
+    if e < count(sp) { Some(e) } else { None }
 }

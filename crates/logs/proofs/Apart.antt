@@ -154,7 +154,7 @@ module _ (b : List ℕ) (at n : ℕ) (known : (i : ℕ) → get_or b i 0 < 256) 
 
 -- the keys of the entries of three tables
 abbrev pub three_runs : ℕ → ℕ → ℕ → ℕ → ℕ → ℕ → Spots
-three_runs x l y m z n = record { first = x + 20; first_count = l; second = y + 20; second_count = m; third = z + 20; third_count = n; stride = 24 }
+three_runs x l y m z n = record { first = record { at = x + 20; count = l }; second = record { at = y + 20; count = m }; third = record { at = z + 20; count = n }; stride = 24 }
 
 -- past a list's end stands what comes after it
 past_end : {A : Type 0} (xs ys : List A) (d : A) (n i : ℕ) → length xs ≡ n → n ≤ i → get_or (xs ++ ys) i d ≡ get_or ys (i - n) d

@@ -39,6 +39,11 @@ module _ {A : Type 0} (p : A → Bool) (f : ℕ → A) (k o : ℕ) where
   pub every_end : (i n : ℕ) → every p (items f k o i) ≡ true → i ≤ n → n ≤ i → true ≡ every p (items f k o n)
   every_end i n e l h = let q : i ≡ n = omega arith in rw q at (sym e)
 
+  -- ---- by what `all` says of the numbers below n
+  pub every_by : (n : ℕ) (r : Bool) → (r ≡ true → (j : ℕ) → j < n → p (f (o + k * j)) ≡ true) → (r ≡ false → (j : ℕ) × (j < n) × (p (f (o + k * j)) ≡ false)) → r ≡ every p (items f k o n)
+  every_by n true h g = sym (each_of p (items f k o n) (all_items (λ x. p x ≡ true) f k o n (λ i m. h refl i m)))
+  every_by n false h g = let w = g refl in every_stop w.0 n w.1 w.2
+
   -- ---- by the first that fails
   pub every_first : (n r : ℕ) → r ≡ first_to (λ i. not (p (f (o + k * i)))) n → eqb r n ≡ every p (items f k o n)
   every_first n r q = go (dec_lt r n)

@@ -9,10 +9,9 @@ ghost use Rattle.rules.specs.Log.{good_to, good_log, all_hold, distinct};
 ghost use Rattle.rules.specs.Read.{entry_at};
 ghost use Rattle.rules.specs.Image.{table_at};
 ghost use Rattle.repeats.specs.Repeat.{first_to};
-ghost use Rattle.entries.specs.Rows.{entry_spots};
 ghost use Rattle.logs.specs.Place.{row_at, fits, fit_from, unfit_from, unfit_at, Within};
 
-use repeats::Spots;
+use repeats::{Run, Spots};
 use rules::Entry;
 
 // Whether every field of an entry is in range, where there are s groups.
@@ -38,14 +37,12 @@ fn first_unfit(b: &[u8], at: usize, count: usize, last: Entry, s: u64, k: u64, j
     ensures { result ≡ first_to (unfit_from s k j last (row_at b.now at)) count }
 {
     let mut lower = last;
-    let mut i = 0;
-    while i < count {
+    for i in 0..count {
         let e = entries::entry_at(b, at + 24 * i);
         if !fits_after(e, lower, s, k, j) {
             return i;
         }
         lower = e;
-        i += 1;
     }
     count
 }
@@ -71,30 +68,7 @@ pub fn all_fit(b: &[u8], at: usize, count: usize, last: Entry, s: u64, k: u64) -
     requires { at + 24 * count ≤ length b.now }
     ensures { result ≡ every (fits s k k last) (items (entry_at b.now) 24 at count) }
 {
-    let mut i = 0;
-    while i < count {
-        if !fits_after(entries::entry_at(b, at + 24 * i), last, s, k, k) {
-            return false;
-        }
-        i += 1;
-    }
-    true
-}
-
-// Where the keys of `count` entries from `at` on stand.
-fn run_of(at: usize, count: usize) -> Spots
-    requires { at + 16 < 18446744073709551616 }
-    ensures { result ≡ entry_spots at count }
-{
-    Spots {
-        first: at + 16,
-        first_count: count,
-        second: 0,
-        second_count: 0,
-        third: 0,
-        third_count: 0,
-        stride: 24,
-    }
+    (0..count).all(|i| fits_after(entries::entry_at(b, at + 24 * i), last, s, k, k))
 }
 
 // The first of `count` entries from `at` on at which they stop being a good log of group k, or `count`. One pass finds where the
@@ -104,7 +78,7 @@ pub fn good_place(b: &[u8], at: usize, count: usize, s: u64, k: u64, slots: &mut
     ensures { result ≡ good_to s k (row_at b.now at) count }
 {
     let fit = first_unfit(b, at, count, entries::no_entry(), s, k, k);
-    rows::index(b, run_of(at, fit), fit, slots)
+    rows::index(b, entries::entry_spots(at, fit), fit, slots)
 }
 
 // Whether `count` entries from `at` on are a good log of group k whose every mask holds group j too.
@@ -123,7 +97,7 @@ pub fn good_for(
     if !rows_fit(b, at, count, s, k, j) {
         return false;
     }
-    rows::index(b, run_of(at, count), count, slots) == count
+    rows::index(b, entries::entry_spots(at, count), count, slots) == count
 }
 
 // Whether no transaction stands twice in three tables together, such as log, early and late buffer.
@@ -142,12 +116,18 @@ pub fn distinct3(
     let m = octets::get32(b, two) as usize;
     let n = octets::get32(b, three) as usize;
     let spots = Spots {
-        first: one + 20,
-        first_count: l,
-        second: two + 20,
-        second_count: m,
-        third: three + 20,
-        third_count: n,
+        first: Run {
+            at: one + 20,
+            count: l,
+        },
+        second: Run {
+            at: two + 20,
+            count: m,
+        },
+        third: Run {
+            at: three + 20,
+            count: n,
+        },
         stride: 24,
     };
     let all = l + m + n;

@@ -7,7 +7,7 @@ use Rattle.notes.specs.Notes.{notes_at}
 
 -- where the keys of n notes of s groups stand
 abbrev pub note_spots : ℕ → ℕ → Spots
-note_spots s n = record { first = 4; first_count = n; second = 0; second_count = 0; third = 0; third_count = 0; stride = 6 + 9 * s }
+note_spots s n = record { first = record { at = 4; count = n }; second = record { at = 0; count = 0 }; third = record { at = 0; count = 0 }; stride = 6 + 9 * s }
 
 -- the slots have the row of every note for its transaction
 pub record NoteRows (c s : ℕ) (t slots : List ℕ) : Type 0 where

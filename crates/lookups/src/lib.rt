@@ -6,7 +6,7 @@ ghost use Rattle.rules.specs.State.{notes_distinct};
 ghost use Rattle.notes.specs.Notes.{notes_at, row, Notes};
 ghost use Rattle.lookups.specs.Rows.{note_spots, NoteRows};
 
-use repeats::Spots;
+use repeats::{Run, Spots};
 
 // Where the keys of n notes of s groups stand: a key is a note's request and coordinator.
 pub fn note_spots(s: usize, n: usize) -> Spots
@@ -14,12 +14,9 @@ pub fn note_spots(s: usize, n: usize) -> Spots
     ensures { result ≡ note_spots s n }
 {
     Spots {
-        first: 4,
-        first_count: n,
-        second: 0,
-        second_count: 0,
-        third: 0,
-        third_count: 0,
+        first: Run { at: 4, count: n },
+        second: Run { at: 0, count: 0 },
+        third: Run { at: 0, count: 0 },
         stride: 6 + 9 * s,
     }
 }

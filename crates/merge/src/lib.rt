@@ -50,13 +50,11 @@ fn take_all(t: &mut [u8], c: usize, src: &[u8], at: usize, count: usize, slots: 
     requires { Table c t.old × (at + 24 * count ≤ length src.now) × Found (table_at c t.old 0) slots.old }
     ensures { Took c (all_taken (table_at c t.old 0) (items (entry_at src.now) 24 at count)) result t.new slots.new }
 {
-    let mut i = 0;
-    while i < count {
+    for i in 0..count {
         let e = entries::entry_at(src, at + 24 * i);
         if !take_in(t, c, e, slots) {
             return false;
         }
-        i += 1;
     }
     true
 }
@@ -118,12 +116,10 @@ pub fn merge(
     ensures { Taken shape.c (merged_with shape state.now message.now reply) result scratch.new }
 {
     take_draft(shape, state, scratch, slots);
-    let mut j: u64 = 0;
-    while j < shape.s {
+    for j in 0..shape.s {
         if !take_reply(shape, state, j, message, reply, scratch, slots) {
             return false;
         }
-        j += 1;
     }
     entries::order(scratch, shape.c as usize);
     true

@@ -3,6 +3,6 @@ mod Rows
 pub mod Notes
 pub mod Row
 pub mod Leaving
-mod Points
+pub mod Points
 mod Writes
 pub mod Tested

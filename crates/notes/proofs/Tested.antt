@@ -4,7 +4,7 @@ use mathlib.Core.Path.{◌≡◌, refl, sym, ap, ap₂, ◌∙◌}
 use mathlib.Core.Bool.{Bool, true, false, ◌&&◌, ◌||◌, and-true}
 use mathlib.Core.List.{List, [], ◌∷◌, ◌++◌}
 use native.Mathlib.Omega.{arith}
-use native.Mathlib.Nat.{add_assoc}
+use native.Mathlib.Nat.{add_assoc, mul-le-mul_left}
 use native.Mathlib.Numerals.{add-one}
 use lib.ListN.{length, get_or, length-append}
 use lib.Seq.{take_all}
@@ -24,7 +24,7 @@ use Rattle.rules.proofs.Choice.{by_test, every_more, any_more}
 use Rattle.notes.specs.Notes.{sized, notes_at, Notes}
 use Rattle.notes.proofs.Rows.{row_same, row_none, row_more}
 use Rattle.notes.proofs.Notes.{hold, count_notes, inside}
-use Rattle.notes.proofs.Points.{not_heard, was_heard}
+use Rattle.notes.proofs.Points.{not_heard, was_heard, fold_stop}
 
 -- ---- tests
 
@@ -58,6 +58,11 @@ module _ {A : Type 0} (put : A → List ℕ) (get : List ℕ → ℕ → A) (k :
       ap₂ ◌&&◌ q (rw e at r)
       ∙ and_cross (row_same put get k long b o n) (every p (items (get b) k o n)) (same (put x) (part b (o + k * n) k)) (p x)
       ∙ sym (ap₂ ◌&&◌ (row_more put get k long b o n h) w)
+
+  pub good_stop : (i n a : ℕ) (g : Bool) → i < n → o + k * n ≤ length b → a ≡ o + k * i → g ≡ (same (put (get b a)) (part b a k) && p (get b a)) → g ≡ false → false ≡ good_row n
+  good_stop i n a g l h e r z =
+      let q : ℕ → Bool = λ m. same (put (get b (o + k * m))) (part b (o + k * m) k) && p (get b (o + k * m)) in
+      fold_stop good_row q n (λ m d. sym (good_next m _ _ _ (omega (arith, mul-le-mul_left {m = m + 1} {n = n} k (omega arith))) refl refl refl)) i l (rw e at (sym r ∙ z))
 
 -- ---- a point
 

@@ -1,5 +1,6 @@
 -- The notes in a slice, as a record of plain facts; the row of a transaction's note; what a point says.
-use Rattle.std.specs.Prelude.{ℕ, suc, ◌+◌, ◌*◌, ◌≤◌, min, ◌≡◌, Bool, ◌&&◌, List, [], ◌∷◌, length, get_or, replicate, eqb}
+use Rattle.std.specs.Prelude as rust
+use Rattle.std.specs.Prelude.{ℕ, suc, ◌+◌, ◌*◌, ◌≤◌, min, ◌≡◌, Bool, ◌&&◌, List, [], ◌∷◌, length, get_or, replicate, eqb, Some, None}
 use Rattle.std.proofs.Math.Option.{Option, none, some}
 use Rattle.octets.specs.Bytes.{num, items}
 use Rattle.octets.proofs.Codecs.{All}
@@ -8,8 +9,6 @@ use Rattle.rules.specs.State.{Note}
 use Rattle.rules.specs.Image.{note_length, notes_section, note_at}
 use Rattle.rules.specs.declared.Shape.{Shape}
 use Rattle.rules.proofs.Tables.{NoteFits}
-use Rattle.notes.specs.declared.Point.{Point}
-use Rattle.notes.specs.declared.Point.TheVariants.{Unheard, Heard}
 
 -- room for c notes of s groups. How many replicas a group has plays no part in the notes
 abbrev pub sized : ℕ → ℕ → Shape
@@ -40,10 +39,10 @@ unfoldable pub row : ℕ → ℕ → List Note → ℕ
 row request coordinator [] = 0
 row request coordinator (x ∷ xs) = pick (is_of request coordinator x) 0 (suc (row request coordinator xs))
 
--- what a point says: a timestamp, or the mark "not heard"
-abbrev pub said : Point → Option ℕ
-said Unheard = none
-said (Heard t) = some t
+-- what a point says, where the code has Rust's Option: a timestamp, or the mark "not heard"
+abbrev pub said : rust.Option ℕ → Option ℕ
+said None = none
+said (Some t) = some t
 
 -- the bytes t, with room for c notes of s groups, hold xs. The last two follow from the others; they are here so that they are found
 pub record NotesHold (c s : ℕ) (xs : List Note) (t : List ℕ) : Type 0 where

@@ -4,7 +4,8 @@
 ghost use Rattle.std.specs.Prelude.{◌≡◌, ◌&&◌, [], ◌∷◌, ◌++◌, ◌+◌, ◌*◌, ◌<◌, ◌≤◌, max, length, get_or, set, eqb};
 ghost use Rattle.std.proofs.Math.Option.{none, some};
 ghost use Rattle.octets.specs.Bytes.{num, splice, part};
-ghost use Rattle.rules.specs.Choice.{pick, is_some, passes, every, same};
+ghost use Rattle.rules.specs.Choice.{pick, when, is_some, passes, every, same};
+ghost use Rattle.rules.specs.Group.{holds};
 ghost use Rattle.rules.specs.Entry.{stamp_fits};
 ghost use Rattle.rules.specs.State.{value_of, noted_to, greatest_to, note_fits};
 ghost use Rattle.rules.specs.State as state;
@@ -14,17 +15,10 @@ ghost use Rattle.notes.specs.Notes.{sized, notes_at, note_in, unheard_note, row,
 
 use rules::Entry;
 
-// A timestamp that a group may not have given yet.
-#[derive(Clone, Copy)]
-pub enum Point {
-    Unheard,
-    Heard(u64),
-}
-
 // ---- one place
 
 // Where note i stands.
-fn place(s: usize, i: usize) -> usize
+pub fn place(s: usize, i: usize) -> usize
     requires { (s ≤ 8) × (i ≤ 4096) }
     ensures { (result ≡ 4 + note_length s * i) × (result ≤ 319492) }
 {
@@ -36,21 +30,18 @@ fn is_of(t: &[u8], at: usize, request: u32, coordinator: u16) -> bool
     requires { at + 6 ≤ length t.now }
     ensures { result ≡ (eqb (num t.now (at + 4) 2) coordinator && eqb (num t.now at 4) request) }
 {
-    if octets::get32(t, at) != request {
-        return false;
-    }
-    octets::get16(t, at + 4) == coordinator
+    octets::get32(t, at) == request && octets::get16(t, at + 4) == coordinator
 }
 
-// The point at `at`.
-fn point_at(t: &[u8], at: usize) -> Point
+// The timestamp at `at`, none where its flag says that it was not heard.
+fn point_at(t: &[u8], at: usize) -> Option<u64>
     requires { at + 9 ≤ length t.now }
     ensures { said result ≡ point_at t.now at }
 {
     if octets::get8(t, at) == 0 {
-        return Point::Unheard;
+        return None;
     }
-    Point::Heard(octets::get64(t, at + 1))
+    Some(octets::get64(t, at + 1))
 }
 
 // Whether a timestamp stands at `at`.
@@ -69,14 +60,10 @@ fn raised(t: &[u8], at: usize, held: bool, best: u64) -> u64
     if !held {
         return best;
     }
-    if octets::get8(t, at) == 0 {
-        return best;
+    match point_at(t, at) {
+        Some(stamp) => best.max(stamp),
+        None => best,
     }
-    let stamp = octets::get64(t, at + 1);
-    if stamp <= best {
-        return best;
-    }
-    stamp
 }
 
 // Writes a timestamp at `at`, with its flag.
@@ -104,22 +91,28 @@ pub fn find(t: &[u8], c: usize, s: usize, request: u32, coordinator: u16) -> usi
     ensures { result ≡ row request coordinator (notes_at c s t.now) }
 {
     let n = count(t);
-    let mut i = 0;
-    while i < n {
+    for i in 0..n {
         if is_of(t, place(s, i), request, coordinator) {
             return i;
         }
-        i += 1;
     }
     n
 }
 
 // Note i's timestamp of group j.
-pub fn stamp_of(t: &[u8], c: usize, s: usize, i: usize, j: usize) -> Point
+pub fn stamp_of(t: &[u8], c: usize, s: usize, i: usize, j: usize) -> Option<u64>
     requires { Notes c s t.now × (i < length (notes_at c s t.now)) × (j < s) }
     ensures { said result ≡ get_or (note_in (notes_at c s t.now) i).stamps j none }
 {
     point_at(t, place(s, i) + 6 + 9 * j)
+}
+
+// Whether group j was heard where it is in the mask. The points of its note stand from `at` on.
+fn heard_of(t: &[u8], at: usize, mask: u16, j: usize) -> bool
+    requires { at + 9 * j + 9 ≤ length t.now }
+    ensures { result ≡ when (holds mask j) (is_some (point_at t.now (at + 9 * j))) }
+{
+    !group::holds(mask, j as u64) || heard_at(t, at + 9 * j)
 }
 
 // Whether note i has a timestamp of each group in the mask.
@@ -128,13 +121,7 @@ pub fn agreed_at(t: &[u8], c: usize, s: usize, i: usize, mask: u16) -> bool
     ensures { result ≡ noted_to mask (note_in (notes_at c s t.now) i).stamps s }
 {
     let at = place(s, i) + 6;
-    let mut all = true;
-    let mut j = 0;
-    while j < s {
-        all = all & (!group::holds(mask, j as u64) | heard_at(t, at + 9 * j));
-        j += 1;
-    }
-    all
+    (0..s).all(|j| heard_of(t, at, mask, j))
 }
 
 // The greatest of note i's timestamps of groups in the mask.
@@ -144,10 +131,8 @@ pub fn greatest_at(t: &[u8], c: usize, s: usize, i: usize, mask: u16) -> u64
 {
     let at = place(s, i) + 6;
     let mut best: u64 = 0;
-    let mut j = 0;
-    while j < s {
+    for j in 0..s {
         best = raised(t, at + 9 * j, group::holds(mask, j as u64), best);
-        j += 1;
     }
     best
 }
@@ -156,23 +141,17 @@ pub fn greatest_at(t: &[u8], c: usize, s: usize, i: usize, mask: u16) -> u64
 fn unmasked(mask: u16, s: usize) -> bool
     ensures { result ≡ noted_to mask [] s }
 {
-    let mut all = true;
-    let mut j = 0;
-    while j < s {
-        all = all & !group::holds(mask, j as u64);
-        j += 1;
-    }
-    all
+    (0..s).all(|j| !group::holds(mask, j as u64))
 }
 
 // What group j noted for a transaction.
-pub fn noted(t: &[u8], c: usize, s: usize, e: Entry, j: usize) -> Point
+pub fn noted(t: &[u8], c: usize, s: usize, e: Entry, j: usize) -> Option<u64>
     requires { Notes c s t.now × (j < s) }
     ensures { said result ≡ state.noted (notes_at c s t.now) e j }
 {
     let i = find(t, c, s, e.request, e.coordinator);
     if count(t) <= i {
-        return Point::Unheard;
+        return None;
     }
     stamp_of(t, c, s, i, j)
 }
@@ -275,13 +254,12 @@ fn note_good(t: &[u8], at: usize, s: usize) -> bool
 {
     let request = octets::get32(t, at);
     let coordinator = octets::get16(t, at + 4);
+    // One pass for two tests, of all points and of any: two chains would go over the points twice.
     let mut fine = true;
     let mut heard = false;
-    let mut j = 0;
-    while j < s {
+    for j in 0..s {
         fine = fine & point_good(t, at + 6 + 9 * j);
         heard = heard | heard_at(t, at + 6 + 9 * j);
-        j += 1;
     }
     fine & ((1 <= request) & ((coordinator <= 65534) & heard))
 }
@@ -295,12 +273,11 @@ pub fn notes_good(t: &[u8], c: usize, s: usize) -> bool
     if c < n {
         return false;
     }
-    let mut fine = true;
-    let mut i = 0;
-    while i < n {
-        fine = fine & note_good(t, place(s, i), s);
-        i += 1;
+    for i in 0..n {
+        if !note_good(t, place(s, i), s) {
+            return false;
+        }
     }
     let free = place(s, n);
-    fine & octets::all_zero(t, free, place(s, c) - free)
+    octets::all_zero(t, free, place(s, c) - free)
 }

@@ -1,15 +1,17 @@
 -- One turn of each loop over a block, and the joint of its words and its rest: both are the same law, at any width. Assumes nothing.
-use Prim.Native.Nat.{ℕ, ◌+◌, ◌-◌, ◌≤◌, ◌<◌}
+use Prim.Native.Nat.{ℕ, suc, ◌+◌, ◌-◌, ◌≤◌, ◌<◌}
 use mathlib.Core.Path.{◌≡◌, refl, sym, ap, ap₂, ◌∙◌}
 use mathlib.Core.Bool.{Bool, true, false, ◌&&◌}
-use mathlib.Core.List.{List}
+use mathlib.Core.List.{List, [], ◌∷◌, ◌++◌, append_assoc}
 use native.Mathlib.Omega.{arith}
-use lib.ListN.{length, get_or, replicate, length-replicate, replicate-append-replicate}
+use lib.ListN.{length, take, drop, get_or, replicate, length-replicate}
+use lib.Seq.{paste}
+use Rattle.std.proofs.Common.{IsTrue, EachIndex, ◌↔◌}
+use Rattle.std.proofs.lemmas.List.{get_or-replicate}
 use lib.Dec.{eqb}
 use borrow.Author.Tests.{eq-eqb, ne_eqb}
 use Rattle.octets.specs.Bytes.{le, part, num, splice, zeros}
-use Rattle.octets.proofs.Laws.{length_part, part_add, part_none, part_splice_before, part_splice_after, splice_none, splice_next, splice_comm, bytes_known, le_num, le_zero, zeros_part, zeros_num}
-use Rattle.octets.proofs.Sections.{part_whole}
+use Rattle.octets.proofs.Laws.{length_part, part_add, part_none, part_splice_before, splice_none, splice_next, splice_home, cut, bytes_known, le_num, zeros_part, zeros_num, zeros_are}
 
 -- ---- before the first turn, and after the last
 
@@ -32,15 +34,6 @@ pub copy_next : (d : List ℕ) (at : ℕ) (s : List ℕ) (from j k n : ℕ) (m e
 copy_next d at s from j k n m e hm he h l q =
     splice_next d at j (part s from j) (part s (from + j) k) m e h (length_part s from j l) hm he ∙ ap (splice d at) (sym (part_add s from j k) ∙ ap (part s from) q)
 
-pub copy_turn : (d : List ℕ) (at : ℕ) (s : List ℕ) (from j k v : ℕ) (m e : List ℕ) → m ≡ splice d at (part s from j) → v ≡ num s (from + j) k → e ≡ splice m (at + j) (le k v) → ((i : ℕ) → get_or s i 0 < 256) → at + j ≤ length d → from + j + k ≤ length s → e ≡ splice d at (part s from (j + k))
-copy_turn d at s from j k v m e hm hv he hb h l =
-    copy_next d at s from j k (j + k) m e hm (written s (from + j) k v m (at + j) e hv he hb l) h (omega arith) refl
-
-pub copy_all : (d : List ℕ) (at : ℕ) (s : List ℕ) (j k : ℕ) (m e : List ℕ) → m ≡ splice d at (part s 0 j) → e ≡ splice m (at + j) (part s j k) → at + j ≤ length d → j + k ≡ length s → e ≡ splice d at s
-copy_all d at s j k m e hm he h q =
-    let z : j ≡ 0 + j = omega arith in
-    copy_next d at s 0 j k (length s) m e hm (he ∙ ap (λ (i : ℕ). splice m (at + j) (part s i k)) z) h (omega arith) q ∙ ap (splice d at) (part_whole s (length s) (omega arith))
-
 -- ---- moved down within a list: j bytes, then the k above them, which still stand
 
 pub down_next : (d : List ℕ) (to from j k n : ℕ) (m e : List ℕ) → m ≡ splice d to (part d from j) → e ≡ splice m (to + j) (part m (from + j) k) → to ≤ from → from + j ≤ length d → j + k ≡ n → e ≡ splice d to (part d from n)
@@ -50,50 +43,21 @@ down_next d to from j k n m e hm he h l q =
     let still : part m (from + j) k ≡ part d (from + j) k = ap (λ (r : List ℕ). part r (from + j) k) hm ∙ part_splice_before d to x (from + j) k (omega arith) (omega arith) in
     copy_next d to d from j k n m e hm (he ∙ ap (splice m (to + j)) still) (omega arith) l q
 
--- ---- moved up within a list: the upper k bytes, then the j below them, which still stand
+-- ---- what the library's methods leave, as splices
 
-pub up_next : (d : List ℕ) (to from j k n : ℕ) (m e : List ℕ) → m ≡ splice d (to + j) (part d (from + j) k) → e ≡ splice m to (part m from j) → from ≤ to → to + n ≤ length d → j + k ≡ n → e ≡ splice d to (part d from n)
-up_next d to from j k n m e hm he h l q =
-    let x : List ℕ = part d from j in
-    let y : List ℕ = part d (from + j) k in
-    let lx : length x ≡ j = length_part d from j (omega arith) in
-    let still : part m from j ≡ x = ap (λ (r : List ℕ). part r from j) hm ∙ part_splice_after d (to + j) y from j (omega arith) (omega arith) in
-    he ∙ ap₂ (λ (r z : List ℕ). splice r to z) hm still ∙ sym (splice_comm d to x (to + j) y (omega arith) (omega arith))
-    ∙ copy_next d to d from j k n (splice d to x) (splice (splice d to x) (to + j) y) refl refl (omega arith) (omega arith) q
+-- a copy within a list
+pub pasted : (s : List ℕ) (to from n m : ℕ) → m ≡ n → from + n ≤ length s → paste s to (drop from s) m ≡ splice s to (part s from n)
+unfolding splice part
+pasted s to from n m q l = rw (q, length_part s from n l) (append_assoc (take to s) (take n (drop from s)) (drop (to + n) s))
 
--- the same, as the loop counts: i bytes are left to move, and k of them move now
-pub up_turn : (d : List ℕ) (to from n i k : ℕ) (m e : List ℕ) → m ≡ splice d (to + i) (part d (from + i) (n - i)) → e ≡ splice m (to + (i - k)) (part m (from + (i - k)) k) → from ≤ to → to + n ≤ length d → k ≤ i → i ≤ n → e ≡ splice d (to + (i - k)) (part d (from + (i - k)) (n - (i - k)))
-up_turn d to from n i k m e hm he h l hk hi =
-    let a : to + i ≡ to + (i - k) + k = omega arith in
-    let b : from + i ≡ from + (i - k) + k = omega arith in
-    up_next d (to + (i - k)) (from + (i - k)) k (n - i) (n - (i - k)) m e (hm ∙ ap₂ (λ (o r : ℕ). splice d o (part d r (n - i))) a b) he (omega arith) (omega arith) (omega arith)
+-- a part written over itself
+pub in_place : (s : List ℕ) (to from n : ℕ) → to ≡ from → from + n ≤ length s → s ≡ splice s to (part s from n)
+unfolding splice
+in_place s to from n e l = rw (e, length_part s from n l) (cut s from n)
 
-pub up_none : (d : List ℕ) (to from n : ℕ) → d ≡ splice d (to + n) (part d (from + n) (n - n))
-up_none d to from n =
-    let z : n - n ≡ 0 = omega arith in
-    rw z (none_yet d (to + n) d (from + n))
-
-pub up_done : (d : List ℕ) (to from n i : ℕ) (e : List ℕ) → e ≡ splice d (to + i) (part d (from + i) (n - i)) → i ≤ 0 → e ≡ splice d to (part d from n)
-up_done d to from n i e he h =
-    let a : to + i ≡ to = omega arith in
-    let b : from + i ≡ from = omega arith in
-    let z : n - i ≡ n = omega arith in
-    rw (a, b, z) at he
-
--- ---- zeros written: j, then k, which are n
-
-pub fill_next : (d : List ℕ) (at j k n : ℕ) (m e : List ℕ) → m ≡ splice d at (replicate j 0) → e ≡ splice m (at + j) (replicate k 0) → at + j ≤ length d → j + k ≡ n → e ≡ splice d at (replicate n 0)
-fill_next d at j k n m e hm he h q =
-    splice_next d at j (replicate j 0) (replicate k 0) m e h (length-replicate j 0) hm he
-    ∙ ap (splice d at) (replicate-append-replicate j k 0 ∙ ap (λ (i : ℕ). replicate i 0) q)
-
-pub fill_turn : (d : List ℕ) (at j k : ℕ) (m e : List ℕ) → m ≡ splice d at (replicate j 0) → e ≡ splice m (at + j) (le k 0) → at + j ≤ length d → e ≡ splice d at (replicate (j + k) 0)
-fill_turn d at j k m e hm he h = fill_next d at j k (j + k) m e hm (he ∙ ap (splice m (at + j)) (le_zero k)) h refl
-
-pub fill_done : (d : List ℕ) (at i n : ℕ) (e : List ℕ) → e ≡ splice d at (replicate i 0) → i ≤ n → n ≤ i → e ≡ splice d at (replicate n 0)
-fill_done d at i n e he l h =
-    let q : i ≡ n = omega arith in
-    rw q at he
+-- a part filled with zeros
+pub zeros_home : (s : List ℕ) (at n m k : ℕ) → m ≡ n → k ≡ n → take at s ++ (replicate k 0 ++ drop m (drop at s)) ≡ splice s at (replicate n 0)
+zeros_home s at n m k p q = rw (p, q) (splice_home s at n (replicate n 0) (length-replicate n 0))
 
 -- ---- zeros tested: j bytes, then k, which are n
 
@@ -137,3 +101,19 @@ pub zeros_done : (s : List ℕ) (at i n : ℕ) → zeros (part s at i) ≡ true 
 zeros_done s at i n h l g =
     let q : i ≡ n = omega arith in
     sym (rw q at h)
+
+-- the same, element by element
+pub zeros_each : (s x : List ℕ) (at n : ℕ) (r : Bool) → (IsTrue r ↔ EachIndex x (λ i. get_or x i 0 ≡ 0)) → x ≡ part s at n → r ≡ zeros (part s at n)
+zeros_each s x at n true f e = rw (← e) (sym (are x (f.0 refl)))
+  where
+    are : (y : List ℕ) → ((i : ℕ) → i < length y → get_or y i 0 ≡ 0) → zeros y ≡ true
+    are [] h = refl
+    are (b ∷ bs) h = rw (eq-eqb b 0 (h 0 (omega arith))) (are bs (λ i l. h (suc i) (omega arith)))
+zeros_each s x at n false f e = rw (← e) (not_all (zeros x) refl)
+  where
+    each : (i : ℕ) → zeros x ≡ true → i < length x → get_or x i 0 ≡ 0
+    each i z l = ap (λ (y : List ℕ). get_or y i 0) (zeros_are x z) ∙ get_or-replicate (length x) i 0 0 l
+
+    not_all : (p : Bool) → zeros x ≡ p → false ≡ p
+    not_all false q = refl
+    not_all true q = f.1 (λ i l. each i q l)

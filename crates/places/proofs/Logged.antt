@@ -44,11 +44,8 @@ module _ (sh : Shape) (b : List ℕ) (z : Sized sh b) where
     counted : count ≡ num b (start_of sh at_log) 4
     counted = e ∙ ap (λ (x : ℕ). num b x 4) a
 
-    pub full_log : sh.c < count → (sh.c ≡ length log) × (sh.c ≤ sh.c) × (sh.c ≤ 4096)
-    full_log h = (omega (arith, counted, log_long), omega arith, z.fits.small)
-
-    pub the_log : count ≤ sh.c → (count ≡ length log) × (count ≤ sh.c) × (count ≤ 4096)
-    the_log h = (omega (arith, counted, log_long), h, omega (arith, z.fits.small))
+    pub the_log : (n : ℕ) → n ≡ min count sh.c → (n ≡ length log) × (n ≤ sh.c) × (n ≤ 4096)
+    the_log n h = (omega (arith, counted, log_long), omega arith, omega (arith, z.fits.small))
 
   -- ---- the last
   module _ (n : ℕ) (q : n ≡ length log) where

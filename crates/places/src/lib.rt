@@ -202,7 +202,7 @@ pub fn put_boundary(state: &mut [u8], v: u64)
     octets::put64(state, 40, v);
 }
 
-// ---- places in a row: each begins where the one before it ends
+// ---- places in a row: each begins where the one before it ends. Each kind has its own function, for each promises a place of another section
 
 // Where the view of group j stands.
 pub fn view_place(shape: Shape, j: u64) -> usize
@@ -254,12 +254,10 @@ fn flags(state: &[u8], at: usize, size: usize, n: u64) -> u64
     ensures { result ≡ count (λ i. not (eqb (num state.now (at + size * i) 1) 0)) n }
 {
     let mut sum: u64 = 0;
-    let mut i: u64 = 0;
-    while i < n {
+    for i in 0..n {
         if flag(state, at + size * i as usize) {
             sum += 1;
         }
-        i += 1;
     }
     sum
 }
@@ -274,7 +272,7 @@ pub fn put_table(shape: Shape, state: &mut [u8], to: usize, src: &[u8], at: usiz
     entries::take_over(&mut state[to..end], shape.c as usize, src, at, number);
 }
 
-// ---- the tables, lent as they stand
+// ---- the tables, lent as they stand. Each has its own function, for each promises another table of the state
 
 // The log, lent.
 pub fn log(shape: Shape, state: &[u8]) -> &[u8]
@@ -283,9 +281,7 @@ pub fn log(shape: Shape, state: &[u8]) -> &[u8]
         × (table_at shape.c result.now 0 ≡ (state_of shape state.now).logged.log) }
 {
     let layout = places_of(shape);
-    let start = layout.log;
-    let end = layout.early;
-    &state[start..end]
+    &state[layout.log..layout.early]
 }
 
 // The early buffer, lent.
@@ -295,9 +291,7 @@ pub fn early(shape: Shape, state: &[u8]) -> &[u8]
         × (table_at shape.c result.now 0 ≡ (state_of shape state.now).waiting.early) }
 {
     let layout = places_of(shape);
-    let start = layout.early;
-    let end = layout.late;
-    &state[start..end]
+    &state[layout.early..layout.late]
 }
 
 // The late buffer, lent.
@@ -307,9 +301,7 @@ pub fn late(shape: Shape, state: &[u8]) -> &[u8]
         × (table_at shape.c result.now 0 ≡ (state_of shape state.now).waiting.late) }
 {
     let layout = places_of(shape);
-    let start = layout.late;
-    let end = layout.notes;
-    &state[start..end]
+    &state[layout.late..layout.notes]
 }
 
 // The notes, lent.
@@ -319,9 +311,7 @@ pub fn notes(shape: Shape, state: &[u8]) -> &[u8]
         × (notes_at shape.c shape.s result.now ≡ (state_of shape state.now).waiting.notes) }
 {
     let layout = places_of(shape);
-    let start = layout.notes;
-    let end = layout.votes;
-    &state[start..end]
+    &state[layout.notes..layout.votes]
 }
 
 // The draft, lent.
@@ -331,9 +321,7 @@ pub fn draft(shape: Shape, state: &[u8]) -> &[u8]
         × (table_at shape.c result.now 0 ≡ (state_of shape state.now).change.draft) }
 {
     let layout = places_of(shape);
-    let start = layout.draft;
-    let end = layout.replies;
-    &state[start..end]
+    &state[layout.draft..layout.replies]
 }
 
 // ---- the log
@@ -345,11 +333,7 @@ pub fn log_length(shape: Shape, state: &[u8]) -> usize
 {
     let place = places_of(shape).log;
     let count = octets::get32(state, place) as usize;
-    let room = shape.c as usize;
-    if room < count {
-        return room;
-    }
-    count
+    count.min(shape.c as usize)
 }
 
 // Where entry i of the log stands.

@@ -6,8 +6,7 @@ use mathlib.Core.Option.{Option, none}
 use mathlib.Core.List.{List, []}
 use native.Mathlib.Decide.{dec_lt}
 use native.Mathlib.Omega.{arith}
-use lib.ListN.{length, get_or, take, get_or-eq_default}
-use lib.Seq.{take-nil}
+use lib.ListN.{length, get_or, take}
 use lib.Dec.{eqb, ltb, leb}
 use borrow.Author.Tests.{le-ltb, le-leb, lt-leb, eq-eqb, eqb-true, not-true, not-false}
 use Rattle.octets.specs.Bytes.{num}
@@ -24,10 +23,12 @@ use Rattle.repeats.specs.Repeat.{first_to}
 use Rattle.repeats.proofs.Laws.{First, first_to_lem, first_is}
 use Rattle.entries.specs.First.{find_row}
 use Rattle.entries.proofs.First.{read_among}
-use Rattle.ballots.specs.Ballots.{votes_in, vote_of, Given, Lists}
+use Rattle.ballots.specs.Ballots.{votes_in, vote_of, Given, Lists, BestIn}
 use Rattle.rebuild.specs.Rebuild.{Based, lower, is_new}
 use Rattle.rebuild.specs.declared.Basis.{Basis}
+use Rattle.ballots.specs.declared.Best.{Best}
 use Rattle.ballots.specs.declared.Cast.{Cast}
+use Rattle.std.specs.Prelude.{Some, None}
 use Rattle.ballots.proofs.Votes.{votes_long}
 use Rattle.ballots.proofs.Counting.{lower_all}
 use Rattle.ballots.proofs.Sound.{vote_synced}
@@ -52,39 +53,43 @@ pub prefix_by : (vs : List Vote) (v : Vote) (m : ℕ) → best vs ≡ v → m �
 unfolding prefix
 prefix_by vs v m e q = ap (λ (u : Vote). take u.sync u.log) e ∙ ap (λ (i : ℕ). take i v.log) (sym q)
 
--- past the last replica there is no vote
-pub none_past : (vs : List (Option Vote)) (n r : ℕ) → length vs ≡ n → n ≤ r → get_or vs r none ≡ none
-none_past vs n r l h = get_or-eq_default vs none (omega arith)
+module _ (n : ℕ) (vs : List (Option Vote)) (top : ℕ) (l : length vs ≡ n) where
+  by_all : {v : Vote} → best (with_normal top (take n vs)) ≡ v → best (with_normal top vs) ≡ v
+  by_all e = ap best (sym (lower_all top vs n (omega arith))) ∙ e
 
-pub none_taken : (vs : List (Option Vote)) (n r m : ℕ) → length vs ≡ n → n ≤ r → take m (vote_of (get_or vs r none)).log ≡ []
-unfolding vote_of
-none_taken vs n r m l h = ap (λ (x : Option Vote). take m (vote_of x).log) (none_past vs n r l h) ∙ take-nil m
+  -- no vote gives one
+  pub prefix_none : best (with_normal top (take n vs)) ≡ vote_of none → prefix (with_normal top vs) ≡ []
+  unfolding vote_of
+  prefix_none e = prefix_by (with_normal top vs) (vote_of none) 0 (by_all e) refl
 
-module _ (n : ℕ) (vs : List (Option Vote)) (b : Basis) (k : Based n vs b) where
-  pub prefix_is : prefix (with_normal b.count.top vs) ≡ take b.length (vote_of (get_or vs b.replica none)).log
-  prefix_is = prefix_by (with_normal b.count.top vs) (vote_of (get_or vs b.replica none)) b.length k.best k.length
+  pub prefix_is : (b : Best) → BestIn n vs top n b → prefix (with_normal top vs) ≡ take b.sync (vote_of (get_or vs b.replica none)).log
+  prefix_is b k = prefix_by (with_normal top vs) (vote_of (get_or vs b.replica none)) b.sync (by_all k.is) k.sync
 
-  pub prefix_none : length vs ≡ n → n ≤ b.replica → prefix (with_normal b.count.top vs) ≡ []
-  prefix_none l h = prefix_is ∙ none_taken vs n b.replica b.length l h
+-- the vote that gives it
+pub best_in : (n : ℕ) (vs : List (Option Vote)) (b : Basis) → Based n vs b → (x : Best) → b.best ≡ Some x → BestIn n vs b.count.top n x
+best_in n vs b k x e = rw e at k.best
 
 module _ (sh : Shape) (s msg : List ℕ) (a : Cast) (g : Given sh s msg a) (b : Basis) (k : Based sh.n (votes_in sh s msg a) b) where
-  pub prefix_missing : (e : Entry) → sh.n ≤ b.replica → false ≡ among (prefix (with_normal b.count.top (votes_in sh s msg a))) e
+  pub prefix_missing : (e : Entry) → b.best ≡ None → false ≡ among (prefix (with_normal b.count.top (votes_in sh s msg a))) e
   unfolding any
-  prefix_missing e h = sym (ap (λ (es : List Entry). among es e) (prefix_none sh.n (votes_in sh s msg a) b k (votes_long sh s msg a g.sent) h))
+  prefix_missing e h = sym (ap (λ (es : List Entry). among es e) (prefix_none sh.n (votes_in sh s msg a) b.count.top (votes_long sh s msg a g.sent) (rw h at k.best)))
 
-  module _ (h : b.replica < sh.n) where
-    pub prefix_within : b.length ≤ length (vote_of (get_or (votes_in sh s msg a) b.replica none)).log
-    prefix_within = rw k.length (vote_synced sh s msg a g b.replica h (k.held h))
+  module _ (x : Best) (h : b.best ≡ Some x) where
+    abbrev gives : BestIn sh.n (votes_in sh s msg a) b.count.top sh.n x
+    gives = best_in sh.n (votes_in sh s msg a) b k x h
+
+    prefix_within : x.sync ≤ length (vote_of (get_or (votes_in sh s msg a) x.replica none)).log
+    prefix_within = rw gives.sync (vote_synced sh s msg a g x.replica gives.within gives.held)
 
     -- the first in all of the log is one of the prefix where there is one
-    pub prefix_found : (e : Entry) (t : List ℕ) (n i : ℕ) → Lists sh.c (vote_of (get_or (votes_in sh s msg a) b.replica none)).log t → n ≡ num t 0 4 → i ≡ find_row (λ j. entry_at t (4 + 24 * j)) e.request e.coordinator n → ltb i b.length ≡ among (prefix (with_normal b.count.top (votes_in sh s msg a))) e
+    pub prefix_found : (e : Entry) (t : List ℕ) (n i : ℕ) → Lists sh.c (vote_of (get_or (votes_in sh s msg a) x.replica none)).log t → n ≡ num t 0 4 → i ≡ find_row (λ j. entry_at t (4 + 24 * j)) e.request e.coordinator n → ltb i x.sync ≡ among (prefix (with_normal b.count.top (votes_in sh s msg a))) e
     prefix_found e t n i l q f =
         let w = prefix_within in
         let p : ℕ → Bool = λ j. same_txn e (entry_at t (4 + 24 * j)) in
-        ap (λ (j : ℕ). ltb j b.length) f
-        ∙ first_within p b.length n (omega (arith, l.count))
-        ∙ read_among t 4 e b.length (first_to p b.length) refl
-        ∙ ap (λ (es : List Entry). among es e) (listed_take sh.c _ t l b.length prefix_within ∙ sym (prefix_is sh.n (votes_in sh s msg a) b k))
+        ap (λ (j : ℕ). ltb j x.sync) f
+        ∙ first_within p x.sync n (omega (arith, l.count))
+        ∙ read_among t 4 e x.sync (first_to p x.sync) refl
+        ∙ ap (λ (es : List Entry). among es e) (listed_take sh.c _ t l x.sync prefix_within ∙ sym (prefix_is sh.n (votes_in sh s msg a) b.count.top (votes_long sh s msg a g.sent) x gives))
 
 -- ---- the tests of an entry
 

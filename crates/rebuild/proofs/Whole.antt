@@ -27,69 +27,48 @@ use Rattle.rules.proofs.Rebuilt.{counting_rising, prefix_good}
 use Rattle.entries.specs.Table.{Holds}
 use Rattle.entries.proofs.Table.{decoded, empty}
 use Rattle.entries.proofs.Sorting.{length_placed}
-use Rattle.ballots.specs.Ballots.{votes_in, vote_of, counts_at, Given, Lists, BestTo}
+use Rattle.ballots.specs.Ballots.{votes_in, vote_of, counts_at, Given, Lists, BestIn}
 use Rattle.rebuild.specs.Rebuild.{Based, lower, is_new, new_from, Adds, Gives}
 use Rattle.ballots.specs.declared.Best.{Best}
 use Rattle.rebuild.specs.declared.Basis.{Basis}
 use Rattle.rebuild.specs.declared.Count.{Count}
 use Rattle.ballots.specs.declared.Cast.{Cast}
-use Rattle.rebuild.specs.declared.Rebuilt.TheVariants.{TooLong, Log}
+use Rattle.std.specs.Prelude.{Some, None}
 use Rattle.ballots.proofs.Counting.{lower_next, lower_all}
 use Rattle.ballots.proofs.Sound.{vote_synced}
 use Rattle.rebuild.proofs.Holders.{listed_take}
-use Rattle.rebuild.proofs.New.{prefix_by, none_past, none_taken}
+use Rattle.rebuild.proofs.New.{prefix_none, prefix_is}
 use Rattle.rebuild.proofs.Added.{sorted_on}
 
 -- ---- what it starts from
 
-module _ (n : ℕ) (vs : List (Option Vote)) (a : Count) (b : Best) (l : length vs ≡ n) (t : a.top ≡ top_from 0 vs) (k : BestTo n vs a.top n b) where
-  abbrev top : ℕ
-  top = a.top
+module _ (n : ℕ) (vs : List (Option Vote)) (a : Count) (l : length vs ≡ n) (t : a.top ≡ top_from 0 vs) where
+  module _ (k : best (with_normal a.top (take n vs)) ≡ vote_of none) where
+    pub takes_none : (c : ℕ) (u : List ℕ) → c ≤ 4096 → u ≡ table_bytes c [] → Holds c (prefix (with_normal a.top vs)) u
+    takes_none c u w q = rw (prefix_none n vs a.top l k) (empty c u q w)
 
-  is_best : best (with_normal top vs) ≡ vote_of (get_or vs b.replica none)
-  is_best = ap best (sym (lower_all top vs n (omega arith))) ∙ k.is
+    pub based_none : (x : Entry) → x ≡ no_entry → Based n vs (record { count = a; best = None; last = x })
+    unfolding last_before
+    based_none x q = record { top = t; best = k; last = q ∙ ap last_of (sym (prefix_none n vs a.top l k)) }
 
-  prefix_of : prefix (with_normal top vs) ≡ take b.sync (vote_of (get_or vs b.replica none)).log
-  prefix_of = prefix_by (with_normal top vs) (vote_of (get_or vs b.replica none)) b.sync is_best k.sync
+  module _ (b : Best) (k : BestIn n vs a.top n b) where
+    pub takes_some : (c : ℕ) (log u : List ℕ) → Lists c (vote_of (get_or vs b.replica none)).log log → b.sync ≤ length (vote_of (get_or vs b.replica none)).log → Holds c (items (entry_at log) 24 4 b.sync) u → Holds c (prefix (with_normal a.top vs)) u
+    takes_some c log u f w h = subst (λ (x : List Entry). Holds c x u) (listed_take c _ log f b.sync w ∙ sym (prefix_is n vs a.top l b k)) h
 
-  prefix_empty : n ≤ b.replica → prefix (with_normal top vs) ≡ []
-  prefix_empty h = prefix_of ∙ none_taken vs n b.replica b.sync l h
+    last_of_lem : (es : List Entry) (m : ℕ) → m ≤ length es → 0 < m → entry_of es (m - 1) ≡ last_of (take m es)
+    unfolding last_before
+    last_of_lem es m h p =
+        let e : length (take m es) ≡ suc (m - 1) = length-take-le m es h ∙ omega arith in
+        sym (ap (last_before (entry_of (take m es))) e ∙ get_or-take m es (m - 1) no_entry (omega arith))
 
-  pub takes_none : (c : ℕ) (u : List ℕ) → n ≤ b.replica → c ≤ 4096 → u ≡ table_bytes c [] → Holds c (prefix (with_normal top vs)) u
-  takes_none c u h w q = rw (prefix_empty h) (empty c u q w)
-
-  pub takes_some : (c : ℕ) (log u : List ℕ) → Lists c (vote_of (get_or vs b.replica none)).log log → b.sync ≤ length (vote_of (get_or vs b.replica none)).log → Holds c (items (entry_at log) 24 4 b.sync) u → Holds c (prefix (with_normal top vs)) u
-  takes_some c log u f w h = subst (λ (x : List Entry). Holds c x u) (listed_take c _ log f b.sync w ∙ sym prefix_of) h
-
-  pub based_none : (x : Entry) → x ≡ no_entry → n ≤ b.replica → Based n vs (record { count = a; replica = b.replica; length = 0; last = x })
-  unfolding vote_of last_before
-  based_none x q h =
-      record {
-        top = t;
-        best = is_best;
-        length = ap (λ (x : Option Vote). (vote_of x).sync) (sym (none_past vs n b.replica l h));
-        within = k.within;
-        held = k.held;
-        last = q ∙ ap last_of (sym (prefix_empty h));
-      }
-
-  last_of_lem : (es : List Entry) (m : ℕ) → m ≤ length es → 0 < m → entry_of es (m - 1) ≡ last_of (take m es)
-  unfolding last_before
-  last_of_lem es m h p =
-      let e : length (take m es) ≡ suc (m - 1) = length-take-le m es h ∙ omega arith in
-      sym (ap (last_before (entry_of (take m es))) e ∙ get_or-take m es (m - 1) no_entry (omega arith))
-
-  pub based_some : (x : Entry) (m : ℕ) → b.replica < n → m ≡ b.sync → b.sync ≤ length (vote_of (get_or vs b.replica none)).log → x ≡ entry_of (vote_of (get_or vs b.replica none)).log (m - 1) → Based n vs (record { count = a; replica = b.replica; length = m; last = x })
-  based_some x m h e w q =
-      let es = (vote_of (get_or vs b.replica none)).log in
-      record {
-        top = t;
-        best = is_best;
-        length = e ∙ k.sync;
-        within = k.within;
-        held = k.held;
-        last = q ∙ last_of_lem es m (omega arith) (omega (arith, k.some h)) ∙ ap last_of (ap (λ (i : ℕ). take i es) e ∙ sym prefix_of);
-      }
+    pub based_some : (x : Entry) → b.sync ≤ length (vote_of (get_or vs b.replica none)).log → x ≡ entry_of (vote_of (get_or vs b.replica none)).log (b.sync - 1) → Based n vs (record { count = a; best = Some b; last = x })
+    based_some x w q =
+        let es = (vote_of (get_or vs b.replica none)).log in
+        record {
+          top = t;
+          best = k;
+          last = q ∙ last_of_lem es b.sync w k.some ∙ ap last_of (sym (prefix_is n vs a.top l b k));
+        }
 
 -- the prefix of a vote that is there
 pub record Cut (c : ℕ) (es : List Entry) (t : List ℕ) (m : ℕ) : Type 0 where
@@ -98,11 +77,11 @@ pub record Cut (c : ℕ) (es : List Entry) (t : List ℕ) (m : ℕ) : Type 0 whe
   pub room : m ≤ c
   pub long : 4 + 24 * m ≤ length t
 
-pub cut : (sh : Shape) (s msg : List ℕ) (a : Cast) (g : Given sh s msg a) (top : ℕ) (b : Best) → BestTo sh.n (votes_in sh s msg a) top sh.n b → b.replica < sh.n → (t : List ℕ) → Lists sh.c (vote_of (get_or (votes_in sh s msg a) b.replica none)).log t → Cut sh.c (vote_of (get_or (votes_in sh s msg a) b.replica none)).log t b.sync
-cut sh s msg a g top b k h t l =
-    let w = vote_synced sh s msg a g b.replica h (k.held h) in
+pub cut : (sh : Shape) (s msg : List ℕ) (a : Cast) (g : Given sh s msg a) (top : ℕ) (b : Best) → BestIn sh.n (votes_in sh s msg a) top sh.n b → (t : List ℕ) → Lists sh.c (vote_of (get_or (votes_in sh s msg a) b.replica none)).log t → Cut sh.c (vote_of (get_or (votes_in sh s msg a) b.replica none)).log t b.sync
+cut sh s msg a g top b k t l =
+    let w = vote_synced sh s msg a g b.replica k.within k.held in
     let e = k.sync in
-    record { some = k.some h; within = omega arith; room = omega (arith, l.room); long = omega (arith, l.size) }
+    record { some = k.some; within = omega arith; room = omega (arith, l.room); long = omega (arith, l.size) }
 
 -- ---- the copies, one replica more
 
@@ -182,7 +161,7 @@ module _ (s g c n : ℕ) (vs : List (Option Vote)) (b : Basis) (l : length vs �
       let d = all_map (λ e h. after_last front front_rises e (and_left (follows_last front e) _ h)) all (kept_passes (is_added n (with_normal b.count.top vs)) (copies [] (with_normal b.count.top vs))) in
       ap (λ (x : List Entry). place_all x all) (sym (append-nil front)) ∙ placed_behind front [] all d
 
-  pub whole_end : (r : ℕ) (t : List ℕ) → n ≤ r → Holds c (place_all front (added_below n b.count.top vs r)) t → Gives c n vs t (Log b.last.stamp)
+  pub whole_end : (r : ℕ) (t : List ℕ) → n ≤ r → Holds c (place_all front (added_below n b.count.top vs r)) t → Gives c n vs t (Some b.last.stamp)
   unfolding Gives boundary_of
   whole_end r t h f =
       let e : added_below n b.count.top vs r ≡ all = ap (λ (x : List Vote). keep (is_added n (with_normal b.count.top vs)) (copies [] x)) (lower_all b.count.top vs r (omega arith)) in
@@ -196,7 +175,7 @@ module _ (s g c n : ℕ) (vs : List (Option Vote)) (b : Basis) (l : length vs �
         let e : Holds c (place_all (place_all front (added_below n b.count.top vs r)) (new_from n b.count.top vs r)) u = subst (λ (x : List Entry). Holds c (place_all x (new_from n b.count.top vs r)) u) (decoded c _ t f) d in
         subst (λ (x : List Entry). Holds c x u) (sym (ap (place_all front) (below_next n b.count.top vs r (omega arith)) ∙ placed_append front (added_below n b.count.top vs r) _)) e
 
-    pub whole_stop : not ok ≡ true → Gives c n vs u TooLong
+    pub whole_stop : not ok ≡ true → Gives c n vs u None
     unfolding Adds Gives
     whole_stop q =
         let d : Adds c (table_at c t 0) (new_from n b.count.top vs r) u false = subst (Adds c (table_at c t 0) (new_from n b.count.top vs r) u) (not-true ok q) a in

@@ -1,33 +1,30 @@
 -- What the parts of the rebuild give: the prefix, what is added.
 use Rattle.std.specs.Prelude.{ℕ, ◌+◌, ◌≤◌, ◌<◌, ◌≡◌, Bool, true, false, ◌&&◌, List, [], length, take, get_or, eqb}
+use Rattle.std.specs.Prelude as rust
+use Rattle.std.specs.Prelude.{Some, None}
 use Rattle.std.proofs.Math.Option.{Option, none}
-use Rattle.rules.specs.Choice.{pick, any, keep, is_some}
+use Rattle.rules.specs.Choice.{pick, any, keep}
 use Rattle.rules.specs.Entry.{same_key, place_all}
 use Rattle.rules.specs.Log.{last_of}
 use Rattle.rules.specs.State.{Vote}
-use Rattle.rules.specs.Rebuild.{top_from, with_normal, best, prefix, holders, is_added, rebuilt, boundary_of}
+use Rattle.rules.specs.Rebuild.{top_from, with_normal, prefix, holders, is_added, rebuilt, boundary_of}
 use Rattle.rules.specs.declared.Entry.{Entry}
 use Rattle.entries.specs.Table.{Holds}
-use Rattle.rules.specs.declared.Shape.{Shape}
-use Rattle.ballots.specs.Ballots.{votes_in, vote_of, counts_at}
-use Rattle.rebuild.specs.Tables.{Counted}
+use Rattle.ballots.specs.Ballots.{vote_of, counts_at, BestTo}
+use Rattle.rebuild.specs.Tables.{votes_of, Counted}
 use Rattle.rebuild.specs.declared.Basis.{Basis}
-use Rattle.rebuild.specs.declared.Rebuilt.{Rebuilt}
-use Rattle.rebuild.specs.declared.Rebuilt.TheVariants.{TooLong, Log}
+use Rattle.rebuild.specs.declared.Votes.{Votes}
 
 -- what the rebuild starts from is right
 pub record Based (n : ℕ) (vs : List (Option Vote)) (b : Basis) : Type 0 where
   pub top : b.count.top ≡ top_from 0 vs
-  pub best : best (with_normal b.count.top vs) ≡ vote_of (get_or vs b.replica none)
-  pub length : b.length ≡ (vote_of (get_or vs b.replica none)).sync
-  pub within : b.replica ≤ n
-  pub held : b.replica < n → is_some (get_or vs b.replica none) ≡ true
+  pub best : BestTo n vs b.count.top n b.best
   pub last : b.last ≡ last_of (prefix (with_normal b.count.top vs))
 
 -- and so are the votes that are given and their slots
-pub record Starts (sh : Shape) (b msg : List ℕ) (k : Basis) (slots : List ℕ) : Type 0 where
-  pub counted : Counted sh b msg k.count slots
-  pub based : Based sh.n (votes_in sh b msg k.count.cast) k
+pub record Starts (v : Votes) (k : Basis) (slots : List ℕ) : Type 0 where
+  pub counted : Counted v k.count slots
+  pub based : Based v.shape.n (votes_of v) k
 
 -- the votes of replicas below r that count
 abbrev pub lower : ℕ → List (Option Vote) → ℕ → List Vote
@@ -51,6 +48,6 @@ Adds c es xs t true = Holds c (place_all es xs) t
 Adds c es xs t false = c < length es + length xs
 
 -- the rebuilt log stands in the table, beside its boundary, or it is too long for it
-unfoldable pub Gives : ℕ → ℕ → List (Option Vote) → List ℕ → Rebuilt → Type 0
-Gives c n vs t TooLong = c < length (rebuilt n vs)
-Gives c n vs t (Log boundary) = Holds c (rebuilt n vs) t × (boundary ≡ boundary_of vs)
+unfoldable pub Gives : ℕ → ℕ → List (Option Vote) → List ℕ → rust.Option ℕ → Type 0
+Gives c n vs t None = c < length (rebuilt n vs)
+Gives c n vs t (Some boundary) = Holds c (rebuilt n vs) t × (boundary ≡ boundary_of vs)

@@ -13,14 +13,19 @@ ghost use Rattle.rules.specs.Entry.{entry_of};
 ghost use Rattle.rules.specs.Read.{entry_at};
 ghost use Rattle.entries.specs.Table.{Table};
 ghost use Rattle.notes.specs.Notes.{Notes};
-ghost use Rattle.early.specs.Listed.{listed_in, Lookup};
+ghost use Rattle.early.specs.Listed.{indexed, Ready};
 ghost use Rattle.lookups.specs.Rows.{NoteRows};
 ghost use Rattle.places.specs.Layout.{longest, start_of, Fits};
 ghost use Rattle.releases.specs.Waiting.{run_in};
 ghost use Rattle.releases.specs.Releasing.{Releasing, Reaches, logging, early_left, notes_left, Noted, Cleared};
 
-use early::Listed;
+use early::{Index, Listed};
 use rules::{Entry, Shape};
+
+// The bytes of 256 entries, and those of the largest log.
+const FEW: usize = 24 * 256;
+
+const MOST: usize = 24 * 4096;
 
 // ---- the run of a leader
 
@@ -49,14 +54,12 @@ fn run_of(early: &[u8], notes: &[u8], c: usize, s: usize, due: usize, slots: &[u
     requires { Table c early.now × (due ≤ length (table_at c early.now 0)) × Notes c s notes.now × NoteRows c s notes.now slots.now }
     ensures { result ≡ run_in c s early.now notes.now due }
 {
-    let mut i = 0;
-    while i < due {
+    for i in 0..due {
         let e = entries::entry_of(early, c, i);
         let row = lookups::note_row(notes, c, s, slots, e.request, e.coordinator);
         if !notes::agreed_from(notes, c, s, e, row) {
             return i;
         }
-        i += 1;
     }
     due
 }
@@ -82,9 +85,7 @@ fn log_takes(shape: Shape, state: &mut [u8], e: Entry)
     ensures { Reaches shape (logging (state_of shape state.old) e) state.new }
 {
     let layout = places::places_of(shape);
-    let start = layout.log;
-    let end = layout.early;
-    entries::append(&mut state[start..end], shape.c as usize, e);
+    entries::append(&mut state[layout.log..layout.early], shape.c as usize, e);
 }
 
 // Early entry i.
@@ -106,8 +107,7 @@ pub fn release_one(shape: Shape, state: &mut [u8], n: usize, i: usize, sum: u64)
     let e = early_entry(shape, state, i);
     log_takes(shape, state, e);
     let at = places::log_place(shape, n + i);
-    let end = at + 24;
-    digest::digest_on(sum, &state[at..end])
+    digest::digest_on(sum, &state[at..at + 24])
 }
 
 // ---- all that were released leave
@@ -118,26 +118,20 @@ fn early_leaves(shape: Shape, state: &mut [u8], k: usize)
     ensures { Reaches shape (early_left (state_of shape state.old) (take k (state_of shape state.old).waiting.early)) state.new }
 {
     let layout = places::places_of(shape);
-    let start = layout.early;
-    let end = layout.late;
-    entries::leave_first(&mut state[start..end], shape.c as usize, k);
+    entries::leave_first(&mut state[layout.early..layout.late], shape.c as usize, k);
 }
 
 // The notes of listed transactions leave.
-fn notes_leave(shape: Shape, state: &mut [u8], b: &[u8], listed: Listed, slots: &[u16])
-    requires { Releasing shape state.old × Lookup b.now listed slots.now }
-    ensures { Reaches shape (notes_left (state_of shape state.old) (listed_in b.now listed)) state.new }
+fn notes_leave(shape: Shape, state: &mut [u8], index: Index)
+    requires { Releasing shape state.old × Ready index }
+    ensures { Reaches shape (notes_left (state_of shape state.old) (indexed index.entry)) state.new }
 {
     let layout = places::places_of(shape);
-    let start = layout.notes;
-    let end = layout.votes;
     early::leave_notes(
-        &mut state[start..end],
+        &mut state[layout.notes..layout.votes],
         shape.c as usize,
         shape.s as usize,
-        b,
-        listed,
-        slots,
+        index,
     );
 }
 
@@ -159,24 +153,26 @@ fn leave_by(shape: Shape, state: &mut [u8], n: usize, k: usize, gone: &mut [u8],
     copy_released(shape, state, n, k, gone);
     let listed = Listed { at: 0, count: k };
     early::list(gone, listed, slots);
-    notes_leave(shape, state, gone, listed, slots);
+    let index = Index {
+        bytes: gone,
+        listed,
+        slots,
+    };
+    notes_leave(shape, state, index);
 }
 
-// The same for at most 256 entries.
-fn leave_few(shape: Shape, state: &mut [u8], n: usize, k: usize, slots: &mut [u16])
-    requires { Releasing shape state.old × (n + k ≡ length (state_of shape state.old).logged.log) × (k ≤ 256) }
+// The same, by a copy of at most as many bytes.
+fn leave_within<const BYTES: usize>(
+    shape: Shape,
+    state: &mut [u8],
+    n: usize,
+    k: usize,
+    slots: &mut [u16],
+)
+    requires { Releasing shape state.old × (n + k ≡ length (state_of shape state.old).logged.log) × (24 * k ≤ BYTES) × (BYTES ≤ 98304) }
     ensures { Noted shape state.old n state.new }
 {
-    let mut gone = [0u8; 6144];
-    leave_by(shape, state, n, k, &mut gone, slots);
-}
-
-// The same for as many as the largest log holds.
-fn leave_many(shape: Shape, state: &mut [u8], n: usize, k: usize, slots: &mut [u16])
-    requires { Releasing shape state.old × (n + k ≡ length (state_of shape state.old).logged.log) × (k ≤ 4096) }
-    ensures { Noted shape state.old n state.new }
-{
-    let mut gone = [0u8; 98304];
+    let mut gone = [0u8; BYTES];
     leave_by(shape, state, n, k, &mut gone, slots);
 }
 
@@ -188,11 +184,11 @@ fn leave_notes(shape: Shape, state: &mut [u8], n: usize, k: usize, slots: &mut [
     if notes::count(places::notes(shape, state)) == 0 {
         return;
     }
-    if k <= 256 {
-        leave_few(shape, state, n, k, slots);
-        return;
+    if 24 * k <= FEW {
+        leave_within::<FEW>(shape, state, n, k, slots);
+    } else {
+        leave_within::<MOST>(shape, state, n, k, slots);
     }
-    leave_many(shape, state, n, k, slots);
 }
 
 // The last k entries of the log, those from place n on, leave early, whose first they are, and their notes go.

@@ -16,15 +16,15 @@ use Rattle.repeats.specs.declared.Spots.{Spots}
 use Rattle.repeats.specs.Rows.{count_of, spot_of, key_of, Inside}
 
 module _ (sp : Spots) (i : ℕ) where
-  pub spot_first : i < sp.first_count → sp.first + sp.stride * i ≡ spot_of sp i
+  pub spot_first : i < sp.first.count → sp.first.at + sp.stride * i ≡ spot_of sp i
   unfolding spot_of pick
   spot_first h = simp (lt-ltb _ _ h)
 
-  pub spot_second : sp.first_count ≤ i → i - sp.first_count < sp.second_count → sp.second + sp.stride * (i - sp.first_count) ≡ spot_of sp i
+  pub spot_second : sp.first.count ≤ i → i - sp.first.count < sp.second.count → sp.second.at + sp.stride * (i - sp.first.count) ≡ spot_of sp i
   unfolding spot_of pick
   spot_second h l = simp (le-ltb _ _ h, lt-ltb _ _ l)
 
-  pub spot_third : sp.first_count ≤ i → sp.second_count ≤ i - sp.first_count → sp.third + sp.stride * (i - sp.first_count - sp.second_count) ≡ spot_of sp i
+  pub spot_third : sp.first.count ≤ i → sp.second.count ≤ i - sp.first.count → sp.third.at + sp.stride * (i - sp.first.count - sp.second.count) ≡ spot_of sp i
   unfolding spot_of pick
   spot_third h l = simp (le-ltb _ _ h, le-ltb _ _ l)
 
@@ -35,19 +35,19 @@ run_in at stride n i len h l =
     omega (arith, mul-suc stride i)
 
 module _ (b : List ℕ) (sp : Spots) (i : ℕ) (w : Inside b sp) (h : i < count_of sp) where
-  in_later : sp.first_count ≤ i → Dec (i - sp.first_count < sp.second_count) → spot_of sp i + 6 ≤ length b
+  in_later : sp.first.count ≤ i → Dec (i - sp.first.count < sp.second.count) → spot_of sp i + 6 ≤ length b
   in_later f (yes l) =
-      omega (arith, spot_second sp i f l, run_in sp.second sp.stride sp.second_count (i - sp.first_count) (length b) l w.two)
+      omega (arith, spot_second sp i f l, run_in sp.second.at sp.stride sp.second.count (i - sp.first.count) (length b) l w.two)
   in_later f (no l) =
-      omega (arith, spot_third sp i f (omega (arith, l)), run_in sp.third sp.stride sp.third_count (i - sp.first_count - sp.second_count) (length b) (omega (arith, l)) w.three)
+      omega (arith, spot_third sp i f (omega (arith, l)), run_in sp.third.at sp.stride sp.third.count (i - sp.first.count - sp.second.count) (length b) (omega (arith, l)) w.three)
 
-  in_any : Dec (i < sp.first_count) → spot_of sp i + 6 ≤ length b
-  in_any (yes l) = omega (arith, spot_first sp i l, run_in sp.first sp.stride sp.first_count i (length b) l w.one)
-  in_any (no l) = in_later (omega (arith, l)) (dec_lt (i - sp.first_count) sp.second_count)
+  in_any : Dec (i < sp.first.count) → spot_of sp i + 6 ≤ length b
+  in_any (yes l) = omega (arith, spot_first sp i l, run_in sp.first.at sp.stride sp.first.count i (length b) l w.one)
+  in_any (no l) = in_later (omega (arith, l)) (dec_lt (i - sp.first.count) sp.second.count)
 
   -- every key lies inside
   pub spot_in : spot_of sp i + 6 ≤ length b
-  spot_in = in_any (dec_lt i sp.first_count)
+  spot_in = in_any (dec_lt i sp.first.count)
 
 module _ (b : List ℕ) (sp : Spots) (i at u v : ℕ) (e : at ≡ spot_of sp i) (eu : u ≡ num b at 4) where
   -- a key by its two parts

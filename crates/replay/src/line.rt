@@ -1,51 +1,54 @@
-// What is printed, and counts.
+// What is printed of a record that differs.
+use std::fmt::Display;
 use std::io;
 
-// One more; a count that would wrap stays.
-pub fn one_more(count: u64) -> u64 {
-    if count < 1000000 {
-        return count + 1;
-    }
-    count
-}
-
-// How numbers are printed: in decimal, or in sixteen hexadecimal digits.
-#[derive(Clone, Copy)]
-pub enum Form {
-    Decimal,
-    Digest,
-}
-
-// Prints that a number is not the wanted one.
-fn tell(
-    rt: &impl Print,
+// What comes of a record, held to what is wanted. It is loud where no record before it differs: a line says then what differs.
+#[derive(Drop)]
+pub struct Held<'a, R: Print> {
+    rt: &'a R,
     record: u64,
-    name: &str,
-    form: Form,
-    got: u64,
-    want: u64,
-) -> io::Result<()> {
-    match form {
-        Form::Decimal => println!(rt; "record {record}: {name} {got}, want {want}"),
-        Form::Digest => println!(rt; "record {record}: {name} {got:016x}, want {want:016x}"),
-    }
-}
-
-// Whether two numbers differ; where they do and `loud`, a line says so.
-pub fn differ(
-    rt: &impl Print,
     loud: bool,
-    record: u64,
-    name: &str,
-    form: Form,
-    got: u64,
-    want: u64,
-) -> io::Result<bool> {
-    if got == want {
-        return Ok(false);
+    differs: bool,
+}
+
+impl<'a, R: Print> Held<'a, R> {
+    // Before the first comparison.
+    pub fn new(rt: &'a R, record: u64, loud: bool) -> Held<'a, R> {
+        Held {
+            rt,
+            record,
+            loud,
+            differs: false,
+        }
     }
-    if loud {
-        tell(rt, record, name, form, got, want)?;
+
+    // Whether anything differs so far.
+    pub fn differs(&self) -> bool {
+        self.differs
     }
-    Ok(true)
+
+    // Something differs that a line tells.
+    fn tell(&mut self, line: impl Display + Drop) -> io::Result<()> {
+        self.differs = true;
+        if self.loud {
+            println!(self.rt; "record {}: {line}", self.record)?;
+        }
+        Ok(())
+    }
+
+    // Holds a number, which is printed in decimal.
+    pub fn number(&mut self, name: &str, got: u64, want: u64) -> io::Result<()> {
+        if got == want {
+            return Ok(());
+        }
+        self.tell(format_args!("{name} {got}, want {want}"))
+    }
+
+    // Holds a digest, which is printed in sixteen hexadecimal digits.
+    pub fn digest(&mut self, name: &str, got: u64, want: u64) -> io::Result<()> {
+        if got == want {
+            return Ok(());
+        }
+        self.tell(format_args!("{name} {got:016x}, want {want:016x}"))
+    }
 }

@@ -14,34 +14,34 @@ mod readings;
 mod records;
 mod table;
 
+use records::{Replay, Totals};
 use std::fs::File;
 use std::io;
 use std::rt::Files;
+use table::Table;
 
-// All records of a file.
+// Runs all records of a file.
 fn replay<R: Files + Print>(
     rt: &R,
     name: &str,
     state: &mut [u8],
-    counts: &mut [u64],
-) -> io::Result<records::Run> {
+    table: &mut Table,
+) -> io::Result<Totals> {
     let mut file = File::open(rt, name)?;
-    records::replay(rt, &mut file, state, counts)
+    Replay::new(rt, &mut file, state, table).run()
 }
 
 // The greatest state here is that of n = 7, S = 8, C = 64. A file that cannot be read ends the program with an error.
 fn main(rt: HostRuntime) -> io::Result<()> {
-    let mut state = [0u8; 36000];
-    let mut counts = [0u64; 275];
-    let run = replay(&rt, "l08.bin", &mut state, &mut counts)?;
-    let starts = run.starts;
-    println!(rt; "starts: {starts}")?;
-    table::print(&rt, &counts)?;
-    let steps = run.steps;
-    let differences = run.differences;
-    println!(rt; "{steps} steps, {differences} differences")?;
-    let read = replay(&rt, "l07.bin", &mut state, &mut counts)?;
-    let readings = read.readings;
-    let differences = read.differences;
-    println!(rt; "{readings} readings, {differences} differences")
+    let mut state = [0; 36000];
+    let mut table = Table::new();
+    let run = replay(&rt, "l08.bin", &mut state, &mut table)?;
+    println!(rt; "starts: {}", run.starts)?;
+    print!(rt; "{table}")?;
+    println!(rt; "{} steps, {} differences", run.steps, run.differences)?;
+    let read = replay(&rt, "l07.bin", &mut state, &mut table)?;
+    println!(rt;
+        "{} readings, {} differences",
+        read.readings, read.differences
+    )
 }

@@ -1,306 +1,235 @@
 // The records of a file, one after the other.
-use crate::line::Form;
-use crate::{line, readings, table};
+use crate::line::Held;
+use crate::table::Table;
 use rules::{Answer, Shape};
 use std::io;
 use std::io::{ErrorKind, Read};
 
-// How far it went: the sizes and the state's length since the last start, and how many there were; `over` at the file's end.
-#[derive(Clone, Copy)]
-pub struct Run {
-    pub shape: Shape,
-    pub length: usize,
+// How many records are run at most: nothing says that a file ends.
+const MOST: u64 = 1000000;
+
+// Why no further record is run: the file ends where the next would begin, the record cannot be run, or the file cannot be read.
+#[derive(Drop)]
+pub enum Stop {
+    End,
+    Broken(&'static str),
+    Failed(io::Error),
+}
+
+// The file ends within a record.
+const CUT: Stop = Stop::Broken("cut short");
+
+impl From<io::Error> for Stop {
+    // What cannot be read or printed.
+    fn from(error: io::Error) -> Stop {
+        Stop::Failed(error)
+    }
+}
+
+// How many records there were so far, of each sort, and how many of them differ.
+#[derive(Clone, Copy, Default)]
+pub struct Totals {
     pub records: u64,
     pub starts: u64,
     pub steps: u64,
     pub readings: u64,
     pub differences: u64,
-    pub over: bool,
 }
 
-// Before the first record: no sizes, so that a step is refused.
-fn fresh() -> Run {
-    Run {
-        shape: Shape { n: 0, s: 0, c: 0 },
-        length: 0,
-        records: 0,
-        starts: 0,
-        steps: 0,
-        readings: 0,
-        differences: 0,
-        over: false,
-    }
-}
-
-// One more difference.
-pub fn with_difference(mut run: Run, differs: bool) -> Run {
-    if differs {
-        run.differences = line::one_more(run.differences);
-    }
-    run
-}
-
-// A record that cannot be run is a difference, and the last record.
-pub fn broken(rt: &impl Print, mut run: Run, why: &str) -> io::Result<Run> {
-    let record = run.records;
-    println!(rt; "record {record}: {why}")?;
-    run.over = true;
-    Ok(with_difference(run, true))
-}
-
-// The number of an answer.
-pub fn number_of(answer: Answer) -> u8 {
-    match answer {
-        Answer::Done(_) => 0,
-        Answer::Refused(number, _) => number,
-    }
-}
-
-// The offset of an answer: where a malformed message is wrong.
-pub fn offset_of(answer: Answer) -> u64 {
-    match answer {
-        Answer::Done(_) => 0,
-        Answer::Refused(_, offset) => offset as u64,
-    }
-}
-
-// The outgoing length of an answer.
-fn length_of(answer: Answer) -> usize {
-    match answer {
-        Answer::Done(length) => length,
-        Answer::Refused(_, _) => 0,
-    }
-}
-
-// Fills the first `length` bytes, and answers whether there were as many.
-pub fn read_first(file: &mut impl Read, buffer: &mut [u8], length: usize) -> io::Result<bool> {
-    if buffer.len() < length {
-        return Ok(false);
-    }
-    match file.read_exact(&mut buffer[0..length]) {
-        Ok(()) => Ok(true),
-        Err(error) if error.kind() == ErrorKind::UnexpectedEof => Ok(false),
-        Err(error) => Err(error),
-    }
-}
-
-// The digest of the first `length` bytes, 0 where there are fewer.
-fn digest_first(bytes: &[u8], length: usize) -> u64 {
-    if bytes.len() < length {
-        return 0;
-    }
-    digest::digest_of(&bytes[0..length])
-}
-
-// Starts a replica of these sizes on the state's bytes.
-fn start_on(
-    rt: &impl Print,
-    mut run: Run,
+// A file's replay: where its lines are printed, the file, the bytes of the state, the table of its steps; the sizes and the state's length
+// since the last start, and how far it went.
+#[derive(Drop)]
+pub struct Replay<'a, R: Print, F: Read> {
+    rt: &'a R,
+    file: &'a mut F,
+    pub state: &'a mut [u8],
+    table: &'a mut Table,
     shape: Shape,
-    group: u64,
-    replica: u64,
-    state: &mut [u8],
-) -> io::Result<Run> {
-    let length = fresh::state_length(shape.n, shape.s, shape.c) as usize;
-    if state.len() < length {
-        return broken(rt, run, "no room for the state");
-    }
-    let number = number_of(fresh::start(shape, group, replica, &mut state[0..length]));
-    run.shape = shape;
-    run.length = length;
-    run.starts = line::one_more(run.starts);
-    let loud = run.differences == 0;
-    let differs = line::differ(
-        rt,
-        loud,
-        run.records,
-        "start",
-        Form::Decimal,
-        number as u64,
-        0,
-    )?;
-    Ok(with_difference(run, differs))
+    length: usize,
+    pub totals: Totals,
 }
 
-// A record of a start.
-fn start_record(
-    rt: &impl Print,
-    file: &mut impl Read,
-    run: Run,
-    state: &mut [u8],
-) -> io::Result<Run> {
-    let mut sizes = [0u8; 6];
-    if !read_first(file, &mut sizes, 6)? {
-        return broken(rt, run, "cut short");
+// The number of an answer, and the offset of the wrong field where a message is malformed.
+pub fn told_by(answer: Answer) -> (u8, usize) {
+    match answer {
+        Ok(_) => (0, 0),
+        Err(refusal) => (refusal.number(), refusal.offset()),
     }
-    let n = octets::look8(&sizes, 0) as u64;
-    let s = octets::look8(&sizes, 1) as u64;
-    let c = octets::look16(&sizes, 2) as u64;
-    let group = octets::look8(&sizes, 4) as u64;
-    let replica = octets::look8(&sizes, 5) as u64;
-    start_on(rt, run, Shape { n, s, c }, group, replica, state)
 }
 
-// What a step answered and left.
+// What a step answered, and the digests of what it sent and left.
 #[derive(Clone, Copy)]
 struct Came {
     number: u8,
     offset: u64,
-    length: usize,
+    length: u64,
     sent: u64,
     left: u64,
 }
 
-// One step on exactly these bytes.
-fn step_on(shape: Shape, state: &mut [u8], message: &[u8], out: &mut [u8]) -> Came {
-    let answer = replica::step(shape, state, message, out);
-    let length = length_of(answer);
-    let sent = digest_first(out, length);
-    Came {
-        number: number_of(answer),
-        offset: offset_of(answer),
-        length,
-        sent,
-        left: digest::digest_of(state),
-    }
-}
-
-// What came, held to what is wanted.
-fn held(rt: &impl Print, mut run: Run, came: Came, want: &[u8]) -> io::Result<Run> {
-    run.steps = line::one_more(run.steps);
-    let at = run.records;
-    let loud = run.differences == 0;
-    let number = octets::look8(want, 0) as u64;
-    let offset = octets::look32(want, 1) as u64;
-    let length = octets::look32(want, 5) as u64;
-    let a = line::differ(
-        rt,
-        loud,
-        at,
-        "number",
-        Form::Decimal,
-        came.number as u64,
-        number,
-    )?;
-    let o = line::differ(rt, loud, at, "offset", Form::Decimal, came.offset, offset)?;
-    let b = line::differ(
-        rt,
-        loud,
-        at,
-        "outgoing length",
-        Form::Decimal,
-        came.length as u64,
-        length,
-    )?;
-    let c = line::differ(
-        rt,
-        loud,
-        at,
-        "outgoing digest",
-        Form::Digest,
-        came.sent,
-        octets::look64(want, 9),
-    )?;
-    let d = line::differ(
-        rt,
-        loud,
-        at,
-        "state digest",
-        Form::Digest,
-        came.left,
-        octets::look64(want, 17),
-    )?;
-    Ok(with_difference(run, a | o | b | c | d))
-}
-
-// One step on the first bytes of the state, with that much room.
-fn step_in(
-    rt: &impl Print,
-    run: Run,
-    state: &mut [u8],
-    message: &[u8],
-    room: usize,
-    want: &[u8],
-    counts: &mut [u64],
-) -> io::Result<Run> {
-    let mut out = [0u8; 4000];
-    let length = run.length;
-    if state.len() < length {
-        return broken(rt, run, "no state");
-    }
-    if 4000 < room {
-        return broken(rt, run, "no such room");
-    }
-    let came = step_on(run.shape, &mut state[0..length], message, &mut out[0..room]);
-    table::count(counts, octets::look8(message, 0), came.number);
-    held(rt, run, came, want)
-}
-
-// A record of a step.
-fn step_record(
-    rt: &impl Print,
-    file: &mut impl Read,
-    run: Run,
-    state: &mut [u8],
-    counts: &mut [u64],
-) -> io::Result<Run> {
-    let mut sizes = [0u8; 8];
-    let mut message = [0u8; 1800];
-    let mut want = [0u8; 25];
-    if !read_first(file, &mut sizes, 8)? {
-        return broken(rt, run, "cut short");
-    }
-    let room = octets::look32(&sizes, 0) as usize;
-    let size = octets::look32(&sizes, 4) as usize;
-    if 1800 < size {
-        return broken(rt, run, "no room for the message");
-    }
-    if !read_first(file, &mut message, size)? {
-        return broken(rt, run, "cut short");
-    }
-    if !read_first(file, &mut want, 25)? {
-        return broken(rt, run, "cut short");
-    }
-    step_in(rt, run, state, &message[0..size], room, &want, counts)
-}
-
-// The next record, or the file's end.
-fn record(
-    rt: &impl Print,
-    file: &mut impl Read,
-    mut run: Run,
-    state: &mut [u8],
-    counts: &mut [u64],
-) -> io::Result<Run> {
-    let mut tag = [0u8; 1];
-    if !read_first(file, &mut tag, 1)? {
-        run.over = true;
-        return Ok(run);
-    }
-    run.records = line::one_more(run.records);
-    match octets::look8(&tag, 0) {
-        1 => start_record(rt, file, run, state),
-        2 => step_record(rt, file, run, state, counts),
-        5 => readings::record(rt, file, run, state),
-        _ => broken(rt, run, "neither a start, a step nor a reading"),
-    }
-}
-
-// All records, at most a million: nothing says that a file ends.
-pub fn replay(
-    rt: &impl Print,
-    file: &mut impl Read,
-    state: &mut [u8],
-    counts: &mut [u64],
-) -> io::Result<Run> {
-    let mut run = fresh();
-    let mut turns: u64 = 0;
-    while turns < 1000000 {
-        run = record(rt, file, run, state, counts)?;
-        if run.over {
-            return Ok(run);
+impl Came {
+    // Of one step on exactly these bytes.
+    fn of(shape: Shape, state: &mut [u8], message: &[u8], out: &mut [u8]) -> Came {
+        let answer = replica::step(shape, state, message, out);
+        let (number, offset) = told_by(answer);
+        let length = answer.unwrap_or(0);
+        Came {
+            number,
+            offset: offset as u64,
+            length: length as u64,
+            sent: out.get(..length).map_or(0, digest::digest_of),
+            left: digest::digest_of(state),
         }
-        turns += 1;
     }
-    broken(rt, run, "not the last")
+}
+
+impl<'a, R: Print, F: Read> Replay<'a, R, F> {
+    // Before the first record: no sizes, so that a step is refused.
+    pub fn new(
+        rt: &'a R,
+        file: &'a mut F,
+        state: &'a mut [u8],
+        table: &'a mut Table,
+    ) -> Replay<'a, R, F> {
+        Replay {
+            rt,
+            file,
+            state,
+            table,
+            shape: Shape { n: 0, s: 0, c: 0 },
+            length: 0,
+            totals: Totals::default(),
+        }
+    }
+
+    // Fills a buffer from the file, or stops so where the file ends before.
+    fn fill(&mut self, buffer: &mut [u8], short: Stop) -> Result<(), Stop> {
+        match self.file.read_exact(buffer) {
+            Ok(()) => Ok(()),
+            Err(error) if error.kind() == ErrorKind::UnexpectedEof => Err(short),
+            Err(error) => Err(Stop::Failed(error)),
+        }
+    }
+
+    // The next bytes of the record.
+    pub fn take<const N: usize>(&mut self) -> Result<[u8; N], Stop> {
+        let mut bytes = [0; N];
+        self.fill(&mut bytes, CUT)?;
+        Ok(bytes)
+    }
+
+    // The record's message, behind its length.
+    pub fn take_message<'b>(&mut self, buffer: &'b mut [u8]) -> Result<&'b [u8], Stop> {
+        let size = u32::from_le_bytes(self.take()?) as usize;
+        let Some(message) = buffer.get_mut(..size) else {
+            return Err(Stop::Broken("no room for the message"));
+        };
+        self.fill(message, CUT)?;
+        Ok(message)
+    }
+
+    // What a step must come to.
+    fn take_wanted(&mut self) -> Result<Came, Stop> {
+        Ok(Came {
+            number: u8::from_le_bytes(self.take()?),
+            offset: u64::from(u32::from_le_bytes(self.take()?)),
+            length: u64::from(u32::from_le_bytes(self.take()?)),
+            sent: u64::from_le_bytes(self.take()?),
+            left: u64::from_le_bytes(self.take()?),
+        })
+    }
+
+    // What holds the record to what is wanted.
+    pub fn held(&self) -> Held<'a, R> {
+        Held::new(self.rt, self.totals.records, self.totals.differences == 0)
+    }
+
+    // Counts a record that differs; more than there are records at most are not counted.
+    pub fn count(&mut self, differs: bool) {
+        if differs {
+            self.totals.differences = self.totals.differences.saturating_add(1).min(MOST);
+        }
+    }
+
+    // A record of a start, on the state's bytes.
+    fn start(&mut self) -> Result<(), Stop> {
+        let [n, s, low, high, group, replica] = self.take::<6>()?;
+        let shape = Shape {
+            n: u64::from(n),
+            s: u64::from(s),
+            c: u64::from(u16::from_le_bytes([low, high])),
+        };
+        let length = fresh::state_length(shape.n, shape.s, shape.c) as usize;
+        let Some(state) = self.state.get_mut(..length) else {
+            return Err(Stop::Broken("no room for the state"));
+        };
+        let answer = fresh::start(shape, u64::from(group), u64::from(replica), state);
+        self.shape = shape;
+        self.length = length;
+        self.totals.starts = self.totals.starts.saturating_add(1);
+        let mut held = self.held();
+        let (number, _) = told_by(answer);
+        held.number("start", u64::from(number), 0)?;
+        self.count(held.differs());
+        Ok(())
+    }
+
+    // A record of a step, on the first bytes of the state.
+    fn step(&mut self) -> Result<(), Stop> {
+        let mut buffer = [0; 1800];
+        let mut out = [0; 4000];
+        let room = u32::from_le_bytes(self.take()?) as usize;
+        let message = self.take_message(&mut buffer)?;
+        let want = self.take_wanted()?;
+        let Some(state) = self.state.get_mut(..self.length) else {
+            return Err(Stop::Broken("no state"));
+        };
+        let Some(out) = out.get_mut(..room) else {
+            return Err(Stop::Broken("no such room"));
+        };
+        let came = Came::of(self.shape, state, message, out);
+        self.table.count(octets::look8(message, 0), came.number);
+        self.totals.steps = self.totals.steps.saturating_add(1);
+        let mut held = self.held();
+        held.number("number", u64::from(came.number), u64::from(want.number))?;
+        held.number("offset", came.offset, want.offset)?;
+        held.number("outgoing length", came.length, want.length)?;
+        held.digest("outgoing digest", came.sent, want.sent)?;
+        held.digest("state digest", came.left, want.left)?;
+        self.count(held.differs());
+        Ok(())
+    }
+
+    // The next record.
+    fn record(&mut self) -> Result<(), Stop> {
+        let mut tag = [0];
+        self.fill(&mut tag, Stop::End)?;
+        self.totals.records = self.totals.records.saturating_add(1);
+        match tag {
+            [1] => self.start(),
+            [2] => self.step(),
+            [5] => self.reading(),
+            _ => Err(Stop::Broken("neither a start, a step nor a reading")),
+        }
+    }
+
+    // A record that cannot be run is a difference, and the last record.
+    fn broken(mut self, why: &str) -> io::Result<Totals> {
+        println!(self.rt; "record {}: {why}", self.totals.records)?;
+        self.count(true);
+        Ok(self.totals)
+    }
+
+    // Runs all records.
+    pub fn run(mut self) -> io::Result<Totals> {
+        for _ in 0..MOST {
+            match self.record() {
+                Ok(()) => {}
+                Err(Stop::End) => return Ok(self.totals),
+                Err(Stop::Broken(why)) => return self.broken(why),
+                Err(Stop::Failed(error)) => return Err(error),
+            }
+        }
+        self.broken("not the last")
+    }
 }

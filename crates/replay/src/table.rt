@@ -1,91 +1,94 @@
-// How many steps there were of each kind and of each answer: a row for each kind up to 23, 0 for bytes that are of none, and 24 for all
-// kinds; a column for each number up to 9, and 10 for all numbers.
-use crate::line::one_more;
-use std::io;
+// How many steps there were of each kind and of each answer.
+use rules::kind::{
+    CHANGE_VIEW, COMMIT, FAST_REPLY, REPLICA_SYNC, SLOW_REPLY, START_VIEW, SYNC_STATUS, TICK,
+    TIMESTAMP_NOTE, TRANSACTION, VERIFY_REPLY, VERIFY_REQUEST, VOTE,
+};
+use std::fmt;
 
-// Where a row's column stands, past the table for one that it has not.
-fn place(row: usize, column: usize) -> usize {
-    if 24 < row {
-        return 275;
+// The kinds that have a row, by their numbers.
+const KINDS: [u8; 13] = [
+    TRANSACTION,
+    TIMESTAMP_NOTE,
+    REPLICA_SYNC,
+    FAST_REPLY,
+    SLOW_REPLY,
+    CHANGE_VIEW,
+    VOTE,
+    START_VIEW,
+    SYNC_STATUS,
+    COMMIT,
+    VERIFY_REQUEST,
+    VERIFY_REPLY,
+    TICK,
+];
+
+// The row of bytes that are of none of them, and the row of all steps.
+const OTHER: usize = 0;
+
+const EVERY: usize = 24;
+
+// The column of all numbers, behind one for each number up to 9.
+const ALL: usize = 10;
+
+// A row for each kind at its number, and the others; a column for each number.
+#[derive(Drop)]
+pub struct Table([[u64; 11]; 25]);
+
+impl Table {
+    // Before the first step.
+    pub fn new() -> Table {
+        Table([[0; 11]; 25])
     }
-    if 10 < column {
-        return 275;
-    }
-    row * 11 + column
-}
 
-// One more in a cell.
-fn add(counts: &mut [u64], row: usize, column: usize) {
-    let at = place(row, column);
-    if at < counts.len() {
-        let count = counts[at];
-        counts[at] = one_more(count);
-    }
-}
-
-// The row of a message's first byte.
-fn row_of(kind: u8) -> usize {
-    match kind {
-        1 | 3..=11 | 18 | 19 | 23 => kind as usize,
-        _ => 0,
+    // One more step of the kind of that first byte that was answered so.
+    pub fn count(&mut self, kind: u8, number: u8) {
+        let row = if KINDS.contains(&kind) {
+            kind as usize
+        } else {
+            OTHER
+        };
+        let column = number as usize;
+        if ALL <= column {
+            return;
+        }
+        for (row, column) in [(row, column), (row, ALL), (EVERY, column), (EVERY, ALL)] {
+            if let Some(count) = self.0.get_mut(row).and_then(|cells| cells.get_mut(column)) {
+                *count = count.saturating_add(1);
+            }
+        }
     }
 }
 
-// One more step of that kind that was answered so.
-pub fn count(counts: &mut [u64], kind: u8, number: u8) {
-    let row = row_of(kind);
-    let column = number as usize;
-    if 9 < column {
-        return;
+// The cells of a row.
+#[derive(Clone, Copy)]
+struct Cells<'a>(&'a [u64; 11]);
+
+impl fmt::Display for Cells<'_> {
+    // Each number at the right of six places.
+    fn fmt<W: fmt::Write>(&self, f: &mut fmt::Formatter<W>) -> fmt::Result {
+        for count in self.0 {
+            write!(f, " {count:>5}")?;
+        }
+        Ok(())
     }
-    add(counts, row, column);
-    add(counts, row, 10);
-    add(counts, 24, column);
-    add(counts, 24, 10);
 }
 
-// A number at the right of six places.
-fn cell(rt: &impl Print, value: u64) -> io::Result<()> {
-    print!(rt; " {value:>5}")
-}
-
-// A cell of the table.
-fn count_at(rt: &impl Print, counts: &[u64], row: usize, column: usize) -> io::Result<()> {
-    let at = place(row, column);
-    if at < counts.len() {
-        cell(rt, counts[at])?;
+impl fmt::Display for Table {
+    // The row of each kind, that of the others and that of all.
+    fn fmt<W: fmt::Write>(&self, f: &mut fmt::Formatter<W>) -> fmt::Result {
+        writeln!(
+            f,
+            "  kind     0     1     2     3     4     5     6     7     8     9   all"
+        )?;
+        for kind in KINDS {
+            if let Some(row) = self.0.get(kind as usize) {
+                let cells = Cells(row);
+                writeln!(f, " {kind:>5}{cells}")?;
+            }
+        }
+        let others = Cells(&self.0[OTHER]);
+        writeln!(f, " other{others}")?;
+        let all = Cells(&self.0[EVERY]);
+        writeln!(f, "   all{all}")
     }
-    Ok(())
-}
-
-// A row of the table, after its name.
-fn row(rt: &impl Print, counts: &[u64], row: usize) -> io::Result<()> {
-    for column in 0..11 {
-        count_at(rt, counts, row, column)?;
-    }
-    println!(rt;)
-}
-
-// The row of a kind.
-fn kind(rt: &impl Print, counts: &[u64], number: usize) -> io::Result<()> {
-    cell(rt, number as u64)?;
-    row(rt, counts, number)
-}
-
-// The rows of the thirteen kinds.
-fn kinds(rt: &impl Print, counts: &[u64]) -> io::Result<()> {
-    for number in [1, 3, 4, 5, 6, 7, 8, 9, 10, 11, 18, 19, 23] {
-        kind(rt, counts, number)?;
-    }
-    Ok(())
-}
-
-// The whole table.
-pub fn print(rt: &impl Print, counts: &[u64]) -> io::Result<()> {
-    println!(rt; "  kind     0     1     2     3     4     5     6     7     8     9   all")?;
-    kinds(rt, counts)?;
-    print!(rt; " other")?;
-    row(rt, counts, 0)?;
-    print!(rt; "   all")?;
-    row(rt, counts, 24)
 }

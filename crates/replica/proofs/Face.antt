@@ -17,10 +17,10 @@ use Rattle.rules.specs.Write.{Written, written, writes}
 use Rattle.rules.specs.Bytes.{Left, left}
 use Rattle.rules.specs.declared.Shape.{Shape}
 use Rattle.rules.specs.declared.Message.{Message}
-use Rattle.rules.specs.declared.Verdict.{Verdict}
-use Rattle.rules.specs.declared.Verdict.TheVariants.{Fine, Wrong}
-use Rattle.rules.specs.declared.Answer.{Answer}
-use Rattle.rules.specs.declared.Answer.TheVariants.{Done, Refused}
+use Rattle.rules.specs.Read.{Verdict}
+use Rattle.rules.specs.Read.{all_right, wrong_field}
+use Rattle.std.specs.Prelude.{Ok, Err}
+use Rattle.rules.specs.Refusals.{Answer, number_of}
 use Rattle.rules.proofs.Tests.{sizes}
 use Rattle.rules.proofs.EachKind.{kind_small}
 use Rattle.rules.proofs.Verdicts.{rows_right}
@@ -28,8 +28,8 @@ use Rattle.fresh.proofs.Promises.{left_state, left_out}
 use Rattle.replica.specs.Face.{coded, code_of, Gives, Puts, Given, head_fits, header_of, unfit_in, writes_from}
 
 code_left : (a : Answer) (b out : List ℕ) → code_of a ≡ coded (left a b out).number ((left a b out).sent + (left a b out).offset)
-code_left (Done sent) b out = ap (coded 0) (omega arith)
-code_left (Refused number offset) b out = ap (coded number) (omega arith)
+code_left (Ok sent) b out = ap (coded 0) (omega arith)
+code_left (Err r) b out = ap (coded (number_of r)) (omega arith)
 
 pub gives : (a : Answer) (b out : List ℕ) (l : Left) (r : ℕ) → left a b out ≡ l → r ≡ code_of a → Gives l r b out
 gives a b out l r e c =
@@ -40,12 +40,12 @@ gives a b out l r e c =
     }
 
 code_written : (a : Answer) (out : List ℕ) → code_of a ≡ coded (written a out).number ((written a out).sent + (written a out).offset)
-code_written (Done sent) out = ap (coded 0) (omega arith)
-code_written (Refused number offset) out = ap (coded number) (omega arith)
+code_written (Ok sent) out = ap (coded 0) (omega arith)
+code_written (Err r) out = ap (coded (number_of r)) (omega arith)
 
 written_out : (a : Answer) (out : List ℕ) → (written a out).out ≡ out
-written_out (Done sent) out = refl
-written_out (Refused number offset) out = refl
+written_out (Ok sent) out = refl
+written_out (Err r) out = refl
 
 -- the answer where a field at this offset does not fit
 abbrev pub Unfit : ℕ → ℕ → ℕ → ℕ → Type 0
@@ -55,16 +55,16 @@ module _ (n s : ℕ) (g : Given) (numbers views entries out : List ℕ) (h : Ver
   abbrev leaves : Written
   leaves = writes_from n s g numbers views entries out
 
-  unfit_puts : (r at u : ℕ) → unfit_in s g numbers ≡ Wrong at u → Unfit n s at r → Puts leaves r out
+  unfit_puts : (r at u : ℕ) → unfit_in s g numbers ≡ wrong_field at u → Unfit n s at r → Puts leaves r out
   unfolding writes_from pick
   unfit_puts r at u f q = record { number = rw f (q ∙ ap (coded (pick (sizes_fit n s) 2 1)) (omega arith)); out = rw f refl }
 
   -- a field that is too wide
-  pub too_wide : (r at u : ℕ) → h ≡ Wrong at u → Unfit n s at r → Puts leaves r out
+  pub too_wide : (r at u : ℕ) → h ≡ wrong_field at u → Unfit n s at r → Puts leaves r out
   unfolding unfit_in and_then
   too_wide r at u f q = unfit_puts r at u (rw (sym e ∙ f)) q
 
-  module _ (fine : h ≡ Fine) (count : ℕ) (c : count ≡ numbers_in g.kind) where
+  module _ (fine : h ≡ all_right) (count : ℕ) (c : count ≡ numbers_in g.kind) where
     -- numbers that are not the kind's
     pub miscounted : (r at : ℕ) → (length numbers ≡ count → ⊥) → (s ≤ 8 → at ≡ numbers_at s g.kind) → Unfit n s at r → Puts leaves r out
     unfolding unfit_in and_then first_wrong pick
@@ -107,7 +107,7 @@ pub record Narrow (g : Given) : Type 0 where
   pub from_replica : g.from_replica < 256
   pub view : g.view < 4294967296
 
-pub narrow_fits : (g : Given) (h : Verdict) → h ≡ first_wrong (head_fits g) → h ≡ Fine → Narrow g
+pub narrow_fits : (g : Given) (h : Verdict) → h ≡ first_wrong (head_fits g) → h ≡ all_right → Narrow g
 unfolding head_fits
 narrow_fits g h e f =
     let r = rows_right (head_fits g) (sym e ∙ f) in

@@ -1,5 +1,5 @@
 -- What a host is given: one number for an answer, and the memory as the statements say.
-use Rattle.std.specs.Prelude.{ℕ, ◌+◌, ◌*◌, ◌%◌, ◌^◌, ◌≡◌, true, List, [], ◌∷◌, length, eqb, ltb}
+use Rattle.std.specs.Prelude.{ℕ, ◌+◌, ◌*◌, ◌%◌, ◌^◌, ◌≡◌, true, List, [], ◌∷◌, Ok, Err, length, eqb, ltb}
 use Rattle.rules.specs.Choice.{pick}
 use Rattle.rules.specs.Group.{sizes_fit}
 use Rattle.rules.specs.Kind.{known, numbers_in}
@@ -8,9 +8,8 @@ use Rattle.rules.specs.Read.{Row, ◌to◌is◌, numbers_at, first_wrong, and_th
 use Rattle.rules.specs.Write.{place_of, Written, writes}
 use Rattle.rules.specs.Bytes.{Left}
 use Rattle.rules.specs.declared.Header.{Header}
-use Rattle.rules.specs.declared.Verdict.{Verdict}
-use Rattle.rules.specs.declared.Answer.{Answer}
-use Rattle.rules.specs.declared.Answer.TheVariants.{Done, Refused}
+use Rattle.rules.specs.Read.{Verdict}
+use Rattle.rules.specs.Refusals.{Answer, number_of, offset_of}
 
 -- the version of the interface, 2.1.0: major * 10000 + minor * 100 + patch
 abbrev pub version : ℕ
@@ -22,8 +21,8 @@ coded number beside = number + beside * 2 ^ 8 % 2 ^ 64
 
 -- of an answer
 abbrev pub code_of : Answer → ℕ
-code_of (Done sent) = coded 0 sent
-code_of (Refused number offset) = coded number offset
+code_of (Ok sent) = coded 0 sent
+code_of (Err r) = coded (number_of r) (offset_of r)
 
 -- what a call leaves, as a host has it: of outgoing length and offset one is 0
 pub record Gives (l : Left) (r : ℕ) (b o : List ℕ) : Type 0 where

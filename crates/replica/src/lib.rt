@@ -14,8 +14,8 @@ ghost use Rattle.readers.specs.Statements.{MeasuresFirst, TellsField, TellsView,
 ghost use Rattle.rooms.specs.Statements.{Steps};
 ghost use Rattle.replica.specs.Statements.{StepsByNumber, Starts, Orders, Judges, Reads, Writes, IsVersion, IsCore};
 
-use fields::field;
-use rules::{Answer, Header, Message, Shape, Verdict, refusal};
+use fields::expect;
+use rules::{Answer, Header, Message, Refusal, Shape, Verdict};
 
 // One step: the next state's bytes and the outgoing messages, or the lowest number of the table that applies and all as it came.
 pub fn step(shape: Shape, state: &mut [u8], message: &[u8], out: &mut [u8]) -> Answer
@@ -38,8 +38,8 @@ fn code(answer: Answer) -> u64
     ensures { result ≡ code_of answer }
 {
     match answer {
-        Answer::Done(sent) => coded(0, sent),
-        Answer::Refused(number, offset) => coded(number, offset),
+        Ok(sent) => coded(0, sent),
+        Err(refusal) => coded(refusal.number(), refusal.offset()),
     }
 }
 
@@ -170,19 +170,12 @@ fn head_fits(
 ) -> Verdict
     ensures { result ≡ first_wrong (head_fits (given kind to_group to_mask from_group from_replica view)) }
 {
-    let last = field(view < 4294967296, 8, 12, Verdict::Fine);
-    let sender = field(
-        from_group < 256,
-        3,
-        4,
-        field(from_replica < 256, 4, 5, last),
-    );
-    field(
-        is_known(kind),
-        0,
-        1,
-        field(to_group < 256, 1, 2, field(to_mask < 256, 2, 3, sender)),
-    )
+    expect(is_known(kind), 0, 1)
+        .and(expect(to_group < 256, 1, 2))
+        .and(expect(to_mask < 256, 2, 3))
+        .and(expect(from_group < 256, 3, 4))
+        .and(expect(from_replica < 256, 4, 5))
+        .and(expect(view < 4294967296, 8, 12))
 }
 
 // The answer where the field at this offset does not fit: wrong sizes come before it.
@@ -190,9 +183,9 @@ fn unfit(n: u64, s: u64, at: usize) -> u64
     ensures { result ≡ face.coded (pick (sizes_fit n s) 2 1) (pick (sizes_fit n s) at 0) }
 {
     if group::sizes_fit(n, s) {
-        return coded(refusal::MALFORMED, at);
+        return code(Err(Refusal::Malformed(at)));
     }
-    coded(refusal::WRONG_STATE, 0)
+    code(Err(Refusal::WrongState))
 }
 
 // Where the count of a kind's numbers stands; 0 for more groups than there can be.
@@ -226,8 +219,8 @@ pub fn jallumere_write(
 {
     let head = head_fits(kind, to_group, to_mask, from_group, from_replica, view);
     match head {
-        Verdict::Fine => {}
-        Verdict::Wrong(at, _) => return unfit(n, s, at),
+        Ok(()) => {}
+        Err(wrong) => return unfit(n, s, wrong.at),
     }
     let header = Header {
         kind: kind as u8,

@@ -13,7 +13,7 @@ ghost use Rattle.views.specs.Views.{views_of};
 ghost use Rattle.replies.specs.Replies.{starts_with};
 
 use merge::Reply;
-use rules::{Answer, Message, Shape, kind, refusal};
+use rules::{Answer, Message, Refusal, Shape, kind};
 
 // Merges the replies into the draft, that of the message among them, and starts the view with what this gives. The merge goes into a lent table, so
 // that a draft that is too long, or that cannot be sent, leaves the state as it came.
@@ -33,7 +33,7 @@ fn start_merged(
         left result state.new out.new ≡ closes shape b out.old (starts_with shape b (views_of shape message.now) draft) }
 {
     if !merge::merge(shape, state, message, reply, table, slots) {
-        return Answer::Refused(refusal::FULL, 0);
+        return Err(Refusal::Full);
     }
     let view = places::get_view(state);
     changes::start_leading(shape, state, view, message, table, out)
@@ -53,20 +53,20 @@ pub fn on_verify_reply(
     ensures { left result state.new out.new ≡ handled 19 on_verify_reply shape m state.old message.now out.old }
 {
     let Message::VerifyReply(h) = m else {
-        return Answer::Refused(refusal::MALFORMED, 0);
+        return Err(Refusal::Malformed(0));
     };
     let from = h.from_group as u64;
     if places::reply_flag(shape, state, from) {
-        return Answer::Refused(refusal::NOTHING_TO_DO, 0);
+        return Err(Refusal::NothingToDo);
     }
     let at = kinds::entries_at(shape.s, kind::VERIFY_REPLY);
     let number = octets::get32(message, at) as usize;
     if (shape.c as usize) < number {
-        return Answer::Refused(refusal::FULL, 0);
+        return Err(Refusal::Full);
     }
     if places::held_replies(shape, state) + 1 < shape.s - 1 {
         views::keep_reply(shape, state, from, message, at + 4, number);
-        return Answer::Done(0);
+        return Ok(0);
     }
     let reply = Reply {
         from,

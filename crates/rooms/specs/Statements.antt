@@ -2,7 +2,7 @@
 -- here and in `replica`, and proofs/Promises shows that two outcomes that satisfy a statement are one.
 use Rattle.std.specs.Prelude.{ℕ, ◌≡◌, List, []}
 use Rattle.rules.specs.Bytes.{left, step_bytes, order_bytes}
-use Rattle.rules.specs.declared.Answer.{Answer}
+use Rattle.rules.specs.Refusals.{Answer}
 use Rattle.rules.specs.declared.Shape.{Shape}
 
 -- step: of the state's bytes b, a message and the buffer out are left the answer a, the state's bytes b' and the buffer out'

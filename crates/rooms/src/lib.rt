@@ -2,7 +2,7 @@
 // A call in a small group needs little of the stack; a long message gets the largest room, whatever the group's capacity.
 #![tactic(auto)]
 
-ghost use Rattle.std.specs.Prelude.{◌≡◌, true, eqb, length};
+ghost use Rattle.std.specs.Prelude.{◌≡◌, ◌≤◌, true, eqb, length};
 ghost use Rattle.rules.specs.Wire.{tag_of};
 ghost use Rattle.rules.specs.Read.{wire_in, decoded};
 ghost use Rattle.rules.specs.Image.{state_of, good_bytes};
@@ -10,15 +10,23 @@ ghost use Rattle.places.specs.Layout.{length_for};
 ghost use Rattle.wire.specs.Statements.{Reads, Writes};
 ghost use Rattle.good.specs.Statements.{Judges};
 ghost use Rattle.good.specs.Statements as check;
-ghost use Rattle.admit.specs.Refusal.{refusal_of, wrong_at};
+ghost use Rattle.admit.specs.Refusal.{wrong_at};
 ghost use Rattle.rooms.specs.Statements.{Steps, Orders};
 
-use rules::{Answer, Message, Shape, refusal};
+use rules::{Answer, Message, Refusal, Shape};
 
 // The longest message whose log the 512 slots serve, and the longest that the 2,400 serve: two slots for an entry, and a path's length.
 const SHORT_MESSAGE: usize = 4096;
 
 const MIDDLE_MESSAGE: usize = 28000;
+
+// Slots for a capacity of 16, 48 rows at most, and a short message; for one of 256, 768 rows, four logs of it for a rebuild and a message of a thousand
+// entries; and for the largest capacity, and four logs of it for a rebuild.
+const FEW: usize = 512;
+
+const MORE: usize = 2400;
+
+const MANY: usize = 33032;
 
 // ---- the check of a state
 
@@ -29,27 +37,12 @@ fn has_length(shape: Shape, state: &[u8]) -> bool
     state.len() as u64 == fresh::state_length(shape.n, shape.s, shape.c)
 }
 
-// With room for a capacity of 16: 48 rows at most.
-fn good_few(shape: Shape, state: &[u8]) -> bool
+// With room for as many slots: a frame for each number.
+fn good_with<const SLOTS: usize>(shape: Shape, state: &[u8]) -> bool
+    requires { SLOTS ≤ 33032 }
     ensures { Judges shape state.now result }
 {
-    let mut slots = [0u16; 512];
-    good::good(shape, state, &mut slots)
-}
-
-// With room for a capacity of 256: 768 rows.
-fn good_more(shape: Shape, state: &[u8]) -> bool
-    ensures { Judges shape state.now result }
-{
-    let mut slots = [0u16; 2400];
-    good::good(shape, state, &mut slots)
-}
-
-// With room for the largest capacity.
-fn good_many(shape: Shape, state: &[u8]) -> bool
-    ensures { Judges shape state.now result }
-{
-    let mut slots = [0u16; 33032];
+    let mut slots = [0u16; SLOTS];
     good::good(shape, state, &mut slots)
 }
 
@@ -61,37 +54,22 @@ pub fn good(shape: Shape, state: &[u8]) -> bool
         return false;
     }
     if shape.c <= 16 {
-        return good_few(shape, state);
+        return good_with::<FEW>(shape, state);
     }
     if shape.c <= 256 {
-        return good_more(shape, state);
+        return good_with::<MORE>(shape, state);
     }
-    good_many(shape, state)
+    good_with::<MANY>(shape, state)
 }
 
 // ---- an older state put in order
 
-// With room for a capacity of 16.
-fn orderable_few(shape: Shape, state: &[u8]) -> bool
+// With room for as many slots.
+fn orderable_with<const SLOTS: usize>(shape: Shape, state: &[u8]) -> bool
+    requires { SLOTS ≤ 33032 }
     ensures { check.Orders shape state.now result }
 {
-    let mut slots = [0u16; 512];
-    good::orderable(shape, state, &mut slots)
-}
-
-// With room for a capacity of 256.
-fn orderable_more(shape: Shape, state: &[u8]) -> bool
-    ensures { check.Orders shape state.now result }
-{
-    let mut slots = [0u16; 2400];
-    good::orderable(shape, state, &mut slots)
-}
-
-// With room for the largest capacity.
-fn orderable_many(shape: Shape, state: &[u8]) -> bool
-    ensures { check.Orders shape state.now result }
-{
-    let mut slots = [0u16; 33032];
+    let mut slots = [0u16; SLOTS];
     good::orderable(shape, state, &mut slots)
 }
 
@@ -103,12 +81,12 @@ fn orderable(shape: Shape, state: &[u8]) -> bool
         return false;
     }
     if shape.c <= 16 {
-        return orderable_few(shape, state);
+        return orderable_with::<FEW>(shape, state);
     }
     if shape.c <= 256 {
-        return orderable_more(shape, state);
+        return orderable_with::<MORE>(shape, state);
     }
-    orderable_many(shape, state)
+    orderable_with::<MANY>(shape, state)
 }
 
 // Puts early of an older state in order, or refuses and leaves all as it came. It is called once in a state's life, so one entry after
@@ -117,38 +95,23 @@ pub fn order(shape: Shape, state: &mut [u8]) -> Answer
     ensures { Orders shape state.old result state.new }
 {
     if !orderable(shape, state) {
-        return Answer::Refused(refusal::WRONG_STATE, 0);
+        return Err(Refusal::WrongState);
     }
     let layout = places::places_of(shape);
     let start = layout.early;
     let end = layout.late;
     entries::order(&mut state[start..end], shape.c as usize);
-    Answer::Done(0)
+    Ok(0)
 }
 
 // ---- a message read
 
-// With room for a short message.
-fn read_few(n: u64, s: u64, message: &[u8]) -> Message
+// With room for as many slots.
+fn read_with<const SLOTS: usize>(n: u64, s: u64, message: &[u8]) -> Message
+    requires { SLOTS ≤ 33032 }
     ensures { Reads n s message.now result }
 {
-    let mut slots = [0u16; 512];
-    wire::read(n, s, message, &mut slots)
-}
-
-// With room for one of a thousand entries.
-fn read_more(n: u64, s: u64, message: &[u8]) -> Message
-    ensures { Reads n s message.now result }
-{
-    let mut slots = [0u16; 2400];
-    wire::read(n, s, message, &mut slots)
-}
-
-// With room for any that a group of the largest capacity sends.
-fn read_many(n: u64, s: u64, message: &[u8]) -> Message
-    ensures { Reads n s message.now result }
-{
-    let mut slots = [0u16; 33032];
+    let mut slots = [0u16; SLOTS];
     wire::read(n, s, message, &mut slots)
 }
 
@@ -157,37 +120,29 @@ pub fn read(n: u64, s: u64, message: &[u8]) -> Message
     ensures { Reads n s message.now result }
 {
     if message.len() <= SHORT_MESSAGE {
-        return read_few(n, s, message);
+        return read_with::<FEW>(n, s, message);
     }
     if message.len() <= MIDDLE_MESSAGE {
-        return read_more(n, s, message);
+        return read_with::<MORE>(n, s, message);
     }
-    read_many(n, s, message)
+    read_with::<MANY>(n, s, message)
 }
 
 // ---- a message written
 
-// With room for a few entries.
-fn write_few(n: u64, s: u64, m: Message, views: &[u8], entries: &[u8], out: &mut [u8]) -> Answer
+// With room for as many slots.
+fn write_with<const SLOTS: usize>(
+    n: u64,
+    s: u64,
+    m: Message,
+    views: &[u8],
+    entries: &[u8],
+    out: &mut [u8],
+) -> Answer
+    requires { SLOTS ≤ 33032 }
     ensures { Writes n s m views.now entries.now out.old result out.new }
 {
-    let mut slots = [0u16; 512];
-    wire::write(n, s, m, views, entries, out, &mut slots)
-}
-
-// With room for a thousand.
-fn write_more(n: u64, s: u64, m: Message, views: &[u8], entries: &[u8], out: &mut [u8]) -> Answer
-    ensures { Writes n s m views.now entries.now out.old result out.new }
-{
-    let mut slots = [0u16; 2400];
-    wire::write(n, s, m, views, entries, out, &mut slots)
-}
-
-// With room for a log of the largest capacity.
-fn write_many(n: u64, s: u64, m: Message, views: &[u8], entries: &[u8], out: &mut [u8]) -> Answer
-    ensures { Writes n s m views.now entries.now out.old result out.new }
-{
-    let mut slots = [0u16; 33032];
+    let mut slots = [0u16; SLOTS];
     wire::write(n, s, m, views, entries, out, &mut slots)
 }
 
@@ -196,12 +151,12 @@ pub fn write(n: u64, s: u64, m: Message, views: &[u8], entries: &[u8], out: &mut
     ensures { Writes n s m views.now entries.now out.old result out.new }
 {
     if entries.len() <= SHORT_MESSAGE {
-        return write_few(n, s, m, views, entries, out);
+        return write_with::<FEW>(n, s, m, views, entries, out);
     }
     if entries.len() <= MIDDLE_MESSAGE {
-        return write_more(n, s, m, views, entries, out);
+        return write_with::<MORE>(n, s, m, views, entries, out);
     }
-    write_many(n, s, m, views, entries, out)
+    write_with::<MANY>(n, s, m, views, entries, out)
 }
 
 // ---- a step
@@ -221,61 +176,33 @@ fn answer(
     shape: Shape,
     state: &mut [u8],
     m: Message,
-    number: u8,
     message: &[u8],
     out: &mut [u8],
     slots: &mut [u16],
 ) -> Answer
-    requires { (good_bytes shape state.old ≡ true) × (m ≡ decoded shape.n shape.s message.now)
-        × (number ≡ refusal_of shape (state_of shape state.old) (tag_of m) (wire_in shape.s message.now)) }
+    requires { (good_bytes shape state.old ≡ true) × (m ≡ decoded shape.n shape.s message.now) }
     ensures { Steps shape state.old message.now out.old result state.new out.new }
 {
-    if number == refusal::MALFORMED {
-        return Answer::Refused(number, wrong_at(m, message));
-    }
-    if number != 0 {
-        return Answer::Refused(number, 0);
-    }
+    admit::admitted(shape, state, m, message, wrong_at(m, message))?;
     dispatch::handle(shape, state, m, message, out, slots)
 }
 
-// With room for a capacity of 16 and a short message.
-fn step_few(shape: Shape, state: &mut [u8], message: &[u8], out: &mut [u8]) -> Answer
+// With room for as many slots.
+fn step_with<const SLOTS: usize>(
+    shape: Shape,
+    state: &mut [u8],
+    message: &[u8],
+    out: &mut [u8],
+) -> Answer
+    requires { SLOTS ≤ 33032 }
     ensures { Steps shape state.old message.now out.old result state.new out.new }
 {
-    let mut slots = [0u16; 512];
+    let mut slots = [0u16; SLOTS];
     if !good::good(shape, state, &mut slots) {
-        return Answer::Refused(refusal::WRONG_STATE, 0);
+        return Err(Refusal::WrongState);
     }
     let m = wire::read(shape.n, shape.s, message, &mut slots);
-    let number = admit::refusal(shape, state, m, message);
-    answer(shape, state, m, number, message, out, &mut slots)
-}
-
-// With room for a capacity of 256, four logs of it for a rebuild, and a message of a thousand entries.
-fn step_more(shape: Shape, state: &mut [u8], message: &[u8], out: &mut [u8]) -> Answer
-    ensures { Steps shape state.old message.now out.old result state.new out.new }
-{
-    let mut slots = [0u16; 2400];
-    if !good::good(shape, state, &mut slots) {
-        return Answer::Refused(refusal::WRONG_STATE, 0);
-    }
-    let m = wire::read(shape.n, shape.s, message, &mut slots);
-    let number = admit::refusal(shape, state, m, message);
-    answer(shape, state, m, number, message, out, &mut slots)
-}
-
-// With room for the largest capacity, and four logs of it for a rebuild.
-fn step_many(shape: Shape, state: &mut [u8], message: &[u8], out: &mut [u8]) -> Answer
-    ensures { Steps shape state.old message.now out.old result state.new out.new }
-{
-    let mut slots = [0u16; 33032];
-    if !good::good(shape, state, &mut slots) {
-        return Answer::Refused(refusal::WRONG_STATE, 0);
-    }
-    let m = wire::read(shape.n, shape.s, message, &mut slots);
-    let number = admit::refusal(shape, state, m, message);
-    answer(shape, state, m, number, message, out, &mut slots)
+    answer(shape, state, m, message, out, &mut slots)
 }
 
 // One step: the next state's bytes and the outgoing messages, or the lowest number of the table that applies and all as it came.
@@ -283,19 +210,19 @@ pub fn step(shape: Shape, state: &mut [u8], message: &[u8], out: &mut [u8]) -> A
     ensures { Steps shape state.old message.now out.old result state.new out.new }
 {
     if !has_length(shape, state) {
-        return Answer::Refused(refusal::WRONG_STATE, 0);
+        return Err(Refusal::WrongState);
     }
     if 256 < shape.c {
-        return step_many(shape, state, message, out);
+        return step_with::<MANY>(shape, state, message, out);
     }
     if MIDDLE_MESSAGE < message.len() {
-        return step_many(shape, state, message, out);
+        return step_with::<MANY>(shape, state, message, out);
     }
     if 16 < shape.c {
-        return step_more(shape, state, message, out);
+        return step_with::<MORE>(shape, state, message, out);
     }
     if SHORT_MESSAGE < message.len() {
-        return step_more(shape, state, message, out);
+        return step_with::<MORE>(shape, state, message, out);
     }
-    step_few(shape, state, message, out)
+    step_with::<FEW>(shape, state, message, out)
 }

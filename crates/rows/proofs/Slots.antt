@@ -1,41 +1,25 @@
 -- The slots that are lent: the table in them, what a table laid there becomes, and that they index the rows.
 use mathlib.Core.Path.{◌≡◌, ap, refl}
-use mathlib.Core.List.{List, [], ◌∷◌, ◌++◌}
+use mathlib.Core.List.{List, [], ◌∷◌}
 use Prim.Native.Nat.{ℕ, ◌+◌, ◌-◌, ◌<◌, ◌≤◌}
 use native.Mathlib.Omega.{arith}
-use lib.ListN.{length, get_or, set, take, drop, length-set, length-take, length-drop, length-append}
-use lib.Seq.{take_at, get_or-set_other}
+use lib.ListN.{length, set, take, drop, length-set, length-take, length-drop}
+use lib.Seq.{get_or-set_other}
 use Rattle.hashed.specs.Table.{Holds}
 use Rattle.sorted.specs.Order.{row_at, Sorted}
 use Rattle.rows.specs.Slots.{served_by, size_of, table_of, Filled, Indexed}
 use Rattle.hashed.proofs.Table.{holds_agree, holds_wider}
 use Rattle.sorted.proofs.Order.{rising_agree}
 
--- by what rows are found, where there is no slot and where there is one
-pub served_none : (t : List ℕ) (r : ℕ) → length t ≡ 0 → r ≡ 2 → r ≡ served_by t
-served_none [] r h e = e
-served_none (x ∷ t) r h e = absurd (omega arith)
-
-pub served_first : (t : List ℕ) (r : ℕ) → 0 < length t → r ≡ get_or t 0 0 → r ≡ served_by t
-served_first [] r h e = absurd (omega arith)
-served_first (x ∷ t) r h e = e
-
 -- the mark
 pub marked : (t : List ℕ) (v : ℕ) → 0 < length t → served_by (set t 0 v) ≡ v
 marked [] v h = absurd (omega arith)
 marked (x ∷ t) v h = refl
 
-pub unmarked : (t : List ℕ) → length t ≤ 0 → served_by t ≡ 2
-unmarked [] h = refl
-unmarked (x ∷ t) h = absurd (omega arith)
-
 module _ (key : ℕ → ℕ) (m : ℕ) (t : List ℕ) where
   -- where the slots do not serve nothing is asked
   pub unserved : 2 ≤ served_by t → Indexed key m t
   unserved h = record { filled = λ l. absurd (omega arith); sorted = λ l. absurd (omega arith) }
-
-  pub by_table : served_by t ≡ 0 → Filled key m t → Indexed key m t
-  by_table h w = record { filled = λ _. w; sorted = λ l. absurd (omega arith) }
 
   pub by_order : served_by t ≡ 1 → Sorted key m t → Indexed key m t
   by_order h w = record { filled = λ l. absurd (omega arith); sorted = λ _. w }
@@ -66,24 +50,6 @@ ordered_now key m t w =
 -- a table of n slots, as it is lent
 pub part_length : (n : ℕ) (t : List ℕ) → 2 + n ≤ length t → length (take (2 + n - 2) (drop 2 t)) ≡ n
 part_length n t h = simp (length-take, length-drop) (omega arith)
-
--- a table u laid into the slots s, and the two numbers before it
-module _ (key : ℕ → ℕ) (m n : ℕ) (u : List ℕ) (w : Holds key m u m) (r : 64 ≤ n) (l : length u ≡ n) where
-  behind : (rest : List ℕ) → Indexed key m (0 ∷ (n ∷ (u ++ rest)))
-  behind rest =
-      let z : take n (u ++ rest) ≡ u = take_at u rest n l in
-      by_table key m (0 ∷ (n ∷ (u ++ rest))) refl (record { roomy = r; inside = simp length-append (omega arith); found = rw z w })
-
-  pub filled_now : (s : List ℕ) → 2 ≤ length s → (rest : List ℕ) → Indexed key m (set (set (take 2 s ++ (u ++ rest)) 0 0) 1 n)
-  filled_now [] k rest = absurd (omega arith)
-  filled_now (a ∷ []) k rest = absurd (omega arith)
-  filled_now (a ∷ (b ∷ s)) k rest = behind rest
-
-  -- where the two numbers stand already
-  pub filled_still : (s : List ℕ) → 2 ≤ length s → served_by s ≡ 0 → n ≡ size_of s → (rest : List ℕ) → Indexed key m (take 2 s ++ (u ++ rest))
-  filled_still [] k eh en rest = absurd (omega arith)
-  filled_still (a ∷ []) k eh en rest = absurd (omega arith)
-  filled_still (a ∷ (b ∷ s)) k eh en rest = rw (eh, ← en) (behind rest)
 
 -- slots that serve by a table of n slots
 module _ (key : ℕ → ℕ) (m n : ℕ) (t : List ℕ) (w : Indexed key m t) (l : served_by t ≡ 0) (en : n ≡ size_of t) where

@@ -2,10 +2,18 @@
 use Rattle.std.specs.Prelude.{ℕ, ◌+◌, ◌≤◌, ◌≡◌, List, length, get_or, take, drop}
 use Rattle.hashed.specs.Table.{Holds}
 use Rattle.sorted.specs.Order.{Sorted}
+use Rattle.rows.specs.declared.Served.{Served}
+use Rattle.rows.specs.declared.Served.TheVariants.{Table, Order, Neither}
 
 -- by what rows are found: 0 by a table, 1 by their order, else by neither
 abbrev pub served_by : List ℕ → ℕ
 served_by t = get_or t 0 2
+
+-- what the number in the first slot says
+abbrev pub Says : Served → ℕ → Type 0
+Says Table n = n ≡ 0
+Says Order n = n ≡ 1
+Says Neither n = 2 ≤ n
 
 -- how many slots the table has
 abbrev pub size_of : List ℕ → ℕ

@@ -1,5 +1,6 @@
 -- Where a message is wrong, apart from the fold that finds it: a well-formed message that is cut gives its length (cut), bytes behind it give where they begin (behind),
 -- and bytes that are its own up to a field that is wrong give where that field begins (first_wrong_lem). Assumes nothing.
+use Rattle.std.specs.Prelude.{Ok, Err}
 use Prim.Native.Nat.{ℕ, zero, suc, ◌+◌, ◌*◌, ◌≤◌, ◌<◌, min}
 use mathlib.Core.Path.{◌≡◌, refl, sym, ap, subst, ◌∙◌}
 use mathlib.Core.Bool.{Bool, true, false, ◌&&◌, true≢false}
@@ -21,8 +22,7 @@ use Rattle.rules.specs.Log.{stands}
 use Rattle.rules.specs.Kind.{numbers_in, with_log}
 use Rattle.rules.specs.Wire.{Wire, wire_bytes}
 use Rattle.rules.specs.Read.{Fields, Row, ◌to◌is◌, head_rows, body_rows, number_rows, number_fits, entry_rows, entry_at, fields_at, fields_in, numbers_at, entries_at, length_for, length_at, first_wrong, and_then, message_wrong, whole_in, wire_in, Read, malformed, message, judged, verdict_in, read, formed}
-use Rattle.rules.specs.declared.Verdict.{Verdict}
-use Rattle.rules.specs.declared.Verdict.TheVariants.{Fine, Wrong}
+use Rattle.rules.specs.Read.{Verdict}
 use Rattle.rules.proofs.Tests.{◌also◌, and_l, and_r, and_both, when_so, so_when}
 use Rattle.rules.proofs.Choice.{by_test, by_cases, clash, all_append, all_map}
 use Rattle.rules.proofs.Entries.{entry_part}
@@ -110,8 +110,8 @@ all_among P (q ∷ rs) h r (Memᴰ.tail i) = all_among P rs h.1 r i
 
 -- if one is told, this holds of where it begins and ends
 abbrev Told : (ℕ → ℕ → Type 0) → Verdict → Type 0
-Told P Fine = Unit {0}
-Told P (Wrong a u) = P a u
+Told P (Ok o) = Unit {0}
+Told P (Err w) = P w.at w.end
 
 rows_told : (P : ℕ → ℕ → Type 0) (rs : List Row) → ((r : Row) → Memᴰ r rs → r.right ≡ false → P r.at r.end) → Told P (first_wrong rs)
 unfolding first_wrong
@@ -120,8 +120,8 @@ rows_told P (r ∷ rs) h = by_test (Told P) r.right (λ t. rows_told P rs (λ q 
 
 -- one is told, which begins by x and ends by e
 abbrev Reached : ℕ → ℕ → Verdict → Type 0
-Reached x e Fine = ⊥
-Reached x e (Wrong a u) = (a ≤ x) × (u ≤ e)
+Reached x e (Ok o) = ⊥
+Reached x e (Err w) = (w.at ≤ x) × (w.end ≤ e)
 
 rows_reached : (r : Row) (lo hi : ℕ) (rs : List Row) → Span lo hi rs → Memᴰ r rs → r.right ≡ false → Reached r.at r.end (first_wrong rs)
 unfolding first_wrong pick
@@ -163,8 +163,8 @@ place e = cc
 
 judged_place : (len end a : ℕ) (u : Wire) (v : Verdict) → Told (λ x y. x ≤ y) v → judged len end u v ≡ malformed a → a ≤ len
 unfolding judged
-judged_place len end a u Fine t e = by_test (λ (r : Read). r ≡ malformed a → a ≤ len) (eqb len end) (λ q h. absurd (not_message a u (sym h))) (λ q h. omega (arith, place h)) e
-judged_place len end a u (Wrong x y) t e = by_test (λ (p : ℕ). p ≡ a → a ≤ len) _ (λ q h. omega (arith, leb-true _ len q, t, h)) (λ q h. omega (arith, h)) (place e)
+judged_place len end a u (Ok o) t e = by_test (λ (r : Read). r ≡ malformed a → a ≤ len) (eqb len end) (λ q h. absurd (not_message a u (sym h))) (λ q h. omega (arith, place h)) e
+judged_place len end a u (Err w) t e = by_test (λ (p : ℕ). p ≡ a → a ≤ len) _ (λ q h. omega (arith, leb-true _ len q, t, h)) (λ q h. omega (arith, h)) (place e)
 
 pub malformed_place : (n s : ℕ) (b : List ℕ) (a : ℕ) → read n s b ≡ malformed a → a ≤ length b
 malformed_place n s b a e =
@@ -384,18 +384,18 @@ module _ {n s : ℕ} {v : List ℕ} {w : Wire} {x : ℕ} {b : List ℕ} (h : Beg
 
 judged_cut : (len end x : ℕ) (u : Wire) (v : Verdict) → len ≡ x → x < end → Told (λ a u. x < u) v → judged len end u v ≡ malformed x
 unfolding judged
-judged_cut len end x u Fine e l t = by_test (λ (r : Read). r ≡ malformed x) (eqb len end) (λ q. absurd (omega (arith, eqb-true len end q))) (λ q. ap malformed (omega arith))
-judged_cut len end x u (Wrong a y) e l t = by_test (λ (p : ℕ). malformed p ≡ malformed x) _ (λ q. absurd (omega (arith, leb-true _ len q, t))) (λ q. ap malformed e)
+judged_cut len end x u (Ok o) e l t = by_test (λ (r : Read). r ≡ malformed x) (eqb len end) (λ q. absurd (omega (arith, eqb-true len end q))) (λ q. ap malformed (omega arith))
+judged_cut len end x u (Err w) e l t = by_test (λ (p : ℕ). malformed p ≡ malformed x) _ (λ q. absurd (omega (arith, leb-true _ len q, t))) (λ q. ap malformed e)
 
 judged_behind : (len end x : ℕ) (u : Wire) (v : Verdict) → end ≡ x → x < len → Told (λ a u. ⊥) v → judged len end u v ≡ malformed x
 unfolding judged
-judged_behind len end x u Fine e l t = by_test (λ (r : Read). r ≡ malformed x) (eqb len end) (λ q. absurd (omega (arith, eqb-true len end q))) (λ q. ap malformed (omega arith))
-judged_behind len end x u (Wrong a y) e l t = absurd t
+judged_behind len end x u (Ok o) e l t = by_test (λ (r : Read). r ≡ malformed x) (eqb len end) (λ q. absurd (omega (arith, eqb-true len end q))) (λ q. ap malformed (omega arith))
+judged_behind len end x u (Err w) e l t = absurd t
 
 judged_at : (len end x z : ℕ) (u : Wire) (v : Verdict) → z ≤ len → Reached x z v → Told (λ a u. x ≤ a) v → judged len end u v ≡ malformed x
 unfolding judged
-judged_at len end x z u Fine l r t = absurd r
-judged_at len end x z u (Wrong a y) l r t =
+judged_at len end x z u (Ok o) l r t = absurd r
+judged_at len end x z u (Err w) l r t =
     by_test (λ (p : ℕ). malformed p ≡ malformed x) _ (λ q. ap malformed (omega (arith, r.0, t))) (λ q. absurd (omega (arith, leb-false _ len q, r.1)))
 
 empty : (n s : ℕ) → read n s [] ≡ malformed 0

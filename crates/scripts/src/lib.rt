@@ -3,184 +3,106 @@
 //
 //     f 3 2 16 4004 4|0|gView
 //
-// A number that is left out is 0, and one that begins with x is hexadecimal. A row without a name is done and prints nothing; one that begins
-// with # is a comment.
+// A number that is left out is 0, and one that begins with x is hexadecimal. A row without a name is done and prints nothing; a line that
+// begins with # is a comment.
 #![tactic(auto)]
 
+use std::fmt::Display;
 use std::io;
-use std::io::Write;
 
-// A row: its letter, its numbers, the wanted answer, and where its name begins and ends.
+// What is printed of an answer where there is none.
+const NONE: u64 = 1000;
+
+// A row: its letter, its numbers, the wanted answer and its name. Each program matches the letter once, beside what it does: an enum would
+// say each letter twice.
 #[derive(Clone, Copy)]
-pub struct Row {
-    pub asks: u8,
-    pub first: u64,
-    pub second: u64,
-    pub third: u64,
-    pub fourth: u64,
-    pub fifth: u64,
-    pub sixth: u64,
+pub struct Row<'a> {
+    pub asks: char,
+    pub numbers: [u64; 6],
     pub want: u64,
-    pub name: usize,
-    pub end: usize,
+    pub name: &'a str,
 }
 
-// A number and where it ends.
-#[derive(Clone, Copy)]
-struct Number {
-    value: u64,
-    end: usize,
+// A number, 0 where none is written.
+fn number(text: &str) -> u64 {
+    let number = match text.strip_prefix('x') {
+        Some(digits) => u64::from_str_radix(digits, 16),
+        None => text.parse::<u64>(),
+    };
+    number.unwrap_or(0)
 }
 
-// The byte at a place, 0 past the end.
-fn byte(text: &[u8], at: usize) -> u8 {
-    if text.len() <= at {
-        return 0;
-    }
-    text[at]
-}
-
-// The next place where that byte stands here, else this one.
-fn past(text: &[u8], at: usize, mark: u8) -> usize {
-    if text.len() <= at {
-        return at;
-    }
-    if text[at] == mark {
-        return at + 1;
-    }
-    at
-}
-
-// A byte as a number.
-fn wide(x: u8) -> u64 {
-    x as u64
-}
-
-// What a digit stands for, 16 where it is none.
-fn digit(x: u8) -> u64 {
-    match x {
-        b'0'..=b'9' => wide(x - b'0'),
-        b'a'..=b'f' => wide(x - b'a' + 10),
-        _ => 16,
-    }
-}
-
-// A number with one digit more; 0 where it would not fit.
-fn longer(value: u64, digit: u64, hexadecimal: bool) -> u64 {
-    if 0x0fffffffffffffff < value {
-        return 0;
-    }
-    if 15 < digit {
-        return 0;
-    }
-    if hexadecimal {
-        return value * 16 + digit;
-    }
-    value * 10 + digit
-}
-
-// The number of the digits from a place on.
-fn digits(text: &[u8], from: usize, hexadecimal: bool) -> Number {
-    let mut at = from;
-    let mut value = 0;
-    while at < text.len() {
-        let next = digit(byte(text, at));
-        if 15 < next {
-            return Number { value, end: at };
+impl<'a> Row<'a> {
+    // The row that a line says, none where it is a comment.
+    pub fn of(line: &'a str) -> Option<Row<'a>> {
+        let (asked, answered) = line.split_once('|').unwrap_or((line, ""));
+        let (want, name) = answered.split_once('|').unwrap_or((answered, ""));
+        let mut words = asked.split(' ');
+        let asks = words.next()?.chars().next()?;
+        if asks == '#' {
+            return None;
         }
-        value = longer(value, next, hexadecimal);
-        at += 1;
-    }
-    Number { value, end: at }
-}
-
-// The number behind a place and a space, 0 where none stands there.
-fn number_at(text: &[u8], at: usize) -> Number {
-    let begin = past(text, at, b' ');
-    let from = past(text, begin, b'x');
-    digits(text, from, begin < from)
-}
-
-// Where the line ends.
-fn line_end(text: &[u8], from: usize) -> usize {
-    let mut at = from;
-    while at < text.len() {
-        if byte(text, at) == b'\n' {
-            return at;
+        let mut numbers = [0; 6];
+        for (place, word) in numbers.iter_mut().zip(words) {
+            *place = number(word);
         }
-        at += 1;
-    }
-    at
-}
-
-// The row at a place.
-pub fn row_at(text: &[u8], at: usize) -> Row {
-    let asks = byte(text, at);
-    let first = number_at(text, past(text, at, asks));
-    let second = number_at(text, first.end);
-    let third = number_at(text, second.end);
-    let fourth = number_at(text, third.end);
-    let fifth = number_at(text, fourth.end);
-    let sixth = number_at(text, fifth.end);
-    let want = number_at(text, past(text, sixth.end, b'|'));
-    let name = past(text, want.end, b'|');
-    Row {
-        asks,
-        first: first.value,
-        second: second.value,
-        third: third.value,
-        fourth: fourth.value,
-        fifth: fifth.value,
-        sixth: sixth.value,
-        want: want.value,
-        name,
-        end: line_end(text, name),
+        Some(Row {
+            asks,
+            numbers,
+            want: number(want),
+            name,
+        })
     }
 }
 
-// Prints the name of a row.
-pub fn write_name(rt: &impl Print, text: &[u8], row: Row) -> io::Result<()> {
-    let from = row.name;
-    let upto = row.end;
-    if upto < from {
-        return Ok(());
-    }
-    if text.len() < upto {
-        return Ok(());
-    }
-    io::writer(rt).write_all(&text[from..upto])
+// The lines that a program prints, and how many of its checks failed.
+#[derive(Drop)]
+pub struct Report<'a, R: Print> {
+    rt: &'a R,
+    failed: u64,
 }
 
-// Prints whether the answer is the wanted one, with both where they differ, and answers 1 where they do.
-pub fn same(rt: &impl Print, got: u64, want: u64) -> io::Result<u64> {
-    if got == want {
-        println!(rt; ": ok")?;
-        return Ok(0);
+impl<'a, R: Print> Report<'a, R> {
+    // Before the first check.
+    pub fn new(rt: &'a R) -> Report<'a, R> {
+        Report { rt, failed: 0 }
     }
-    println!(rt; ": DIFFERENT, got {got:016x}, want {want:016x}")?;
-    Ok(1)
-}
 
-// Prints the line of a row that has a name, and answers 1 where its check failed.
-pub fn told(rt: &impl Print, text: &[u8], row: Row, got: u64) -> io::Result<u64> {
-    if (row.asks == b'#') | (row.end <= row.name) {
-        return Ok(0);
-    }
-    write_name(rt, text, row)?;
-    same(rt, got, row.want)
-}
-
-// Both counts of failed checks; a count that would wrap stays.
-pub fn more(failed: u64, here: u64) -> u64 {
-    if failed < 1000 {
-        if here < 1000 {
-            return failed + here;
+    // Prints the line of a check: its name, and whether the answer is the wanted one, with both where they differ.
+    pub fn line(
+        &mut self,
+        name: impl Display + Drop,
+        got: Option<u64>,
+        want: u64,
+    ) -> io::Result<()> {
+        if got == Some(want) {
+            return println!(self.rt; "{name}: ok");
         }
+        self.failed = self.failed.saturating_add(1);
+        let got = got.unwrap_or(NONE);
+        println!(self.rt; "{name}: DIFFERENT, got {got:016x}, want {want:016x}")
     }
-    1000
+
+    // Prints the line of a row that has a name.
+    pub fn row(&mut self, row: &Row<'_>, got: Option<u64>) -> io::Result<()> {
+        if row.name.is_empty() {
+            return Ok(());
+        }
+        self.line(row.name, got, row.want)
+    }
+
+    // The last line: how many checks failed.
+    pub fn total(&self) -> io::Result<()> {
+        println!(self.rt; "failed: {}", self.failed)
+    }
 }
 
-// The last line: how many checks failed.
-pub fn total(rt: &impl Print, failed: u64) -> io::Result<()> {
-    println!(rt; "failed: {failed}")
+// Does each row of a script.
+pub fn run<F: FnMut(Row<'_>) -> io::Result<()>>(script: &str, mut each: F) -> io::Result<()>
+    requires { F.IsAlwaysCallable each }
+{
+    for row in script.lines().filter_map(Row::of) {
+        each(row)?;
+    }
+    Ok(())
 }

@@ -1,8 +1,9 @@
 -- A note, an early entry added, and the early entry that is lifted, in the bytes of a state on the way. Assumes nothing.
+use Rattle.std.specs.Prelude as rust
+use Rattle.std.specs.Prelude.{Some, None}
 use Prim.Native.Nat.{ℕ, ◌+◌, ◌*◌, ◌≤◌, ◌<◌}
-use mathlib.Core.Path.{◌≡◌, sym, ap, subst, ◌∙◌}
+use mathlib.Core.Path.{◌≡◌, refl, sym, ap, subst, ◌∙◌}
 use mathlib.Core.Bool.{Bool, true, false, not}
-use mathlib.Core.Option.{Option}
 use mathlib.Core.List.{List, ◌++◌}
 use native.Mathlib.Omega.{arith}
 use lib.ListN.{length, take, drop}
@@ -25,8 +26,6 @@ use Rattle.entries.specs.Table.{Holds, Table}
 use Rattle.entries.proofs.First.{found_row}
 use Rattle.entries.proofs.Table.{entry_in, row_among}
 use Rattle.notes.specs.Notes.{said}
-use Rattle.notes.specs.declared.Point.{Point}
-use Rattle.notes.specs.declared.Point.TheVariants.{Unheard, Heard}
 use Rattle.places.specs.Layout.{Midway}
 use Rattle.places.proofs.Sections.{midway_is}
 use Rattle.stamps.specs.Climbs.{Climbs}
@@ -34,12 +33,12 @@ use Rattle.stamps.proofs.Lifted.{not_before, lifted_absent, lifted_waits, lifted
 
 -- ---- what a note says
 
-module _ (xs ys : List Note) (x : Entry) (j : ℕ) (p : Point) (e : xs ≡ ys) (q : said p ≡ noted xs x j) where
-  pub not_noted : p ≡ Unheard → false ≡ is_some (noted ys x j)
-  not_noted w = ap (λ (y : Option ℕ). is_some y) (sym (ap said w) ∙ q ∙ ap (λ (zs : List Note). noted zs x j) e)
+some_said : (p : rust.Option ℕ) → rust.is_some p ≡ is_some (said p)
+some_said None = refl
+some_said (Some t) = refl
 
-  pub was_noted : (t : ℕ) → p ≡ Heard t → true ≡ is_some (noted ys x j)
-  was_noted t w = ap (λ (y : Option ℕ). is_some y) (sym (ap said w) ∙ q ∙ ap (λ (zs : List Note). noted zs x j) e)
+pub is_noted : (xs ys : List Note) (x : Entry) (j : ℕ) (p : rust.Option ℕ) (r : Bool) → xs ≡ ys → said p ≡ noted xs x j → r ≡ rust.is_some p → r ≡ is_some (noted ys x j)
+is_noted xs ys x j p r e q w = w ∙ some_said p ∙ ap is_some q ∙ ap (λ (zs : List Note). is_some (noted zs x j)) e
 
 -- ---- the ways of lifting
 

@@ -13,7 +13,6 @@ ghost use Rattle.rules.proofs.Order.{Sorted};
 ghost use Rattle.places.specs.Layout.{Sized, Midway, Stands};
 ghost use Rattle.stamps.specs.Climbs.{Climbs};
 
-use notes::Point;
 use rules::{Entry, Shape};
 
 // ---- the log's last
@@ -22,13 +21,7 @@ use rules::{Entry, Shape};
 pub fn stamped(stamp: u64, e: Entry) -> Entry
     ensures { result ≡ order.stamped stamp e }
 {
-    Entry {
-        stamp,
-        command: e.command,
-        request: e.request,
-        coordinator: e.coordinator,
-        mask: e.mask,
-    }
+    Entry { stamp, ..e }
 }
 
 // Whether e lies after the log's last.
@@ -60,10 +53,7 @@ pub fn is_noted(shape: Shape, state: &[u8], e: Entry, j: u64) -> bool
 {
     let c = shape.c as usize;
     let s = shape.s as usize;
-    match notes::noted(places::notes(shape, state), c, s, e, j as usize) {
-        Point::Unheard => false,
-        Point::Heard(_) => true,
-    }
+    notes::noted(places::notes(shape, state), c, s, e, j as usize).is_some()
 }
 
 // ---- what they lift

@@ -13,74 +13,54 @@ ghost use Rattle.rules.specs.Bytes.{left, closes};
 ghost use Rattle.rules.specs.Image.{image, state_of};
 ghost use Rattle.places.specs.Layout.{Stands};
 ghost use Rattle.handler.specs.Handler.{Ready, handled};
-ghost use Rattle.early.specs.Listed.{listed_in, Lookup};
+ghost use Rattle.early.specs.Listed as listing;
+ghost use Rattle.early.specs.Listed.{listed_in, indexed};
 ghost use Rattle.syncs.specs.Takes.{late_by, synced_by, slow_replies, takes, Coming};
 
-use early::Listed;
-use rules::{Answer, Entry, Message, Shape, kind, refusal};
+use early::{Index, Listed};
+use rules::{Answer, Entry, Message, Refusal, Shape, kind};
 
 // ---- the state
 
 // How long the late buffer becomes, before anything is written.
-fn late_length(
-    shape: Shape,
-    state: &[u8],
-    message: &[u8],
-    log: Listed,
-    slots: &[u16],
-    last: Entry,
-) -> usize
-    requires { Stands shape (state_of shape state.now) state.now × Lookup message.now log slots.now × (last ≡ last_of (listed_in message.now log)) }
-    ensures { result ≡ length (late_by (state_of shape state.now) (listed_in message.now log)) }
+fn late_length(shape: Shape, state: &[u8], log: Index, last: Entry) -> usize
+    requires { Stands shape (state_of shape state.now) state.now × listing.Ready log × (last ≡ last_of (indexed log)) }
+    ensures { result ≡ length (late_by (state_of shape state.now) (indexed log.entry)) }
 {
     let places = places::places_of(shape);
-    let early = places.early;
-    let notes = places.notes;
     early::late_after(
-        &state[early..notes],
+        &state[places.early..places.notes],
         shape.c as usize,
-        message,
         log,
-        slots,
         last,
     )
 }
 
 // Takes the log over: synced entries leave early, late and the notes, and the sync point becomes the log's length.
-fn sync_state(
-    shape: Shape,
-    state: &mut [u8],
-    message: &[u8],
-    log: Listed,
-    slots: &[u16],
-    last: Entry,
-)
+fn sync_state(shape: Shape, state: &mut [u8], log: Index, last: Entry)
     requires { let st = state_of shape state.old in
-        Stands shape st state.old × Lookup message.now log slots.now × (last ≡ last_of (listed_in message.now log)) × (log.count ≤ shape.c)
-        × (length (late_by st (listed_in message.now log)) ≤ shape.c) }
-    ensures { state.new ≡ image shape (synced_by (state_of shape state.old) (listed_in message.now log)) }
+        Stands shape st state.old × listing.Ready log × (last ≡ last_of (indexed log)) × (log.listed.count ≤ shape.c)
+        × (length (late_by st (indexed log)) ≤ shape.c) }
+    ensures { state.new ≡ image shape (synced_by (state_of shape state.old) (indexed log.entry)) }
 {
     let places = places::places_of(shape);
-    let early = places.early;
-    let notes = places.notes;
-    let votes = places.votes;
     let c = shape.c as usize;
-    early::settle(&mut state[early..notes], c, message, log, slots, last);
+    early::settle(&mut state[places.early..places.notes], c, log, last);
     early::leave_notes(
-        &mut state[notes..votes],
+        &mut state[places.notes..places.votes],
         c,
         shape.s as usize,
-        message,
         log,
-        slots,
     );
-    places::put_table(shape, state, places.log, message, log.at, log.count);
-    places::put_sync(state, log.count as u64);
+    let Listed { at, count } = log.listed;
+    places::put_table(shape, state, places.log, log.bytes, at, count);
+    places::put_sync(state, count as u64);
 }
 
 // ---- what is told
 
 // Writes kind 6 for position i of the log at `at`: the entry as it stands in the message. Says where it ends.
+// The message is lent by itself, not in an Index: that its elements are bytes is known of a slice that is a parameter.
 fn tell_slow(
     shape: Shape,
     state: &[u8],
@@ -95,10 +75,9 @@ fn tell_slow(
         × (out.new ≡ splice out.old at (wire_bytes (slow_reply (state_of shape state.now) (listed_in message.now log) i))) }
 {
     let from = log.at + 24 * i;
-    let end = from + 24;
     let header = handler::headed(state, kind::SLOW_REPLY, rules::OUTSIDE, 1);
     let reply = Message::SlowReply(header, (i + 1) as u64);
-    handler::tell(shape, state, out, at, reply, &message[from..end])
+    handler::tell(shape, state, out, at, reply, &message[from..from + 24])
 }
 
 // How long the outgoing messages are: one for each position past the sync point.
@@ -113,17 +92,13 @@ fn slow_length(shape: Shape, state: &[u8], message: &[u8], log: Listed) -> usize
 // Writes kind 6 for each position past the sync point, and says where the last ends.
 fn tell_synced(shape: Shape, state: &[u8], out: &mut [u8], message: &[u8], log: Listed) -> usize
     requires { Coming shape state.now message.now log × (length_for shape.s 6 1 * (log.count - (state_of shape state.now).logged.sync) ≤ length out.old) }
-    ensures { let st = state_of shape state.now in
-        (result ≡ length (flat wire_bytes (slow_replies st (listed_in message.now log))))
-        × (out.new ≡ splice out.old 0 (flat wire_bytes (slow_replies st (listed_in message.now log)))) }
+    ensures { let replies = slow_replies (state_of shape state.now) (listed_in message.now log) in
+        (result ≡ length (flat wire_bytes replies)) × (out.new ≡ splice out.old 0 (flat wire_bytes replies)) }
 {
     let sync = places::get_sync(state) as usize;
-    let n = log.count - sync;
     let mut at = 0;
-    let mut j = 0;
-    while j < n {
-        at = tell_slow(shape, state, out, at, message, log, sync + j);
-        j += 1;
+    for i in sync..log.count {
+        at = tell_slow(shape, state, out, at, message, log, i);
     }
     at
 }
@@ -131,29 +106,23 @@ fn tell_synced(shape: Shape, state: &[u8], out: &mut [u8], message: &[u8], log: 
 // ---- the step
 
 // Takes the log over and tells it, unless late or the outgoing buffer has no room. All is tested before anything is written.
-fn sync_by(
-    shape: Shape,
-    state: &mut [u8],
-    message: &[u8],
-    out: &mut [u8],
-    log: Listed,
-    slots: &[u16],
-) -> Answer
-    requires { Coming shape state.old message.now log × Lookup message.now log slots.now }
+fn sync_by(shape: Shape, state: &mut [u8], out: &mut [u8], log: Index) -> Answer
+    requires { Coming shape state.old log.bytes.now log.listed × listing.Ready log }
     ensures { let b = state.old in
-        left result state.new out.new ≡ closes shape b out.old (takes shape (state_of shape b) (listed_in message.now log)) }
+        left result state.new out.new ≡ closes shape b out.old (takes shape (state_of shape b) (indexed log.entry)) }
 {
-    let last = entries::entry_at(message, log.at + 24 * (log.count - 1));
-    let late = late_length(shape, state, message, log, slots, last);
+    let Listed { at, count } = log.listed;
+    let last = entries::entry_at(log.bytes, at + 24 * (count - 1));
+    let late = late_length(shape, state, log, last);
     if shape.c < late as u64 {
-        return Answer::Refused(refusal::FULL, 0);
+        return Err(Refusal::Full);
     }
-    if out.len() < slow_length(shape, state, message, log) {
-        return Answer::Refused(refusal::NO_ROOM, 0);
+    if out.len() < slow_length(shape, state, log.bytes, log.listed) {
+        return Err(Refusal::NoRoom);
     }
-    let sent = tell_synced(shape, state, out, message, log);
-    sync_state(shape, state, message, log, slots, last);
-    Answer::Done(sent)
+    let sent = tell_synced(shape, state, out, log.bytes, log.listed);
+    sync_state(shape, state, log, last);
+    Ok(sent)
 }
 
 // Kind 4: the leader's log is taken over where it is longer than the own sync point, and each position past that is told.
@@ -169,20 +138,25 @@ pub fn on_replica_sync(
     ensures { left result state.new out.new ≡ handled 4 on_replica_sync shape m state.old message.now out.old }
 {
     let Message::ReplicaSync(_) = m else {
-        return Answer::Refused(refusal::MALFORMED, 0);
+        return Err(Refusal::Malformed(0));
     };
     let place = kinds::entries_at(shape.s, kind::REPLICA_SYNC);
     let count = octets::get32(message, place) as usize;
     if count as u64 <= places::get_sync(state) {
-        return Answer::Refused(refusal::NOTHING_TO_DO, 0);
+        return Err(Refusal::NothingToDo);
     }
     if shape.c < count as u64 {
-        return Answer::Refused(refusal::FULL, 0);
+        return Err(Refusal::Full);
     }
-    let log = Listed {
+    let listed = Listed {
         at: place + 4,
         count,
     };
-    early::list(message, log, slots);
-    sync_by(shape, state, message, out, log, slots)
+    early::list(message, listed, slots);
+    let log = Index {
+        bytes: message,
+        listed,
+        slots,
+    };
+    sync_by(shape, state, out, log)
 }

@@ -23,7 +23,7 @@ use Rattle.rules.specs.Early.{due_of}
 use Rattle.rules.specs.Bytes.{Left, left, leaves, closes}
 use Rattle.rules.specs.declared.Entry.{Entry}
 use Rattle.rules.specs.declared.Shape.{Shape}
-use Rattle.rules.specs.declared.Answer.TheVariants.{Done}
+use Rattle.std.specs.Prelude.{Ok}
 use Rattle.rules.proofs.Choice.{pick_true, pick_false}
 use Rattle.early.proofs.Kept.{without_none}
 use Rattle.early.proofs.Leading.{leading_take, leading_length, due_at, due_within}
@@ -87,7 +87,7 @@ module _ {sh : Shape} {b₀ : List ℕ} (m : Releasing sh b₀) (out₀ : List �
   releases_tight l = sym (closes_tight sh b₀ out₀ next (placed_replies st es ++ (w ∷ [])) (omega (arith, long_all)))
 
   pub releases_done : (at end : ℕ) {b₁ out₁ : List ℕ} (b₂ out₂ : List ℕ) → length_for sh.s 5 1 * k + n ≤ length out₀ → Released sh b₀ out₀ time k at b₁ out₁ → end ≡ at + n → out₂ ≡ splice out₁ at (wire_bytes w) → b₂ ≡ image sh next
-      → left (Done end) b₂ out₂ ≡ closes sh b₀ out₀ (done next (placed_replies st es ++ (w ∷ [])))
+      → left (Ok end) b₂ out₂ ≡ closes sh b₀ out₀ (done next (placed_replies st es ++ (w ∷ [])))
   releases_done at end {b₁} {out₁} b₂ out₂ l r e o i =
       let x = flat wire_bytes (placed_replies st es) in
       let f : flat wire_bytes (placed_replies st es ++ (w ∷ [])) ≡ x ++ wire_bytes w = flat_snoc wire_bytes (placed_replies st es) w in
@@ -182,7 +182,7 @@ module _ {sh : Shape} {b₀ : List ℕ} (m : Releasing sh b₀) (out₀ : List �
   settled_none x e = e ∙ rw (append-nil old.logged.log, without_none old.waiting.early, notes.without_none old.waiting.notes)
 
   -- ---- whose run is empty
-  pub waits_none : (due : ℕ) (x : List ℕ) → due ≡ length ds → due ≡ 0 → x ≡ image sh (settled_at old time n) → left (Done 0) x out₀ ≡ closes sh b₀ out₀ (leader_releases sh old time ds [])
+  pub waits_none : (due : ℕ) (x : List ℕ) → due ≡ length ds → due ≡ 0 → x ≡ image sh (settled_at old time n) → left (Ok 0) x out₀ ≡ closes sh b₀ out₀ (leader_releases sh old time ds [])
   waits_none due x e z i =
       sym (ap (closes sh b₀ out₀) (leader_none sh old time ds (sym e ∙ z) n hn) ∙ closes_quiet sh b₀ out₀ (released old time n []) ∙ ap (λ (y : List ℕ). quiet y out₀) (sym (settled_none x i)))
 
@@ -208,7 +208,7 @@ module _ {sh : Shape} {b₀ : List ℕ} (m : Releasing sh b₀) (out₀ : List �
     waits_tight a q l = sym (ap (closes sh b₀ out₀) told_first ∙ closes_short sh b₀ out₀ (released old time n []) (unplaced_reply old (entry_of ds 0)) (omega (arith, unplaced_long)))
 
     pub waits_told : (a end : ℕ) (x out₁ : List ℕ) → a ≡ length_for sh.s 5 1 → a ≤ length out₀ → (end ≡ length_for sh.s 5 1) × (out₁ ≡ splice out₀ 0 (wire_bytes (unplaced_reply old (entry_of old.waiting.early 0)))) → x ≡ image sh (settled_at old time n)
-        → left (Done end) x out₁ ≡ closes sh b₀ out₀ (leader_releases sh old time ds [])
+        → left (Ok end) x out₁ ≡ closes sh b₀ out₀ (leader_releases sh old time ds [])
     waits_told a end x out₁ q l (u, t) i =
         let w = unplaced_reply old (entry_of ds 0) in
         let s : end ≡ length (wire_bytes w) = u ∙ sym unplaced_long in
@@ -257,7 +257,7 @@ module _ {sh : Shape} {b₀ : List ℕ} (m : Releasing sh b₀) (out₀ : List �
         leader_log = let y : length_for sh.s 4 (length (state_of sh b₁).logged.log) ≡ z = ap (length_for sh.s 4) now_log ∙ sym hz in (w.reached.releasing, omega (arith, w.end, w.long))
 
         pub leader_done : (end : ℕ) (b₂ out₂ : List ℕ) → (end ≡ at + length_for sh.s 4 (length (state_of sh b₁).logged.log)) × (out₂ ≡ splice out₁ at (wire_bytes (send_followers sh (state_of sh b₁) 4 (state_of sh b₁).logged.log))) → b₂ ≡ image sh (settled_at (state_of sh b₁) time (n + k))
-            → left (Done end) b₂ out₂ ≡ closes sh b₀ out₀ (leader_releases sh old time ds run)
+            → left (Ok end) b₂ out₂ ≡ closes sh b₀ out₀ (leader_releases sh old time ds run)
         leader_done end b₂ out₂ (u, v) i =
             let y : length_for sh.s 4 (length (state_of sh b₁).logged.log) ≡ z = ap (length_for sh.s 4) now_log ∙ sym hz in
             releases_done m out₀ time k within sync z sync_long (released old time (n + k) (take k ds)) at end b₂ out₂ (omega arith) w (omega arith)
@@ -299,7 +299,7 @@ module _ {sh : Shape} {b₀ : List ℕ} (m : Releasing sh b₀) (out₀ : List �
           follower_tells = (w.reached.releasing, omega (arith, w.end, w.long))
 
           pub follower_done : (end sync : ℕ) (b₂ out₂ : List ℕ) → (end ≡ at + length_for sh.s 10 0) × (out₂ ≡ splice out₁ at (wire_bytes (send_leader sh (state_of sh b₁) 10 (state_of sh b₁).site.group ((state_of sh b₁).logged.sync ∷ []) []))) → sync ≡ num b₁ 24 8 → b₂ ≡ image sh (settled_at (state_of sh b₁) time sync)
-              → left (Done end) b₂ out₂ ≡ closes sh b₀ out₀ (follower_releases sh old time ds)
+              → left (Ok end) b₂ out₂ ≡ closes sh b₀ out₀ (follower_releases sh old time ds)
           follower_done end sync b₂ out₂ (u, v) y i =
               let s : sync ≡ old.logged.sync = y ∙ sync_in w.reached.releasing ∙ ap (λ (x : State). x.logged.sync) w.reached.is in
               releases_done m out₀ time k inside status z status_long (released old time old.logged.sync (take k ds)) at end b₂ out₂ (omega arith) w (omega arith)

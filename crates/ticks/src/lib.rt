@@ -16,7 +16,7 @@ ghost use Rattle.handler.specs.Handler.{Ready, handled};
 ghost use Rattle.releases.specs.Releasing.{Releasing};
 ghost use Rattle.ticks.specs.Released.{settled_at, Released};
 
-use rules::{Answer, Message, Shape, kind, refusal};
+use rules::{Answer, Message, Refusal, Shape, kind};
 
 // ---- what is sent
 
@@ -28,14 +28,13 @@ fn tell_placed(shape: Shape, state: &[u8], out: &mut [u8], at: usize, n: usize, 
         × (out.new ≡ splice out.old at (wire_bytes (send_out st 5 (1 ∷ (n + 1) ∷ sum ∷ []) (entry_of st.logged.log n)))) }
 {
     let from = places::log_place(shape, n);
-    let end = from + 24;
     let m = Message::FastReply(
         handler::headed(state, kind::FAST_REPLY, rules::OUTSIDE, 1),
         1,
         (n + 1) as u64,
         sum,
     );
-    handler::tell(shape, state, out, at, m, &state[from..end])
+    handler::tell(shape, state, out, at, m, &state[from..from + 24])
 }
 
 // Writes from the start of the outgoing buffer on that the first early entry is not placed, with the digest of the log. Says where the message ends.
@@ -46,7 +45,6 @@ fn tell_unplaced(shape: Shape, state: &[u8], out: &mut [u8]) -> usize
         × (out.new ≡ splice out.old 0 (wire_bytes (unplaced_reply st (entry_of st.waiting.early 0)))) }
 {
     let from = releases::early_place(shape, 0);
-    let end = from + 24;
     let sum = releases::log_digest(shape, state);
     let m = Message::FastReply(
         handler::headed(state, kind::FAST_REPLY, rules::OUTSIDE, 1),
@@ -54,7 +52,7 @@ fn tell_unplaced(shape: Shape, state: &[u8], out: &mut [u8]) -> usize
         0,
         sum,
     );
-    handler::tell(shape, state, out, 0, m, &state[from..end])
+    handler::tell(shape, state, out, 0, m, &state[from..from + 24])
 }
 
 // Writes the log at `at`, to all followers. Says where the message ends.
@@ -113,11 +111,9 @@ fn release(
     }
     let mut sum = releases::log_digest(shape, state);
     let mut at = 0;
-    let mut i = 0;
-    while i < k {
+    for i in 0..k {
         sum = releases::release_one(shape, state, n, i, sum);
         at = tell_placed(shape, state, out, at, n + i, sum);
-        i += 1;
     }
     releases::leave_released(shape, state, n, k, slots);
     at
@@ -128,10 +124,7 @@ fn fitting(c: usize, n: usize, run: usize) -> usize
     requires { n ≤ c }
     ensures { result ≡ min run (c - n) }
 {
-    if run <= c - n {
-        return run;
-    }
-    c - n
+    run.min(c - n)
 }
 
 // How long k replies are.
@@ -170,14 +163,14 @@ fn leader_waits(
 {
     if due == 0 {
         settle(shape, state, time, n as u64);
-        return Answer::Done(0);
+        return Ok(0);
     }
     if out.len() < kinds::length_for(shape.s, kind::FAST_REPLY, 1) {
-        return Answer::Refused(refusal::NO_ROOM, 0);
+        return Err(Refusal::NoRoom);
     }
     let end = tell_unplaced(shape, state, out);
     settle(shape, state, time, n as u64);
-    Answer::Done(end)
+    Ok(end)
 }
 
 // A leader releases the run that is agreed, as far as the log holds it, and sends the log to its followers.
@@ -201,18 +194,18 @@ fn leader_releases(
         return leader_waits(shape, state, out, time, n, due);
     }
     if shape.c as usize <= n {
-        return Answer::Refused(refusal::FULL, 0);
+        return Err(Refusal::Full);
     }
     let k = fitting(shape.c as usize, n, run);
     if out.len()
         < replies_length(shape.s, k) + kinds::length_for(shape.s, kind::REPLICA_SYNC, n + k)
     {
-        return Answer::Refused(refusal::NO_ROOM, 0);
+        return Err(Refusal::NoRoom);
     }
     let at = release(shape, state, out, time, n, k, slots);
     let end = tell_log(shape, state, out, at);
     settle(shape, state, time, (n + k) as u64);
-    Answer::Done(end)
+    Ok(end)
 }
 
 // A follower releases all that is due, as far as the log holds it, and tells the leader its sync point.
@@ -231,17 +224,17 @@ fn follower_releases(
     let n = places::log_length(shape, state);
     let due = releases::due_count(shape, state, time);
     if (shape.c as usize <= n) & (due != 0) {
-        return Answer::Refused(refusal::FULL, 0);
+        return Err(Refusal::Full);
     }
     let k = fitting(shape.c as usize, n, due);
     if out.len() < replies_length(shape.s, k) + kinds::length_for(shape.s, kind::SYNC_STATUS, 0) {
-        return Answer::Refused(refusal::NO_ROOM, 0);
+        return Err(Refusal::NoRoom);
     }
     let at = release(shape, state, out, time, n, k, slots);
     let end = tell_status(shape, state, out, at);
     let sync = places::get_sync(state);
     settle(shape, state, time, sync);
-    Answer::Done(end)
+    Ok(end)
 }
 
 // Kind 23: time passes, and what is due by it is released.
@@ -257,10 +250,10 @@ pub fn on_tick(
     ensures { left result state.new out.new ≡ handled 23 on_tick shape m state.old message.now out.old }
 {
     let Message::Tick(_, time) = m else {
-        return Answer::Refused(refusal::MALFORMED, 0);
+        return Err(Refusal::Malformed(0));
     };
     if time < places::get_clock(state) {
-        return Answer::Refused(refusal::NOTHING_TO_DO, 0);
+        return Err(Refusal::NothingToDo);
     }
     if handler::leads(shape, state) {
         return leader_releases(shape, state, out, time, slots);

@@ -14,8 +14,8 @@ use Rattle.rules.specs.Kind.{numbers_in, with_log}
 use Rattle.rules.specs.Read.{Fields, head_rows, body_rows, number_rows, entry_rows, entries_at, first_wrong, and_then, entries_wrong, message_wrong}
 use Rattle.rules.specs.declared.Entry.{Entry}
 use Rattle.rules.specs.declared.Header.{Header}
-use Rattle.rules.specs.declared.Verdict.{Verdict}
-use Rattle.rules.specs.declared.Verdict.TheVariants.{Fine, Wrong}
+use Rattle.rules.specs.Read.{Verdict}
+use Rattle.rules.specs.Read.{all_right, wrong_field}
 use Rattle.rules.proofs.Tests.{and_l, and_r}
 use Rattle.rules.proofs.Verdicts.{wrong_stays}
 use Rattle.fields.specs.declared.Parts.{Parts}
@@ -41,14 +41,14 @@ module _ (s : ℕ) (h : Header) (f : ℕ → Entry) (whole : ℕ) where
   verdict i = entries_wrong s m whole i
 
   -- ---- one more entry
-  pub next_fine : (i : ℕ) (v : Verdict) → verdict i ≡ Fine → v ≡ first_wrong (entry_rows s m whole i) → v ≡ Fine → verdict (i + 1) ≡ Fine
+  pub next_fine : (i : ℕ) (v : Verdict) → verdict i ≡ all_right → v ≡ first_wrong (entry_rows s m whole i) → v ≡ all_right → verdict (i + 1) ≡ all_right
   unfolding entries_wrong and_then
   next_fine i v e q w = rw (add-one, e, ← q) w
 
-  pub next_wrong : (i seen a u : ℕ) (v : Verdict) → verdict i ≡ Fine → v ≡ first_wrong (entry_rows s m whole i) → v ≡ Wrong a u → i < seen → Wrong a u ≡ verdict seen
+  pub next_wrong : (i seen a u : ℕ) (v : Verdict) → verdict i ≡ all_right → v ≡ first_wrong (entry_rows s m whole i) → v ≡ wrong_field a u → i < seen → wrong_field a u ≡ verdict seen
   unfolding entries_wrong and_then
   next_wrong i seen a u v e q x l =
-      let w : verdict (suc i) ≡ Wrong a u = rw (e, ← q) x in
+      let w : verdict (suc i) ≡ wrong_field a u = rw (e, ← q) x in
       sym (wrong_stays verdict (λ j. first_wrong (entry_rows s m whole j)) (λ j. refl) (suc i) seen a u w (omega arith))
 
   -- ---- an entry as the reader looks at it
@@ -70,16 +70,16 @@ module _ (s : ℕ) (h : Header) (f : ℕ → Entry) (whole : ℕ) where
       entry_is v q = rw standing_is (rw (isFrom, isEntry) at q)
 
     -- the first that repeats an earlier one does not stand
-    pub repeat_wrong : (i : ℕ) → verdict i ≡ Fine → i ≤ limit → limit ≤ i → limit < seen → Wrong (from + 4 + 24 * limit) (from + 4 + 24 * limit) ≡ verdict seen
+    pub repeat_wrong : (i : ℕ) → verdict i ≡ all_right → i ≤ limit → limit ≤ i → limit < seen → wrong_field (from + 4 + 24 * limit) (from + 4 + 24 * limit) ≡ verdict seen
     unfolding first_wrong pick
     repeat_wrong i e x y l =
         let q : i ≡ limit = omega arith in
         let log_is : with_log h.kind ≡ true = sym is_log ∙ is.logged l in
         let in_whole : ltb limit whole ≡ true = lt-ltb limit whole (is.inside l) in
         let falls : stands s h.to_group f limit ≡ false = stands_again s h.to_group f limit (is.again l) in
-        next_wrong limit seen (from + 4 + 24 * limit) (from + 4 + 24 * limit) (Wrong (from + 4 + 24 * limit) (from + 4 + 24 * limit)) (rw q at e) (rw (log_is, in_whole, falls, ← isFrom)) refl l
+        next_wrong limit seen (from + 4 + 24 * limit) (from + 4 + 24 * limit) (wrong_field (from + 4 + 24 * limit) (from + 4 + 24 * limit)) (rw q at e) (rw (log_is, in_whole, falls, ← isFrom)) refl l
 
-    pub all_fine : (i : ℕ) → verdict i ≡ Fine → i ≤ limit → limit ≤ i → seen ≤ limit → Fine ≡ verdict seen
+    pub all_fine : (i : ℕ) → verdict i ≡ all_right → i ≤ limit → limit ≤ i → seen ≤ limit → all_right ≡ verdict seen
     all_fine i e a b c = let q : i ≡ seen = omega (arith, is.within) in rw q at (sym e)
 
 -- only the header counts
@@ -100,18 +100,18 @@ module _ (s : ℕ) (p : Parts) (xs : List ℕ) (f : ℕ → Entry) where
 
 -- ---- the three runs of fields
 module _ (n s : ℕ) (p : Parts) (xs b : List ℕ) (look : Look) (head : Verdict) (isHead : head ≡ first_wrong (head_rows n s (fields_of p []))) where
-  pub head_wrong : (a u : ℕ) → head ≡ Wrong a u → Wrong a u ≡ wrong_in n s p xs b look
+  pub head_wrong : (a u : ℕ) → head ≡ wrong_field a u → wrong_field a u ≡ wrong_in n s p xs b look
   unfolding message_wrong and_then
   head_wrong a u e = rw (sym isHead ∙ e)
 
-  module _ (fine : head ≡ Fine) (body : Verdict) (isBody : body ≡ first_wrong (body_rows s (fields_of p xs))) where
+  module _ (fine : head ≡ all_right) (body : Verdict) (isBody : body ≡ first_wrong (body_rows s (fields_of p xs))) where
     is_body : first_wrong (body_rows s (fields_from p xs (row_in b look.at))) ≡ first_wrong (body_rows s (fields_of p xs))
     is_body = body_alone s p xs (row_in b look.at)
 
-    pub body_wrong : (a u : ℕ) → body ≡ Wrong a u → Wrong a u ≡ wrong_in n s p xs b look
+    pub body_wrong : (a u : ℕ) → body ≡ wrong_field a u → wrong_field a u ≡ wrong_in n s p xs b look
     unfolding message_wrong and_then
     body_wrong a u e = rw (sym isHead ∙ fine, is_body ∙ sym isBody ∙ e)
 
-    pub rest_wrong : (v : Verdict) → body ≡ Fine → v ≡ entries_wrong s (fields_from (headed p.header) [] (row_in b look.at)) look.whole look.seen → v ≡ wrong_in n s p xs b look
+    pub rest_wrong : (v : Verdict) → body ≡ all_right → v ≡ entries_wrong s (fields_from (headed p.header) [] (row_in b look.at)) look.whole look.seen → v ≡ wrong_in n s p xs b look
     unfolding message_wrong and_then
     rest_wrong v e q = rw (sym isHead ∙ fine, is_body ∙ sym isBody ∙ e) (q ∙ sym (entries_head s p xs (row_in b look.at) look.whole look.seen))

@@ -6,7 +6,7 @@ use Rattle.rules.specs.Entry.{before}
 use Rattle.rules.specs.Log.{seen_before}
 use Rattle.rules.specs.Read.{entry_at, message_wrong}
 use Rattle.rules.specs.declared.Entry.{Entry}
-use Rattle.rules.specs.declared.Verdict.{Verdict}
+use Rattle.rules.specs.Read.{Verdict}
 use Rattle.fields.specs.Parts.{fields_from}
 use Rattle.fields.specs.declared.Parts.{Parts}
 use Rattle.verdicts.specs.declared.Look.{Look}

@@ -8,8 +8,7 @@ ghost use Rattle.verdicts.specs.Rows.{row_in, repeat_of, limit_of, stands_after,
 
 use fields::{Parts, below, body_wrong, entry_wrong, head_wrong};
 use kinds::{entries_at, with_log};
-use repeats::Spots;
-use rules::{Entry, Header, Verdict};
+use rules::{Entry, Header, Verdict, WrongField};
 
 // What is looked at of the entries in some bytes: where they begin, how many of them are whole, and how many are looked at.
 #[derive(Clone, Copy)]
@@ -24,24 +23,7 @@ fn repeat_of(b: &[u8], at: usize, count: usize, slots: &mut [u16]) -> usize
     requires { (1 ≤ count) × (at + 24 * count ≤ length b.now) }
     ensures { result ≡ repeat_of (row_in b.now at) count }
 {
-    let first = at + 16;
-    let spots = Spots {
-        first,
-        first_count: count,
-        second: 0,
-        second_count: 0,
-        third: 0,
-        third_count: 0,
-        stride: 24,
-    };
-    rows::index(b, spots, count, slots)
-}
-
-// The smaller of two.
-pub fn smaller(a: usize, b: usize) -> usize
-    ensures { result ≡ min a b }
-{
-    if a <= b { a } else { b }
+    rows::index(b, entries::entry_spots(at, count), count, slots)
 }
 
 // How many of `seen` entries come before the first that repeats an earlier one, where they are a log.
@@ -53,7 +35,7 @@ fn limit_of(log: bool, b: &[u8], look: Look, slots: &mut [u16]) -> usize
     if !log {
         return seen;
     }
-    let count = smaller(look.whole, seen);
+    let count = look.whole.min(seen);
     if count < 1 {
         return seen;
     }
@@ -83,23 +65,20 @@ pub fn entries_wrong(s: u64, h: Header, b: &[u8], look: Look, slots: &mut [u16])
     let from = entries_at(s, h.kind);
     let limit = limit_of(log, b, look, slots);
     let mut last = entries::no_entry();
-    let mut i = 0;
-    while i < limit {
+    for i in 0..limit {
         let e = entries::look_entry(b, at + 24 * i);
         let standing = !(log & (i < whole)) | stands_after(s, h.to_group as u64, last, e);
-        let v = entry_wrong(s, h, from + 4 + 24 * i, standing, e);
-        match v {
-            Verdict::Fine => {}
-            Verdict::Wrong(a, u) => return Verdict::Wrong(a, u),
-        }
+        entry_wrong(s, h, from + 4 + 24 * i, standing, e)?;
         last = e;
-        i += 1;
     }
     if limit < look.seen {
         let place = from + 4 + 24 * limit;
-        return Verdict::Wrong(place, place);
+        return Err(WrongField {
+            at: place,
+            end: place,
+        });
     }
-    Verdict::Fine
+    Ok(())
 }
 
 // The first wrong field of a message of these numbers, whose entries stand in b.
@@ -115,15 +94,7 @@ pub fn message_wrong(
     requires { Looked s look (length b.now) }
     ensures { result ≡ wrong_in n s p numbers.now b.now look }
 {
-    let head = head_wrong(n, s, p);
-    match head {
-        Verdict::Fine => {}
-        Verdict::Wrong(a, u) => return Verdict::Wrong(a, u),
-    }
-    let body = body_wrong(s, p, numbers);
-    match body {
-        Verdict::Fine => {}
-        Verdict::Wrong(a, u) => return Verdict::Wrong(a, u),
-    }
+    head_wrong(n, s, p)?;
+    body_wrong(s, p, numbers)?;
     entries_wrong(s, p.header, b, look, slots)
 }

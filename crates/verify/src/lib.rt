@@ -15,7 +15,7 @@ ghost use Rattle.handler.specs.Handler.{Ready, handled};
 ghost use Rattle.handler.specs.Sending.{message_bytes, headed_in};
 ghost use Rattle.verify.specs.Asked.{is_asked, used_in, asked_in, told_in};
 
-use rules::{Answer, Entry, Message, Shape, kind, refusal, status};
+use rules::{Answer, Entry, Message, Refusal, Shape, kind, status};
 
 // The entries that the draft has in status 3, else those that the log has. They are lent, not copied.
 fn source<'a>(status: u8, draft: &'a [u8], log: &'a [u8]) -> &'a [u8]
@@ -54,12 +54,10 @@ fn count_asked(t: &[u8], boundary: u64, asker: u64) -> usize
 {
     let n = t.len() / 24;
     let mut asked = 0;
-    let mut i = 0;
-    while i < n {
+    for i in 0..n {
         if is_asked(boundary, asker, entries::entry_at(t, 24 * i)) {
             asked += 1;
         }
-        i += 1;
     }
     asked
 }
@@ -71,14 +69,12 @@ fn gather(t: &[u8], boundary: u64, asker: u64, out: &mut [u8], at: usize)
 {
     let n = t.len() / 24;
     let mut end = at;
-    let mut i = 0;
-    while i < n {
+    for i in 0..n {
         let e = entries::entry_at(t, 24 * i);
         if is_asked(boundary, asker, e) {
             entries::put_entry(out, end, e);
             end += 24;
         }
-        i += 1;
     }
 }
 
@@ -119,15 +115,15 @@ pub fn on_verify_request(
         ≡ handled 18 steps.on_verify_request shape m state.now message.now out.old }
 {
     let Message::VerifyRequest(h, boundary) = m else {
-        return Answer::Refused(refusal::MALFORMED, 0);
+        return Err(Refusal::Malformed(0));
     };
     let asker = h.from_group as u64;
     let t = source_of(shape, state);
     let count = count_asked(t, boundary, asker);
     if out.len() < kinds::length_for(shape.s, kind::VERIFY_REPLY, count) {
-        return Answer::Refused(refusal::NO_ROOM, 0);
+        return Err(Refusal::NoRoom);
     }
     let end = tell_none(shape, state, out, h.from_group, h.from_replica as u64);
     put_asked(t, boundary, asker, count, out, end - 4);
-    Answer::Done(end + 24 * count)
+    Ok(end + 24 * count)
 }

@@ -1,7 +1,7 @@
 // What a change of view writes into the state: its gView and its gVec, empty tables, the votes and replies that it gathers and, where the view starts, its numbers and its log.
 #![tactic(auto)]
 
-ghost use Rattle.std.specs.Prelude.{◌≡◌, ◌++◌, ℕ, ◌+◌, ◌*◌, ◌≤◌, ◌<◌, min, length, replicate};
+ghost use Rattle.std.specs.Prelude.{◌≡◌, ◌++◌, ℕ, ◌+◌, ◌*◌, ◌≤◌, ◌<◌, length, replicate};
 ghost use Rattle.std.proofs.Math.Option.{some};
 ghost use Rattle.octets.specs.Bytes.{le, num, part, splice, items};
 ghost use Rattle.rules.specs.Read.{entry_at};
@@ -130,10 +130,8 @@ fn clear_places(state: &mut [u8], at: usize, size: usize, head: usize, room: usi
         × ((i : ℕ) → i < n → Kept head room state.old (at + size * i)) }
     ensures { state.new ≡ splice state.old at (replicate (size * n) 0) }
 {
-    let mut i = 0;
-    while i < n {
+    for i in 0..n {
         clear_place(state, at + size * i, head, room);
-        i += 1;
     }
 }
 
@@ -170,19 +168,12 @@ pub fn take_view(shape: Shape, state: &mut [u8], view: u32, message: &[u8])
     places::put_views(shape, state, message, 16);
 }
 
-// The smaller of two.
-fn smaller(a: u64, b: u64) -> u64
-    ensures { result ≡ min a b }
-{
-    if a <= b { a } else { b }
-}
-
 // Writes the numbers of a view that starts with a log of this length.
 fn begin_head(state: &mut [u8], view: u32, len: u64)
     requires { 48 ≤ length state.old }
     ensures { state.new ≡ begun_in state.old view len }
 {
-    let commit = smaller(places::get_commit(state), len);
+    let commit = places::get_commit(state).min(len);
     places::put_status(state, status::NORMAL);
     places::put_normal(state, view);
     places::put_sync(state, len);

@@ -1,6 +1,6 @@
 -- The ways through the end of a vote that makes F+1. Assumes nothing.
 use Prim.Native.Nat.{ℕ, ◌^◌, ◌≤◌, ◌<◌}
-use mathlib.Core.Path.{◌≡◌, sym, ap, subst, ◌∙◌}
+use mathlib.Core.Path.{◌≡◌, refl, sym, ap, ◌∙◌}
 use mathlib.Core.Option.{Option}
 use mathlib.Core.List.{List, [], ◌∷◌}
 use lib.ListN.{length}
@@ -23,8 +23,10 @@ use Rattle.changes.specs.Changes.{led_by}
 use Rattle.ballots.specs.Ballots.{votes_in}
 use Rattle.rebuild.specs.Rebuild.{Gives}
 use Rattle.ballots.specs.declared.Cast.{Cast}
-use Rattle.rebuild.specs.declared.Rebuilt.{Rebuilt}
-use Rattle.rebuild.specs.declared.Rebuilt.TheVariants.{TooLong, Log}
+use Rattle.std.specs.Prelude as rust
+use Rattle.std.specs.Prelude.{Some, None, Err, ok_or}
+use Rattle.rules.specs.declared.refusals.Refusal.{Refusal}
+use Rattle.rules.specs.declared.refusals.Refusal.TheVariants.{Full}
 use Rattle.votes.specs.Votes.{Brought, came_to, asks_all, concludes}
 use Rattle.votes.proofs.Came.{comes}
 
@@ -50,7 +52,12 @@ module _ (sh : Shape) (st : State) (votes : List (Option Vote)) where
 
 -- ---- the ways
 
-module _ (sh : Shape) (b msg : List ℕ) (view : ℕ) (k : Cast) (g : Brought sh b msg view k) (bs : Bytes msg) (v : view < 256 ^ 4) (out t : List ℕ) (r : Rebuilt) (w : Gives sh.c sh.n (votes_in sh b msg k) t r) where
+-- where there is no boundary, the refusal is that the log is too long
+pub none_gives : (r : rust.Option ℕ) (f : Refusal) → Err f ≡ ok_or r Full → (r ≡ None) × (f ≡ Full)
+none_gives None f e = (refl, cc)
+none_gives (Some x) f e = cc
+
+module _ (sh : Shape) (b msg : List ℕ) (view : ℕ) (k : Cast) (g : Brought sh b msg view k) (bs : Bytes msg) (v : view < 256 ^ 4) (out t : List ℕ) where
   abbrev here : State
   here = came_to sh b msg view k.entering
 
@@ -60,16 +67,14 @@ module _ (sh : Shape) (b msg : List ℕ) (view : ℕ) (k : Cast) (g : Brought sh
   abbrev outcome : Left
   outcome = closes sh b out (concludes sh here votes)
 
-  pub conclude_long : r ≡ TooLong → leaves 8 b out ≡ outcome
+  pub conclude_long : Gives sh.c sh.n votes t None → leaves 8 b out ≡ outcome
   unfolding Gives
-  conclude_long e =
-      let q : Gives sh.c sh.n votes t TooLong = subst (Gives sh.c sh.n votes t) e w in
-      sym (ap (closes sh b out) (too_long sh here votes q) ∙ closes_refused sh b out 8)
+  conclude_long w = sym (ap (closes sh b out) (too_long sh here votes w) ∙ closes_refused sh b out 8)
 
-  module _ (boundary : ℕ) (e : r ≡ Log boundary) where
+  module _ (boundary : ℕ) (w : Gives sh.c sh.n votes t (Some boundary)) where
     given : Holds sh.c (rebuilt sh.n votes) t × (boundary ≡ boundary_of votes)
     unfolding Gives
-    given = subst (Gives sh.c sh.n votes t) e w
+    given = w
 
     pub conclude_table : Table sh.c t
     conclude_table = is_table sh.c (rebuilt sh.n votes) t given.0

@@ -17,8 +17,7 @@ ghost use Rattle.votes.specs.Votes.{Brought, is_second, count_with, came_to, kep
 
 use ballots::Cast;
 use handler::Asking;
-use rebuild::Rebuilt;
-use rules::{Answer, GroupSize, Message, Shape, kind, refusal, status};
+use rules::{Answer, GroupSize, Message, Refusal, Shape, kind, status};
 use views::Said;
 
 // ---- the tests
@@ -101,10 +100,7 @@ fn tell_all(shape: Shape, state: &[u8], out: &mut [u8], boundary: u64, mask: u16
         (result ≡ length (flat (leader_bytes shape b 18 boundary []) (others_in shape b mask)))
         × (out.new ≡ splice out.old 0 (flat (leader_bytes shape b 18 boundary []) (others_in shape b mask))) }
 {
-    let asking = Asking {
-        kind: kind::VERIFY_REQUEST,
-        number: boundary,
-    };
+    let asking = Asking::OfVerify(boundary);
     handler::tell_leaders(shape, state, out, asking, mask, &state[0..0])
 }
 
@@ -127,12 +123,12 @@ fn ask_all(
     let mask = all_groups(shape.s);
     let count = handler::count_others(shape, state, mask) as usize;
     if out.len() < kinds::length_for(shape.s, kind::VERIFY_REQUEST, 0) * count {
-        return Answer::Refused(refusal::NO_ROOM, 0);
+        return Err(Refusal::NoRoom);
     }
     keep_vote(shape, state, message, cast);
     take_draft(shape, state, table, boundary);
     let sent = tell_all(shape, state, out, boundary, mask);
-    Answer::Done(sent)
+    Ok(sent)
 }
 
 // Rebuilds the log into the lent table, so that nothing of the state changes before the log is known to fit. One group starts with it at once, more
@@ -152,9 +148,7 @@ fn conclude(
         left result state.new out.new ≡ closes shape b out.old (concludes shape came (votes_in shape b message.now cast)) }
 {
     let rebuilt = rebuild::rebuild(shape, state, message, cast, slots, table);
-    let Rebuilt::Log(boundary) = rebuilt else {
-        return Answer::Refused(refusal::FULL, 0);
-    };
+    let boundary = rebuilt.ok_or(Refusal::Full)?;
     if shape.s == 1 {
         return changes::start_leading(shape, state, cast.view, message, table, out);
     }
@@ -177,7 +171,7 @@ pub fn on_vote(
     ensures { left result state.new out.new ≡ handled 8 on_vote shape m state.old message.now out.old }
 {
     let Message::Vote(h, normal, sync) = m else {
-        return Answer::Refused(refusal::MALFORMED, 0);
+        return Err(Refusal::Malformed(0));
     };
     let cast = Cast {
         view: h.view,
@@ -188,16 +182,16 @@ pub fn on_vote(
         entering: places::get_view(state) < h.view,
     };
     if is_second(shape, state, cast) {
-        return Answer::Refused(refusal::NOTHING_TO_DO, 0);
+        return Err(Refusal::NothingToDo);
     }
     let at = cast.at;
     let number = octets::get32(message, at) as usize;
     if (shape.c as usize) < number {
-        return Answer::Refused(refusal::FULL, 0);
+        return Err(Refusal::Full);
     }
     if count_with(shape, state, cast) < GroupSize(shape.n).majority() {
         keep_vote(shape, state, message, cast);
-        return Answer::Done(0);
+        return Ok(0);
     }
     conclude(shape, state, message, cast, out, slots, table)
 }

@@ -1,4 +1,5 @@
 -- When the writer's parts are formed, and what it answers. Assumes nothing.
+use Rattle.std.specs.Prelude.{Ok, Err}
 use Prim.Native.Nat.{ℕ, ◌+◌, ◌-◌, ◌*◌, ◌/◌, ◌^◌, ◌≤◌, ◌<◌}
 use mathlib.Core.Path.{◌≡◌, refl, sym, ap, ap₂, ◌∙◌}
 use mathlib.Core.Bool.{Bool, true, false, ◌&&◌, not, and-false}
@@ -20,8 +21,8 @@ use Rattle.rules.specs.Read.{entry_at, entries_at, ◌to◌is◌, head_rows, bod
 use Rattle.rules.specs.Read as Reads
 use Rattle.rules.specs.Write.{wire_from, whole, parts_wrong, parts_formed, writes}
 use Rattle.rules.specs.declared.Message.{Message}
-use Rattle.rules.specs.declared.Verdict.{Verdict}
-use Rattle.rules.specs.declared.Verdict.TheVariants.{Fine, Wrong}
+use Rattle.rules.specs.Read.{Verdict}
+use Rattle.rules.specs.Read.{all_right, wrong_field}
 use Rattle.rules.proofs.Tests.{and_r, and_both, join, ◌also◌, each_of, all_items, at_all, sizes}
 use Rattle.rules.proofs.Verdicts.{then_fine, front_fine, body_ext, entries_wrong_ext}
 use Rattle.rules.proofs.Messages.{formed_fits}
@@ -37,10 +38,10 @@ use Rattle.writer.proofs.Writer.{length_bytes, numbers_said_lem}
 -- verdicts in a row
 joined : (a b c d : Verdict) → and_then a (and_then b (and_then c d)) ≡ and_then (and_then a (and_then b c)) d
 unfolding and_then
-joined Fine Fine Fine d = refl
-joined Fine Fine (Wrong x u) d = refl
-joined Fine (Wrong x u) c d = refl
-joined (Wrong x u) b c d = refl
+joined (Ok o) (Ok p) (Ok q) d = refl
+joined (Ok o) (Ok p) (Err w) d = refl
+joined (Ok o) (Err w) c d = refl
+joined (Err w) b c d = refl
 
 -- each number in a slice is one of 8 bytes
 pub all_wide : (xs : List ℕ) → ((i : ℕ) → get_or xs i 0 < 2 ^ 64) → every (λ x. ltb x (2 ^ 64)) xs ≡ true
@@ -98,9 +99,9 @@ module _ (n s : ℕ) (m : Message) (views entries : List ℕ) where
   parts_joined = joined _ _ _ _
 
   module _ (p : Said) (e : p ≡ said_of m) (hv h bv b c x before : Verdict) (from : ℕ)
-      (is-hv : hv ≡ first_wrong (head_rows n s (fields_of (parts_said p views entries) []))) (is-h : h ≡ pick (eqb p.tag p.header.kind) hv (Wrong 0 1))
-      (is-bv : bv ≡ first_wrong (body_rows s (fields_of (parts_said p views entries) (take (p.count - 0) p.numbers)))) (is_b : b ≡ pick (whole 4 views) bv (Wrong 12 16))
-      (is-from : from ≡ entries_at s p.header.kind) (is_c : c ≡ pick (whole 24 entries && ltb count 4294967296) Fine (Wrong from (from + 4)))
+      (is-hv : hv ≡ first_wrong (head_rows n s (fields_of (parts_said p views entries) []))) (is-h : h ≡ pick (eqb p.tag p.header.kind) hv (wrong_field 0 1))
+      (is-bv : bv ≡ first_wrong (body_rows s (fields_of (parts_said p views entries) (take (p.count - 0) p.numbers)))) (is_b : b ≡ pick (whole 4 views) bv (wrong_field 12 16))
+      (is-from : from ≡ entries_at s p.header.kind) (is_c : c ≡ pick (whole 24 entries && ltb count 4294967296) all_right (wrong_field from (from + 4)))
       (is_x : x ≡ and_then b c) (is-before : before ≡ and_then h x) where
     before_is : before ≡ before_entries
     unfolding first_wrong wire_from
@@ -111,15 +112,15 @@ module _ (n s : ℕ) (m : Message) (views entries : List ℕ) where
         let f : from ≡ at = rw e at is-from in
         is-before ∙ ap₂ and_then (is-h ∙ rw (e, u)) (is_x ∙ ap₂ and_then (is_b ∙ rw v) (is_c ∙ rw f))
 
-    pub wrong_before : (a u : ℕ) → before ≡ Wrong a u → Wrong a u ≡ parts_wrong n s m views entries
+    pub wrong_before : (a u : ℕ) → before ≡ wrong_field a u → wrong_field a u ≡ parts_wrong n s m views entries
     unfolding and_then
     wrong_before a u f = sym (parts_joined ∙ rw (sym before_is ∙ f))
 
-    pub rest_is : (v : Verdict) → before ≡ Fine → v ≡ entries_wrong s (fields_from (headed p.header) [] (row_in entries 0)) count count → v ≡ parts_wrong n s m views entries
+    pub rest_is : (v : Verdict) → before ≡ all_right → v ≡ entries_wrong s (fields_from (headed p.header) [] (row_in entries 0)) count count → v ≡ parts_wrong n s m views entries
     unfolding and_then
     rest_is v f q = rw e at q ∙ entries_same ∙ sym (parts_joined ∙ rw (sym before_is ∙ f))
 
-    pub few_before : before ≡ Fine → count < 4294967296
+    pub few_before : before ≡ all_right → count < 4294967296
     few_before f =
         let a = then_fine _ _ (sym before_is ∙ f) in
         let g = then_fine _ _ a.1 in
@@ -135,7 +136,7 @@ module _ (n s : ℕ) (m : Message) (views entries : List ℕ) where
     entry_wide_lem w i h =
         and_both _ _ (lt-ltb _ _ (num_lt entries (0 + 24 * i + 8) 8 be (omega arith))) (lt-ltb _ _ (num_lt entries (0 + 24 * i + 16) 4 be (omega arith)))
 
-    pub parts_wide : parts_wrong n s m views entries ≡ Fine → wide made ≡ true
+    pub parts_wide : parts_wrong n s m views entries ≡ all_right → wide made ≡ true
     unfolding wide wire_from
     parts_wide f =
         let r = (parts_fine n s m views entries f).0 in
@@ -158,11 +159,11 @@ module _ (n s : ℕ) (m : Message) (views entries : List ℕ) where
       fit : sizes_fit n s ≡ true
       fit = sym et ∙ not-false t right
 
-      pub parts_wrong_lem : (a u : ℕ) → v ≡ Wrong a u → record { refused = true; number = 2; offset = a; sent = 0; out = out } ≡ writes n s m views entries out
+      pub parts_wrong_lem : (a u : ℕ) → v ≡ wrong_field a u → record { refused = true; number = 2; offset = a; sent = 0; out = out } ≡ writes n s m views entries out
       unfolding writes parts_formed pick
       parts_wrong_lem a u h = rw (fit, sym ev ∙ h, and-false)
 
-      module _ (fine : v ≡ Fine) (wide-all : v ≡ Fine → wide made ≡ true) where
+      module _ (fine : v ≡ all_right) (wide-all : v ≡ all_right → wide made ≡ true) where
         formed_is : parts_formed n s m views entries ≡ true
         unfolding parts_formed
         formed_is = and_both _ _ (wide-all fine) (ap is_fine (sym ev ∙ fine))

@@ -5,18 +5,18 @@ use mathlib.Core.List.{List}
 use Rattle.octets.specs.Bytes.{part}
 use Rattle.rules.specs.Read.{decoded}
 use Rattle.rules.specs.Write.{Written, written}
-use Rattle.rules.specs.declared.Answer.{Answer}
-use Rattle.rules.specs.declared.Answer.TheVariants.{Done, Refused}
+use Rattle.std.specs.Prelude.{Ok, Err}
+use Rattle.rules.specs.Refusals.{Answer}
 use Rattle.rules.specs.declared.Message.{Message}
 use Rattle.rules.proofs.Answers.{written_answer}
 use Rattle.rules.proofs.Case.{writes_read}
 use Rattle.wire.specs.Statements.{Reads, Writes}
 
 written_out : (x y : Answer) (o u : List ℕ) → written x o ≡ written y u → o ≡ u
-written_out (Done a) (Done b) o u e = ap (λ (w : Written). w.out) e
-written_out (Done a) (Refused b d) o u e = ap (λ (w : Written). w.out) e
-written_out (Refused a c) (Done b) o u e = ap (λ (w : Written). w.out) e
-written_out (Refused a c) (Refused b d) o u e = ap (λ (w : Written). w.out) e
+written_out (Ok a) (Ok b) o u e = ap (λ (w : Written). w.out) e
+written_out (Ok a) (Err b) o u e = ap (λ (w : Written). w.out) e
+written_out (Err a) (Ok b) o u e = ap (λ (w : Written). w.out) e
+written_out (Err a) (Err b) o u e = ap (λ (w : Written). w.out) e
 
 module _ (n s : ℕ) where
   -- bytes are read in one way
@@ -29,6 +29,6 @@ module _ (n s : ℕ) where
     write_one x y o u p q = (written_answer x y o u (p ∙ sym q), written_out x y o u (p ∙ sym q))
 
     -- what was written is read as what it was written from
-    pub read_written : (sent : ℕ) (o : List ℕ) (x : Message) → Writes n s m views entries out (Done sent) o → Reads n s (part o 0 sent) x → x ≡ m
+    pub read_written : (sent : ℕ) (o : List ℕ) (x : Message) → Writes n s m views entries out (Ok sent) o → Reads n s (part o 0 sent) x → x ≡ m
     read_written sent o x p q =
         q ∙ ap (λ (w : Written). decoded n s (part w.out 0 w.sent)) p ∙ writes_read n s m views entries out (sym (ap (λ (w : Written). w.number) p))

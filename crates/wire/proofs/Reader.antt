@@ -1,4 +1,5 @@
 -- What the reader finds in bytes is what the definition finds there. Assumes nothing.
+use Rattle.std.specs.Prelude.{Ok, Err}
 use Prim.Native.Nat.{ℕ, suc, ◌+◌, ◌-◌, ◌*◌, ◌≤◌, ◌<◌, min}
 use mathlib.Core.Path.{◌≡◌, refl, sym, ap₂, ◌∙◌}
 use mathlib.Core.Bool.{Bool, true, false, not}
@@ -18,8 +19,7 @@ use Rattle.rules.specs.Kind.{numbers_in}
 use Rattle.rules.specs.Read.{malformed, message, fields_at, numbers_at, entries_at, length_for, whole_in, wire_in, judged, verdict_in, read, case_read, decoded}
 use Rattle.rules.specs.declared.Message.{Message}
 use Rattle.rules.specs.declared.Message.TheVariants.{Malformed}
-use Rattle.rules.specs.declared.Verdict.{Verdict}
-use Rattle.rules.specs.declared.Verdict.TheVariants.{Fine, Wrong}
+use Rattle.rules.specs.Read.{Verdict}
 use Rattle.rules.proofs.Tests.{sizes}
 use Rattle.rules.proofs.Verdicts.{verdict_ext}
 use Rattle.rules.proofs.EachKind.{most_numbers}
@@ -67,12 +67,12 @@ lent b xs at count e = rw e (take_at (numbers_from b at count) _ count (length_i
 
 case_judged : (len end : ℕ) (w : Wire) (v : Verdict) → case_read (judged len end w v) ≡ judged_as len end (case_of w) v
 unfolding judged judged_as pick
-case_judged len end w Fine = go (eqb len end)
+case_judged len end w (Ok o) = go (eqb len end)
   where
     go : (t : Bool) → case_read (pick t (message w) (malformed (min len end))) ≡ pick t (case_of w) (Malformed (min len end))
     go true = refl
     go false = refl
-case_judged len end w (Wrong a u) = refl
+case_judged len end w (Err f) = refl
 
 module _ (s : ℕ) (b : List ℕ) where
   abbrev k : ℕ

@@ -1,4 +1,5 @@
 -- The parts of a message, as the reader finds them and as the writer is given them.
+use Rattle.std.specs.Prelude.{Ok, Err}
 use Rattle.std.specs.Prelude.{ℕ, ◌+◌, min, List, eqb, leb}
 use Rattle.octets.specs.Bytes.{num, items}
 use Rattle.rules.specs.Choice.{pick}
@@ -7,8 +8,7 @@ use Rattle.rules.specs.Read.{numbers_at, entries_at}
 use Rattle.rules.specs.declared.Header.{Header}
 use Rattle.rules.specs.declared.Message.{Message}
 use Rattle.rules.specs.declared.Message.TheVariants.{Malformed}
-use Rattle.rules.specs.declared.Verdict.{Verdict}
-use Rattle.rules.specs.declared.Verdict.TheVariants.{Fine, Wrong}
+use Rattle.rules.specs.Read.{Verdict}
 use Rattle.fields.specs.declared.Parts.{Parts}
 
 -- ---- as they stand in bytes
@@ -38,5 +38,5 @@ parts_in s b =
 -- ---- the reader's answer from its verdict, where m is the case of what stands in the bytes
 
 unfoldable pub judged_as : ℕ → ℕ → Message → Verdict → Message
-judged_as len end m Fine = pick (eqb len end) m (Malformed (min len end))
-judged_as len end m (Wrong a u) = Malformed (pick (leb u len) a len)
+judged_as len end m (Ok o) = pick (eqb len end) m (Malformed (min len end))
+judged_as len end m (Err f) = Malformed (pick (leb f.end len) f.at len)

@@ -3,7 +3,7 @@
 use Rattle.std.specs.Prelude.{ℕ, ◌≡◌, List}
 use Rattle.rules.specs.Read.{decoded}
 use Rattle.rules.specs.Write.{written, writes}
-use Rattle.rules.specs.declared.Answer.{Answer}
+use Rattle.rules.specs.Refusals.{Answer}
 use Rattle.rules.specs.declared.Message.{Message}
 
 -- read: the bytes b are the message m, or are none as it says

@@ -44,10 +44,8 @@ pub fn numbers_from(b: &[u8], at: usize, count: usize) -> [u64; MOST_NUMBERS]
     ensures { result ≡ padded (numbers_from b.now at count) }
 {
     let mut numbers = [0; MOST_NUMBERS];
-    let mut i = 0;
-    while i < count {
+    for i in 0..count {
         numbers[i] = octets::look64(b, at + 8 * i);
-        i += 1;
     }
     numbers
 }
@@ -123,20 +121,9 @@ pub fn judged(len: usize, end: usize, m: Message, v: Verdict) -> Message
     ensures { result ≡ judged_as len end m v }
 {
     match v {
-        Verdict::Wrong(a, u) => {
-            if u <= len {
-                return Message::Malformed(a);
-            }
-            Message::Malformed(len)
-        }
-        Verdict::Fine => {
-            if len == end {
-                return m;
-            }
-            if len < end {
-                return Message::Malformed(len);
-            }
-            Message::Malformed(end)
-        }
+        Err(wrong) if wrong.end <= len => Message::Malformed(wrong.at),
+        Err(_) => Message::Malformed(len),
+        Ok(()) if len == end => m,
+        Ok(()) => Message::Malformed(len.min(end)),
     }
 }

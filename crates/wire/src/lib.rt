@@ -8,23 +8,19 @@ ghost use Rattle.rules.specs.Choice.{every};
 ghost use Rattle.rules.specs.Read as reading;
 ghost use Rattle.rules.specs.Wire as kinds;
 ghost use Rattle.rules.specs.Write as writing;
-ghost use Rattle.rules.specs.declared.Verdict.TheVariants as Verdict;
 ghost use Rattle.fields.specs.Parts.{fields_of};
 ghost use Rattle.wire.specs.Statements.{Reads, Writes};
 
-use fields::{Parts, and_then, body_wrong, field, head_wrong};
+use fields::{Parts, body_wrong, expect, head_wrong};
 use kinds::{entries_at, length_for, numbers_at, numbers_in};
-use rules::{Answer, Message, Verdict, refusal};
+use rules::{Answer, Message, Refusal, Verdict};
 use verdicts::{Look, entries_wrong};
 
 // How many entries from `from` on the bytes have room for.
 fn whole_in(len: usize, from: usize) -> usize
     ensures { result ≡ reading.whole_in len from }
 {
-    if len <= from {
-        return 0;
-    }
-    (len - from) / 24
+    len.saturating_sub(from) / 24
 }
 
 // The message that the bytes are, or where they stop being one.
@@ -42,7 +38,7 @@ pub fn read(n: u64, s: u64, b: &[u8], slots: &mut [u16]) -> Message
     let entries = p.entries as usize;
     let at = entries_at(s, h.kind) + 4;
     let whole = whole_in(b.len(), at);
-    let seen = verdicts::smaller(entries, whole + 1);
+    let seen = entries.min(whole + 1);
     let v = verdicts::message_wrong(n, s, p, numbers, b, Look { at, whole, seen }, slots);
     let end = length_for(s, h.kind, entries);
     decode::judged(b.len(), end, decode::case_with(h, numbers), v)
@@ -67,7 +63,7 @@ fn parts_wrong(
 ) -> Verdict
     requires { s ≤ 8 }
     ensures { (result ≡ writing.parts_wrong n s m views.now entries.now)
-        × (result ≡ Verdict.Fine → reading.wide (writing.wire_from m views.now entries.now) ≡ true) }
+        × (result ≡ reading.all_right → reading.wide (writing.wire_from m views.now entries.now) ≡ true) }
 {
     let items = views.len() / 4;
     let count = entries.len() / 24;
@@ -85,16 +81,9 @@ fn parts_wrong(
     let room = said.numbers;
     let most = said.count;
     let at = entries_at(s, header.kind);
-    let head = field(said.tag == header.kind, 0, 1, head_wrong(n, s, p));
-    let body = field(whole, 12, 16, body_wide(s, p, &room[0..most]));
-    let so_far = and_then(
-        head,
-        and_then(body, field(counted, at, at + 4, Verdict::Fine)),
-    );
-    match so_far {
-        Verdict::Fine => {}
-        Verdict::Wrong(a, u) => return Verdict::Wrong(a, u),
-    }
+    let head = expect(said.tag == header.kind, 0, 1).and(head_wrong(n, s, p));
+    let body = expect(whole, 12, 16).and(body_wide(s, p, &room[0..most]));
+    head.and(body.and(expect(counted, at, at + 4)))?;
     let look = Look {
         at: 0,
         whole: count,
@@ -125,16 +114,12 @@ pub fn write(
     ensures { Writes n s m views.now entries.now out.old result out.new }
 {
     if !group::sizes_fit(n, s) {
-        return Answer::Refused(refusal::WRONG_STATE, 0);
+        return Err(Refusal::WrongState);
     }
-    let wrong = parts_wrong(n, s, m, views, entries, slots);
-    match wrong {
-        Verdict::Fine => {}
-        Verdict::Wrong(a, _) => return Answer::Refused(refusal::MALFORMED, a),
-    }
+    parts_wrong(n, s, m, views, entries, slots)?;
     if out.len() < size_of(m, views.len(), entries.len()) {
-        return Answer::Refused(refusal::NO_ROOM, 0);
+        return Err(Refusal::NoRoom);
     }
     let end = writer::put_message(out, 0, m, views, entries);
-    Answer::Done(end)
+    Ok(end)
 }

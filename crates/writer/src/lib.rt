@@ -104,10 +104,8 @@ fn put_numbers(out: &mut [u8], at: usize, numbers: &[u64])
     requires { at + 8 * length numbers.now ≤ length out.old }
     ensures { out.new ≡ splice out.old at (flat (le 8) numbers.now) }
 {
-    let mut i = 0;
-    while i < numbers.len() {
+    for i in 0..numbers.len() {
         octets::put64(out, at + 8 * i, numbers[i]);
-        i += 1;
     }
 }
 

@@ -1,4 +1,3 @@
-use native.Mathlib.Omega.{arith}
 use mathlib.Core.Path.{refl}
 use mathlib.Core.List.{List}
 use Rattle.rules.specs.Entry.{place}
@@ -6,18 +5,6 @@ use Rattle.rules.specs.declared.Entry.{Entry}
 use Rattle.entries.proofs.Table.{decoded, is_table, and_then}
 use Rattle.places.proofs.Midway.{early_here, early_comes}
 use Rattle.arrivals.proofs.add_early.Goals as goal
-
-pub places_of-layout-requires : goal.places_of-layout-requires
-places_of-layout-requires c = c.requires.0.fits
-
-pub slice_bounds-put-count : goal.slice_bounds-put-count
-slice_bounds-put-count c = omega arith
-
-pub slice_bounds-put-start : goal.slice_bounds-put-start
-slice_bounds-put-start c = omega arith
-
-pub slice_bounds-put-end : goal.slice_bounds-put-end
-slice_bounds-put-end c = omega arith
 
 pub put-requires : goal.put-requires
 put-requires c = let h = early_here c.requires.0 _ _ c.places_of-layout.ensures.early c.places_of-layout.ensures.late in (is_table _ _ _ h, rw (decoded _ _ _ h) c.requires.1, rw (decoded _ _ _ h) c.requires.2)

@@ -1,22 +1,9 @@
-use native.Mathlib.Omega.{arith}
 use mathlib.Core.Path.{refl}
 use mathlib.Core.List.{List, [], ◌∷◌, ◌++◌}
 use Rattle.rules.specs.declared.Entry.{Entry}
 use Rattle.entries.proofs.Table.{decoded, is_table, and_then}
 use Rattle.places.proofs.Midway.{late_here, late_comes}
 use Rattle.arrivals.proofs.add_late.Goals as goal
-
-pub places_of-layout-requires : goal.places_of-layout-requires
-places_of-layout-requires c = c.requires.0.fits
-
-pub slice_bounds-append-count : goal.slice_bounds-append-count
-slice_bounds-append-count c = omega arith
-
-pub slice_bounds-append-start : goal.slice_bounds-append-start
-slice_bounds-append-start c = omega arith
-
-pub slice_bounds-append-end : goal.slice_bounds-append-end
-slice_bounds-append-end c = omega arith
 
 pub append-requires : goal.append-requires
 append-requires c = let h = late_here c.requires.0 _ _ c.places_of-layout.ensures.late c.places_of-layout.ensures.notes in (is_table _ _ _ h, rw (decoded _ _ _ h) c.requires.1)

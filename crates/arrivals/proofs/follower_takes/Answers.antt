@@ -1,4 +1,3 @@
-use native.Mathlib.Omega.{arith}
 use Rattle.places.proofs.Sections.{stands_midway}
 use Rattle.places.proofs.Midway.{table_count}
 use Rattle.arrivals.proofs.Lifting.{early_sorted}
@@ -7,9 +6,6 @@ use Rattle.arrivals.proofs.follower_takes.Goals as goal
 
 pub early-requires : goal.early-requires
 early-requires c = stands_midway c.requires
-
-pub count-requires : goal.count-requires
-count-requires c = omega (arith, c.early.ensures.0.size)
 
 pub returns-then-shape-count : goal.returns-then-shape-count
 returns-then-shape-count c = early_full _ _ _ _ _ c.may_follow.ensures c.if-may_follow.true _ (table_count c.early.ensures.0 c.early.ensures.1 c.count.ensures) c.if-shape-count.true
@@ -22,9 +18,6 @@ returns-then-may_follow c = early_taken _ _ _ _ _ c.may_follow.ensures c.if-may_
 
 pub late-requires : goal.late-requires
 late-requires c = stands_midway c.requires
-
-pub count-requires-2 : goal.count-requires-2
-count-requires-2 c = omega (arith, c.late.ensures.0.size)
 
 pub returns-then-shape-count-2 : goal.returns-then-shape-count-2
 returns-then-shape-count-2 c = late_full _ _ _ _ _ c.may_follow.ensures c.if-may_follow.false _ (table_count c.late.ensures.0 c.late.ensures.1 c.count-2.ensures) c.if-shape-count-2.true

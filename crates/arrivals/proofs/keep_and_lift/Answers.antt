@@ -3,9 +3,6 @@ use Rattle.stamps.proofs.Lifts.{kept_lifted}
 use Rattle.arrivals.proofs.Lifting.{kept_ready}
 use Rattle.arrivals.proofs.keep_and_lift.Goals as goal
 
-pub keep_note-requires : goal.keep_note-requires
-keep_note-requires c = (c.requires.0, c.requires.1.room, c.requires.1.group)
-
 pub lift-requires : goal.lift-requires
 lift-requires c = kept_ready (state_of c.args.shape c.args.state.now) _ _ _ c.requires.1 c.keep_note.ensures
 

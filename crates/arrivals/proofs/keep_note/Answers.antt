@@ -1,4 +1,3 @@
-use native.Mathlib.Omega.{arith}
 use mathlib.Core.Path.{refl, sym}
 use mathlib.Core.List.{List}
 use Rattle.rules.specs.State.{Note}
@@ -9,18 +8,6 @@ use Rattle.notes.proofs.Notes.{decoded, is_notes, and_then}
 use Rattle.notes.proofs.Row.{kept_sized}
 use Rattle.places.proofs.Midway.{notes_here, notes_come}
 use Rattle.arrivals.proofs.keep_note.Goals as goal
-
-pub places_of-layout-requires : goal.places_of-layout-requires
-places_of-layout-requires c = c.requires.0.fits
-
-pub slice_bounds-keep-count : goal.slice_bounds-keep-count
-slice_bounds-keep-count c = omega arith
-
-pub slice_bounds-keep-start : goal.slice_bounds-keep-start
-slice_bounds-keep-start c = omega arith
-
-pub slice_bounds-keep-end : goal.slice_bounds-keep-end
-slice_bounds-keep-end c = omega arith
 
 pub keep-requires : goal.keep-requires
 keep-requires c = let h = notes_here c.requires.0 _ _ c.places_of-layout.ensures.notes c.places_of-layout.ensures.votes in (is_notes _ _ _ _ h, rw (decoded _ _ _ _ h) c.requires.1, c.requires.2)

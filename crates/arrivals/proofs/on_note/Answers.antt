@@ -1,3 +1,4 @@
+use mathlib.Core.Bool.{not}
 use borrow.Enum.Refused.{opened}
 use mathlib.Core.Path.{refl, ap, ◌∙◌}
 use Rattle.rules.specs.Kind.{row_of}
@@ -21,9 +22,6 @@ first_entry-e-requires c = (rw c.in-Note.is at c.requires, refl, refl)
 pub log-requires : goal.log-requires
 log-requires c = stands_midway c.requires.stands
 
-pub is_among-requires : goal.is_among-requires
-is_among-requires c = c.log.ensures.0
-
 pub returns-then-is_among : goal.returns-then-is_among
 returns-then-is_among c = in_log_way _ _ _ _ _ _ c.requires c.in-Note.is _ c.first_entry-e.ensures _ (c.is_among.ensures ∙ ap (λ (es : List Entry). among es c.first_entry-e.result) c.log.ensures.1) c.if-is_among.true
 
@@ -37,10 +35,10 @@ pub room_for_note-requires : goal.room_for_note-requires
 room_for_note-requires c = stands_midway c.requires.stands
 
 pub returns-then-not-room_for_note : goal.returns-then-not-room_for_note
-returns-then-not-room_for_note c = full_way _ _ _ _ _ _ c.requires c.in-Note.is _ c.first_entry-e.ensures _ (c.is_among.ensures ∙ ap (λ (es : List Entry). among es c.first_entry-e.result) c.log.ensures.1) c.if-is_among.false _ c.is_noted.ensures c.if-is_noted.false _ c.room_for_note.ensures c.if-not-room_for_note.true-raw
+returns-then-not-room_for_note c = full_way _ _ _ _ _ _ c.requires c.in-Note.is _ c.first_entry-e.ensures _ (c.is_among.ensures ∙ ap (λ (es : List Entry). among es c.first_entry-e.result) c.log.ensures.1) c.if-is_among.false _ c.is_noted.ensures c.if-is_noted.false _ c.room_for_note.ensures (ap not c.if-not-room_for_note.true)
 
 pub keep_and_lift-requires : goal.keep_and_lift-requires
-keep_and_lift-requires c = (stands_midway c.requires.stands, lifting _ _ _ c.args.out.now _ _ c.requires c.in-Note.is _ c.first_entry-e.ensures _ (c.is_among.ensures ∙ ap (λ (es : List Entry). among es c.first_entry-e.result) c.log.ensures.1) c.if-is_among.false _ c.is_noted.ensures c.if-is_noted.false _ c.room_for_note.ensures c.if-not-room_for_note.false-raw)
+keep_and_lift-requires c = (stands_midway c.requires.stands, lifting _ _ _ c.args.out.now _ _ c.requires c.in-Note.is _ c.first_entry-e.ensures _ (c.is_among.ensures ∙ ap (λ (es : List Entry). among es c.first_entry-e.result) c.log.ensures.1) c.if-is_among.false _ c.is_noted.ensures c.if-is_noted.false _ c.room_for_note.ensures (ap not c.if-not-room_for_note.false))
 
 pub returns : goal.returns
-returns c = kept_way _ _ _ _ _ _ c.requires c.in-Note.is _ c.first_entry-e.ensures _ (c.is_among.ensures ∙ ap (λ (es : List Entry). among es c.first_entry-e.result) c.log.ensures.1) c.if-is_among.false _ c.is_noted.ensures c.if-is_noted.false _ c.room_for_note.ensures _ c.if-not-room_for_note.false-raw c.keep_and_lift.ensures
+returns c = kept_way _ _ _ _ _ _ c.requires c.in-Note.is _ c.first_entry-e.ensures _ (c.is_among.ensures ∙ ap (λ (es : List Entry). among es c.first_entry-e.result) c.log.ensures.1) c.if-is_among.false _ c.is_noted.ensures c.if-is_noted.false _ c.room_for_note.ensures _ (ap not c.if-not-room_for_note.false) c.keep_and_lift.ensures

@@ -25,12 +25,6 @@ returns-then-known c = known_way _ _ _ _ _ _ _ _ c.requires c.in-Transaction.is 
 pub overflow_add-send_time : goal.overflow_add-send_time
 overflow_add-send_time c = omega (arith, due_low _ _ _ c.args.out.now _ _ _ _ c.requires c.in-Transaction.is)
 
-pub leads-requires : goal.leads-requires
-leads-requires c = c.requires.stands
-
-pub raised-raised-requires : goal.raised-raised-requires
-raised-raised-requires c = c.requires.stands
-
 pub returns-then-raised-gt-LATEST : goal.returns-then-raised-gt-LATEST
 returns-then-raised-gt-LATEST c = late_way _ _ _ _ _ _ _ _ c.requires c.in-Transaction.is _ c.first_entry-entry.ensures _ c.known.ensures c.if-known.false _ c.leads.ensures _ c.stamped-e.ensures c.if-leads.true _ c.raised-raised.ensures c.if-raised-gt-LATEST.true
 
@@ -39,9 +33,6 @@ leader_takes-requires c = (c.requires.stands, not_early _ _ _ c.args.out.now _ _
 
 pub returns-then-leads : goal.returns-then-leads
 returns-then-leads c = c.leader_takes.ensures ∙ leader_way _ _ _ _ _ _ _ _ c.requires c.in-Transaction.is _ c.first_entry-entry.ensures _ c.known.ensures c.if-known.false _ c.leads.ensures _ c.stamped-e.ensures c.if-leads.true _ c.raised-raised.ensures c.if-raised-gt-LATEST.false
-
-pub follower_takes-requires : goal.follower_takes-requires
-follower_takes-requires c = c.requires.stands
 
 pub returns : goal.returns
 returns c = c.follower_takes.ensures ∙ follower_way _ _ _ _ _ _ _ _ c.requires c.in-Transaction.is _ c.first_entry-entry.ensures _ c.known.ensures c.if-known.false _ c.leads.ensures _ c.stamped-e.ensures c.if-leads.false

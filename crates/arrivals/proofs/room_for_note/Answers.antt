@@ -6,8 +6,5 @@ use Rattle.rules.specs.State.{Note}
 use Rattle.notes.specs.Notes.{row}
 use Rattle.arrivals.proofs.room_for_note.Goals as goal
 
-pub find-requires : goal.find-requires
-find-requires c = c.notes.ensures.0
-
 pub returns : goal.returns
 returns c = ap (λ (i : ℕ). ltb i c.args.shape.c) (c.find.ensures ∙ ap (λ (xs : List Note). row c.args.e.request c.args.e.coordinator xs) c.notes.ensures.1)

@@ -1,22 +1,18 @@
-use native.Mathlib.Omega.{arith}
+use mathlib.Core.Path.{◌∙◌}
 use Rattle.ballots.proofs.Votes.{votes_long}
-use Rattle.ballots.proofs.Counting.{top_start, top_next, top_end}
+use Rattle.ballots.proofs.Counting.{top_start, top_same, top_next, top_end}
 use Rattle.ballots.proofs.top_normal.Goals as goal
+use Rattle.ballots.proofs.top_normal.Goals.{in-Some, in_default}
 
 pub loop-r-init : goal.loop-r-init
-loop-r-init c = (omega arith, λ msg. top_start)
-
-pub ballot_of-requires : goal.ballot_of-requires
-ballot_of-requires c = (c.requires, c.loop-r-test.true)
-
-pub overflow_add-r : goal.overflow_add-r
-overflow_add-r c = omega arith
-
-pub loop-r-smaller : goal.loop-r-smaller
-loop-r-smaller c = omega arith
+loop-r-init c = λ msg. top_start
 
 pub loop-r-preserved : goal.loop-r-preserved
-loop-r-preserved c = (omega arith, λ msg. top_next _ _ _ _ _ _ (votes_long _ _ msg _ c.requires) c.loop-r-test.true (c.loop-r.invariant.1 msg) (c.ballot_of.ensures msg) c.raised-top.ensures)
+loop-r-preserved c =
+    elim c.match-ballot_of.branch [
+      | in-Some w ↦ λ msg. w.top-is ∙ w.max-top.ensures ∙ top_next _ _ _ _ (votes_long _ _ msg _ c.requires) c.loop-r-test.true (c.loop-r.invariant msg) _ (w.in-Some.ensures msg)
+      | in_default w ↦ λ msg. w.top-is ∙ top_same _ _ _ _ (votes_long _ _ msg _ c.requires) c.loop-r-test.true (c.loop-r.invariant msg) (w.in_default.ensures msg)
+    ]
 
 pub returns : goal.returns
-returns c = λ msg. top_end _ _ _ _ (votes_long _ _ msg _ c.requires) c.loop-r-test.false (c.loop-r.invariant.1 msg)
+returns c = λ msg. top_end _ _ _ _ (votes_long _ _ msg _ c.requires) c.loop-r-test.false (c.loop-r.invariant msg)

@@ -1,4 +1,4 @@
-use Prim.Native.Nat.{ℕ, ◌≤◌, ◌-◌}
+use Prim.Native.Nat.{ℕ}
 use mathlib.Core.Path.{◌≡◌}
 use mathlib.Core.List.{List}
 use lib.ListN.{take}
@@ -7,7 +7,4 @@ use Rattle.ballots.specs.Ballots.{votes_in}
 use Rattle.ballots.proofs.top_normal.Given as goal
 
 abbrev pub invariant-loop-r : goal.invariant-loop-r
-invariant-loop-r l = (l.r ≤ l.shape.n) × ((msg : List ℕ) → l.top ≡ top_from 0 (take l.r (votes_in l.shape l.state msg l.cast)))
-
-abbrev pub decreases-loop-r : goal.decreases-loop-r
-decreases-loop-r l = l.shape.n - l.r
+invariant-loop-r l = (msg : List ℕ) → l.top ≡ top_from 0 (take l.r (votes_in l.shape l.state msg l.cast))

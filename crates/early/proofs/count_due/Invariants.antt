@@ -1,4 +1,3 @@
-use Prim.Native.Nat.{◌≤◌, ◌-◌}
 use mathlib.Core.Path.{◌≡◌}
 use lib.ListN.{length}
 use Rattle.rules.specs.Image.{table_at}
@@ -6,7 +5,4 @@ use Rattle.early.proofs.Leading.{Passed}
 use Rattle.early.proofs.count_due.Given as goal
 
 abbrev pub invariant-loop-k : goal.invariant-loop-k
-invariant-loop-k l = (l.k ≤ l.n) × (l.n ≡ length (table_at l.c l.t 0)) × Passed l.time (table_at l.c l.t 0) l.k
-
-abbrev pub decreases-loop-k : goal.decreases-loop-k
-decreases-loop-k l = l.n - l.k
+invariant-loop-k l = (l.n ≡ length (table_at l.c l.t 0)) × Passed l.time (table_at l.c l.t 0) l.k

@@ -1,5 +1,4 @@
-use borrow.Author.Tests.{not-true, not-false}
-use Rattle.early.specs.Listed.{listed_in, chosen}
+use Rattle.early.specs.Listed.{indexed, chosen}
 use Rattle.early.specs.declared.Which.TheVariants.{NotAfter}
 use Rattle.early.proofs.Buffers.{first_asked, first_is, falls_asked, falls_not, falls}
 use Rattle.early.proofs.fall.Goals as goal
@@ -7,14 +6,11 @@ use Rattle.early.proofs.fall.Goals as goal
 pub entry_of-e-requires : goal.entry_of-e-requires
 entry_of-e-requires c = (first_asked c.requires.0, rw (first_is c.requires.0) c.requires.1)
 
-pub chosen-requires : goal.chosen-requires
-chosen-requires c = c.requires.3
-
 pub returns-then-not-chosen : goal.returns-then-not-chosen
-returns-then-not-chosen c = falls_not (chosen (listed_in c.args.b.now c.args.log) (NotAfter c.args.last)) c.requires.0 _ _ _ c.entry_of-e.ensures c.chosen.ensures (not-true _ c.if-not-chosen.true-raw)
+returns-then-not-chosen c = falls_not (chosen (indexed c.args.index) (NotAfter c.args.last)) c.requires.0 _ _ _ c.entry_of-e.ensures c.chosen.ensures c.if-not-chosen.true
 
 pub append-requires : goal.append-requires
-append-requires c = falls_asked (chosen (listed_in c.args.b.now c.args.log) (NotAfter c.args.last)) c.requires.0 _ _ _ c.entry_of-e.ensures c.chosen.ensures (not-false _ c.if-not-chosen.false-raw) c.requires.2
+append-requires c = falls_asked (chosen (indexed c.args.index) (NotAfter c.args.last)) c.requires.0 _ _ _ c.entry_of-e.ensures c.chosen.ensures c.if-not-chosen.false c.requires.2
 
 pub returns : goal.returns
-returns c = falls (chosen (listed_in c.args.b.now c.args.log) (NotAfter c.args.last)) c.requires.0 _ _ _ c.entry_of-e.ensures c.chosen.ensures _ (not-false _ c.if-not-chosen.false-raw) c.append.ensures
+returns c = falls (chosen (indexed c.args.index) (NotAfter c.args.last)) c.requires.0 _ _ _ c.entry_of-e.ensures c.chosen.ensures _ c.if-not-chosen.false c.append.ensures

@@ -8,8 +8,5 @@ get32-requires c = omega (arith, note_within c.requires.0 _ c.requires.1)
 pub get16-requires : goal.get16-requires
 get16-requires c = omega (arith, note_within c.requires.0 _ c.requires.1)
 
-pub is_listed-requires : goal.is_listed-requires
-is_listed-requires c = c.requires.2
-
 pub returns : goal.returns
-returns c = note_looked c.requires.0 _ _ _ _ _ _ c.requires.1 c.note_place-at.ensures.0 c.get32.ensures c.get16.ensures c.is_listed.ensures
+returns c = note_looked c.requires.0 _ _ _ _ _ _ c.requires.1 c.place-at.ensures.0 c.get32.ensures c.get16.ensures c.is_listed.ensures

@@ -1,20 +1,12 @@
 use mathlib.Core.List.{List}
-use native.Mathlib.Omega.{arith}
-use borrow.Author.Tests.{not-true, not-false}
 use Rattle.rules.specs.Entry.{no_entry}
 use Rattle.rules.specs.declared.Entry.{Entry}
 use Rattle.entries.specs.Table.{Holds}
 use Rattle.early.proofs.Sifting.{moved_no, moved_yes}
 use Rattle.early.proofs.sift.Goals as goal
 
-pub chosen-requires : goal.chosen-requires
-chosen-requires c = c.requires.3
-
 pub returns-then-not-chosen : goal.returns-then-not-chosen
-returns-then-not-chosen c = moved_no _ no_entry (λ (ws : List Entry). Holds c.args.c ws c.args.t.now) _ _ _ _ _ c.entry_of-e.ensures c.chosen.ensures (not-true _ c.if-not-chosen.true-raw) c.requires.0
-
-pub overflow_add-result : goal.overflow_add-result
-overflow_add-result c = omega arith
+returns-then-not-chosen c = moved_no _ no_entry (λ (ws : List Entry). Holds c.args.c ws c.args.t.now) _ _ _ _ _ c.entry_of-e.ensures c.chosen.ensures c.if-not-chosen.true c.requires.0
 
 pub returns : goal.returns
-returns c = moved_yes _ no_entry (λ (ws : List Entry). Holds c.args.c ws c.replace_at.new.t) _ _ _ _ _ c.entry_of-e.ensures c.chosen.ensures (not-false _ c.if-not-chosen.false-raw) c.replace_at.ensures
+returns c = moved_yes _ no_entry (λ (ws : List Entry). Holds c.args.c ws c.replace_at.new.t) _ _ _ _ _ c.entry_of-e.ensures c.chosen.ensures c.if-not-chosen.false c.replace_at.ensures

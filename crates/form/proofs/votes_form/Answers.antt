@@ -5,16 +5,10 @@ use Rattle.form.proofs.Parts.{vote_place}
 use Rattle.form.proofs.votes_form.Goals as goal
 
 pub loop-i-init : goal.loop-i-init
-loop-i-init c = (omega arith, omega arith, row_none (vote_bytes _) (vote_at _) (vote_length _) (flag_long (vote_place _)) _ _)
-
-pub vote_form-fine-requires : goal.vote_form-fine-requires
-vote_form-fine-requires c = let h = next_within (vote_length c.args.c) c.loop-i.i c.args.n (omega arith) in (omega arith, c.requires.1)
-
-pub overflow_add-at : goal.overflow_add-at
-overflow_add-at c = let h = next_within (vote_length c.args.c) c.loop-i.i c.args.n (omega arith) in omega arith
+loop-i-init c = row_none (vote_bytes _) (vote_at _) (vote_length _) (flag_long (vote_place _)) _ _
 
 pub loop-i-preserved : goal.loop-i-preserved
-loop-i-preserved c = let h = next_within (vote_length c.args.c) c.loop-i.i c.args.n (omega arith) in (omega arith, omega arith, row_next (vote_bytes _) (vote_at _) (vote_length _) (flag_long (vote_place _)) _ _ _ _ _ _ c.loop-i.invariant.1 (omega arith) c.loop-i.invariant.2 c.vote_form-fine.ensures)
+loop-i-preserved c = let h = next_within (vote_length c.args.c) c.loop-i.i c.args.n (omega arith) in row_next (vote_bytes _) (vote_at _) (vote_length _) (flag_long (vote_place _)) _ _ _ _ _ _ (omega arith) (omega arith) c.loop-i.invariant c.vote_form-fine.ensures
 
 pub returns : goal.returns
-returns c = row_whole _ _ _ _ c.requires.0 (row_end (vote_bytes _) (vote_at _) (vote_length _) (flag_long (vote_place _)) _ _ _ _ _ (omega arith) (omega arith) c.loop-i.invariant.2)
+returns c = row_whole _ _ _ _ c.requires.0 (row_end (vote_bytes _) (vote_at _) (vote_length _) (flag_long (vote_place _)) _ _ _ _ _ (omega arith) (omega arith) c.loop-i.invariant)

@@ -1,4 +1,4 @@
-use Prim.Native.Nat.{◌+◌, ◌-◌, ◌≤◌, min}
+use Prim.Native.Nat.{◌+◌, min}
 use mathlib.Core.Path.{◌≡◌}
 use mathlib.Core.Bool.{true}
 use Rattle.octets.specs.Bytes.{num, items}
@@ -9,7 +9,4 @@ use Rattle.good.specs.Known.{noted_right}
 use Rattle.good.proofs.all_noted.Given as goal
 
 abbrev pub invariant-loop-i : goal.invariant-loop-i
-invariant-loop-i l = (l.i ≤ l.n) × (l.n ≡ min (num l.b l.at 4) l.c) × (every (noted_right l.s (notes_at l.c l.s l.t) l.k) (items (entry_at l.b) 24 (l.at + 4) l.i) ≡ true)
-
-abbrev pub decreases-loop-i : goal.decreases-loop-i
-decreases-loop-i l = l.n - l.i
+invariant-loop-i l = (l.n ≡ min (num l.b l.at 4) l.c) × (every (noted_right l.s (notes_at l.c l.s l.t) l.k) (items (entry_at l.b) 24 (l.at + 4) l.i) ≡ true)

@@ -1,4 +1,3 @@
-use Prim.Native.Nat.{◌-◌, ◌≤◌}
 use mathlib.Core.Path.{◌≡◌}
 use mathlib.Core.Bool.{◌&&◌, ◌||◌, not}
 use lib.Dec.{leb}
@@ -10,7 +9,4 @@ use Rattle.good.proofs.Heads.{points_form}
 use Rattle.good.proofs.heard_within.Given as goal
 
 abbrev pub invariant-loop-i : goal.invariant-loop-i
-invariant-loop-i l = (l.i ≤ l.shape.n) × (l.formed ≡ points_form l.state (start_of l.shape at_heard) l.i) × (l.within ≡ every (passes (λ p. not l.asked || (l.leading && leb p l.most))) (items (point_at l.state) 9 (start_of l.shape at_heard) l.i))
-
-abbrev pub decreases-loop-i : goal.decreases-loop-i
-decreases-loop-i l = l.shape.n - l.i
+invariant-loop-i l = (l.formed ≡ points_form l.state (start_of l.shape at_heard) l.i) × (l.within ≡ every (passes (λ p. not l.asked || (l.leading && leb p l.most))) (items (point_at l.state) 9 (start_of l.shape at_heard) l.i))

@@ -4,8 +4,8 @@ use Rattle.good.proofs.noted_right.Goals as goal
 pub returns-then-count-i : goal.returns-then-count-i
 returns-then-count-i c = no_note _ _ _ c.requires.0 _ _ _ c.requires.2 c.count.ensures _ c.if-count-i.true
 
-pub returns-in-Unheard : goal.returns-in-Unheard
-returns-in-Unheard c = search not_noted
+pub returns-in-None : goal.returns-in-None
+returns-in-None c = search not_noted
 
-pub returns-in-Heard : goal.returns-in-Heard
-returns-in-Heard c = search was_noted
+pub returns-in-Some : goal.returns-in-Some
+returns-in-Some c = search was_noted

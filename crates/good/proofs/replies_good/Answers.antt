@@ -1,14 +1,16 @@
-use mathlib.Core.Path.{refl}
+use mathlib.Core.Path.{sym, ◌∙◌}
 use native.Mathlib.Omega.{arith}
-use Rattle.good.proofs.Tables.{below_none, below_next, below_end}
-use borrow.Author.Rules.{rules}
+use Rattle.good.proofs.Tables.{below_start, below_next, below_stop, below_end}
 use Rattle.good.proofs.replies_good.Goals as goal
 
 pub loop-j-init : goal.loop-j-init
-loop-j-init c = (omega arith, below_none _, refl)
+loop-j-init c = (below_start _)
+
+pub returns-then-not-reply_good : goal.returns-then-not-reply_good
+returns-then-not-reply_good c = below_stop _ c.loop-j.j _ (omega arith) (sym c.reply_good.ensures ∙ c.if-not-reply_good.true)
 
 pub loop-j-preserved : goal.loop-j-preserved
-loop-j-preserved c = (omega arith, below_next _ c.loop-j.j _ _ c.loop-j.invariant.1 c.reply_good-fine.ensures, search rules)
+loop-j-preserved c = (below_next _ c.loop-j.j c.loop-j.invariant (sym c.reply_good.ensures ∙ c.if-not-reply_good.false))
 
 pub returns : goal.returns
-returns c = below_end _ c.loop-j.j _ _ c.loop-j.invariant.1 c.loop-j.invariant.0 c.loop-j-test.false
+returns c = below_end _ c.loop-j.j _ c.loop-j.invariant (omega arith) (omega arith)

@@ -1,14 +1,16 @@
-use mathlib.Core.Path.{refl}
+use mathlib.Core.Path.{sym, ◌∙◌}
 use native.Mathlib.Omega.{arith}
-use Rattle.good.proofs.Tables.{row_none, row_next, row_end}
-use borrow.Author.Rules.{rules}
+use Rattle.logs.proofs.Every.{every_start, every_next, every_stop, every_end}
 use Rattle.good.proofs.votes_good.Goals as goal
 
 pub loop-r-init : goal.loop-r-init
-loop-r-init c = (omega arith, row_none _ _ _ _, refl)
+loop-r-init c = (every_start _ _ _ _)
+
+pub returns-then-not-vote_good : goal.returns-then-not-vote_good
+returns-then-not-vote_good c = every_stop _ _ _ _ c.loop-r.r _ (omega arith) (sym c.vote_good.ensures ∙ c.if-not-vote_good.true)
 
 pub loop-r-preserved : goal.loop-r-preserved
-loop-r-preserved c = (omega arith, row_next _ _ _ _ c.loop-r.r _ _ c.loop-r.invariant.1 c.vote_good-fine.ensures, search rules)
+loop-r-preserved c = (every_next _ _ _ _ c.loop-r.r c.loop-r.invariant (sym c.vote_good.ensures ∙ c.if-not-vote_good.false))
 
 pub returns : goal.returns
-returns c = row_end _ _ _ _ c.loop-r.r _ _ c.loop-r.invariant.1 c.loop-r.invariant.0 c.loop-r-test.false
+returns c = every_end _ _ _ _ c.loop-r.r _ c.loop-r.invariant (omega arith) (omega arith)

@@ -1,6 +1,5 @@
-use Prim.Native.Nat.{◌-◌, ◌≤◌}
+use mathlib.Core.Bool.{true}
 use mathlib.Core.Path.{◌≡◌}
-use lib.ListN.{length}
 use Rattle.octets.specs.Bytes.{items}
 use Rattle.rules.specs.Choice.{every, passes}
 use Rattle.rules.specs.State.{vote_good}
@@ -9,7 +8,4 @@ use Rattle.places.specs.Layout.{start_of}
 use Rattle.good.proofs.votes_good.Given as goal
 
 abbrev pub invariant-loop-r : goal.invariant-loop-r
-invariant-loop-r l = (l.r ≤ l.shape.n) × (l.fine ≡ every (passes (vote_good l.shape (state_of l.shape l.state))) (items (vote_at l.shape.c l.state) (vote_length l.shape.c) (start_of l.shape at_votes) l.r)) × (length l.slots ≡ length l.initial.slots)
-
-abbrev pub decreases-loop-r : goal.decreases-loop-r
-decreases-loop-r l = l.shape.n - l.r
+invariant-loop-r l = every (passes (vote_good l.shape (state_of l.shape l.state))) (items (vote_at l.shape.c l.state) (vote_length l.shape.c) (start_of l.shape at_votes) l.r) ≡ true

@@ -1,22 +1,24 @@
-use mathlib.Core.Path.{◌∙◌, sym}
-use Prim.Native.Nat.{◌+◌, ◌-◌}
-use native.Mathlib.Omega.{arith}
+use Rattle.std.proofs.Common.{◌+◌, ◌-◌, ◌∙◌, sym, arith}
 use Rattle.repeats.specs.Rows.{count_of, key_of}
 use Rattle.hashed.proofs.Table.{stop_none, path_starts, path_free, path_row, path_on}
-use borrow.Author.Rules.{rules}
 use Rattle.hashed.proofs.path_end.Goals as goal
+use Rattle.hashed.proofs.path_end.Goals.{then-m-e-via-then-m-e, then-m-e-via-else-m-e+then-key-x}
 
-pub loop-n-init : goal.loop-n-init
-loop-n-init c = (search rules, path_starts (key_of c.args.b.now c.args.sp) (count_of c.args.sp) c.args.table.now c.args.x c.args.start c.requires.1)
+pub loop-p-init : goal.loop-p-init
+loop-p-init c = path_starts (key_of c.args.b.now c.args.sp) (count_of c.args.sp) c.args.table.now c.args.x c.args.start _ c.requires.1 (omega arith)
 
 pub returns-then-m-e : goal.returns-then-m-e
-returns-then-m-e c = (path_free (key_of c.args.b.now c.args.sp) (count_of c.args.sp) c.args.table.now c.args.x (c.args.start + c.loop-n.n) (64 - c.loop-n.n) (63 - c.loop-n.n) c.row-e.result (omega arith) (omega arith) c.row-e.ensures.0 (omega arith) ∙ c.loop-n.invariant.1, omega arith)
+returns-then-m-e c = (
+  elim c.then-m-e.branch [
+    | then-m-e-via-then-m-e w ↦ path_free (key_of c.args.b.now c.args.sp) (count_of c.args.sp) c.args.table.now c.args.x c.loop-p.p (c.args.start + 64 - c.loop-p.p) (c.args.start + 63 - c.loop-p.p) c.row-e.result (omega arith) (omega arith) c.row-e.ensures.0 (omega arith) ∙ c.loop-p.invariant
+    | then-m-e-via-else-m-e+then-key-x w ↦ path_row (key_of c.args.b.now c.args.sp) (count_of c.args.sp) c.args.table.now c.args.x c.loop-p.p (c.args.start + 64 - c.loop-p.p) (c.args.start + 63 - c.loop-p.p) c.row-e.result (omega arith) (omega arith) c.row-e.ensures.0 (sym w.key.ensures.0 ∙ w.if-key-x.true) ∙ c.loop-p.invariant
+  ],
+  omega arith,
+  omega arith,
+)
 
-pub returns-then-key-x : goal.returns-then-key-x
-returns-then-key-x c = (path_row (key_of c.args.b.now c.args.sp) (count_of c.args.sp) c.args.table.now c.args.x (c.args.start + c.loop-n.n) (64 - c.loop-n.n) (63 - c.loop-n.n) c.row-e.result (omega arith) (omega arith) c.row-e.ensures.0 (sym c.key.ensures.0 ∙ c.if-key-x.true) ∙ c.loop-n.invariant.1, omega arith)
-
-pub loop-n-preserved : goal.loop-n-preserved
-loop-n-preserved c = (search rules, path_on (key_of c.args.b.now c.args.sp) (count_of c.args.sp) c.args.table.now c.args.x c.args.start c.loop-n.n c.row-e.result (omega arith) (omega arith) c.row-e.ensures.0 (omega arith) (λ e. c.if-key-x.false (c.key.ensures.0 ∙ e)) ∙ c.loop-n.invariant.1)
+pub loop-p-preserved : goal.loop-p-preserved
+loop-p-preserved c = path_on (key_of c.args.b.now c.args.sp) (count_of c.args.sp) c.args.table.now c.args.x c.loop-p.p (c.args.start + 64 - c.loop-p.p) (c.args.start + 64 - (c.loop-p.p + 1)) c.row-e.result (omega arith) (omega arith) c.row-e.ensures.0 (omega arith) (λ e. c.if-key-x.false (c.key.ensures.0 ∙ e)) ∙ c.loop-p.invariant
 
 pub returns : goal.returns
-returns c = (sym (stop_none (key_of c.args.b.now c.args.sp) (count_of c.args.sp) c.args.table.now c.args.x (c.args.start + c.loop-n.n) (64 - c.loop-n.n) (omega arith)) ∙ c.loop-n.invariant.1, omega arith)
+returns c = sym c.loop-p.invariant ∙ stop_none (key_of c.args.b.now c.args.sp) (count_of c.args.sp) c.args.table.now c.args.x c.loop-p.p (c.args.start + 64 - c.loop-p.p) (omega arith)

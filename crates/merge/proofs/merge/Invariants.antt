@@ -10,6 +10,3 @@ use Rattle.merge.proofs.merge.Given as goal
 
 abbrev pub invariant-loop-j : goal.invariant-loop-j
 invariant-loop-j l = (l.j ≤ l.shape.s) × Holds l.shape.c (merged_to (state_of l.shape l.state).change.draft (replies_with l.shape l.state l.message l.reply) l.j) l.scratch × Found (merged_to (state_of l.shape l.state).change.draft (replies_with l.shape l.state l.message l.reply) l.j) l.slots × (length l.slots ≡ length l.initial.slots)
-
-abbrev pub decreases-loop-j : goal.decreases-loop-j
-decreases-loop-j l = l.shape.s - l.j

@@ -9,6 +9,3 @@ use Rattle.merge.proofs.take_all.Given as goal
 
 abbrev pub invariant-loop-i : goal.invariant-loop-i
 invariant-loop-i l = (l.i ≤ l.count) × (length l.t ≡ length l.initial.t) × (length l.slots ≡ length l.initial.slots) × Holds l.c (first_in (table_at l.c l.initial.t 0) l.src l.at l.i) l.t × Found (first_in (table_at l.c l.initial.t 0) l.src l.at l.i) l.slots
-
-abbrev pub decreases-loop-i : goal.decreases-loop-i
-decreases-loop-i l = l.count - l.i

@@ -1,11 +1,7 @@
-use Prim.Native.Nat.{◌≤◌, ◌-◌}
 use mathlib.Core.Path.{◌≡◌}
 use Rattle.rules.specs.State.{greatest_to}
 use Rattle.notes.specs.Notes.{notes_at, note_in}
 use Rattle.notes.proofs.greatest_at.Given as goal
 
 abbrev pub invariant-loop-j : goal.invariant-loop-j
-invariant-loop-j l = (l.j ≤ l.s) × (l.best ≡ greatest_to l.mask (note_in (notes_at l.c l.s l.t) l.i).stamps l.j)
-
-abbrev pub decreases-loop-j : goal.decreases-loop-j
-decreases-loop-j l = l.s - l.j
+invariant-loop-j l = (l.best ≡ greatest_to l.mask (note_in (notes_at l.c l.s l.t) l.i).stamps l.j)

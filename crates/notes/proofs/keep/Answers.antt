@@ -6,9 +6,6 @@ use Rattle.notes.proofs.Notes.{is_notes}
 use Rattle.notes.proofs.Writes.{keep_found, new_within, keep_new}
 use Rattle.notes.proofs.keep.Goals as goal
 
-pub hear-requires : goal.hear-requires
-hear-requires c = (c.requires.0, omega arith, c.requires.2)
-
 pub returns-then-i-count : goal.returns-then-i-count
 returns-then-i-count c = let l : c.find-i.result < length (notes_at c.args.c c.args.s c.args.t.now) = omega arith in keep_found _ _ _ _ _ _ _ c.find-i.ensures _ l c.hear.ensures
 

@@ -1,10 +1,7 @@
-use Prim.Native.Nat.{◌≤◌, ◌+◌, ◌-◌}
+use Prim.Native.Nat.{◌+◌}
 use mathlib.Core.Path.{◌≡◌}
 use Rattle.notes.proofs.Tested.{good_points, heard_points}
 use Rattle.notes.proofs.note_good.Given as goal
 
 abbrev pub invariant-loop-j : goal.invariant-loop-j
-invariant-loop-j l = (l.j ≤ l.s) × (l.fine ≡ good_points l.t (l.at + 6) l.j) × (l.heard ≡ heard_points l.t (l.at + 6) l.j)
-
-abbrev pub decreases-loop-j : goal.decreases-loop-j
-decreases-loop-j l = l.s - l.j
+invariant-loop-j l = (l.fine ≡ good_points l.t (l.at + 6) l.j) × (l.heard ≡ heard_points l.t (l.at + 6) l.j)

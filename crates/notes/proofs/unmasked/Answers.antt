@@ -1,14 +1,19 @@
-use mathlib.Core.Path.{◌≡◌, ap, ◌∙◌}
-use native.Mathlib.Omega.{arith}
-use Rattle.rules.specs.State.{noted_to}
-use Rattle.notes.proofs.Points.{noted_none, unmasked_next}
+use Prim.Native.Nat.{ℕ, ◌<◌}
+use mathlib.Core.Path.{◌≡◌}
+use mathlib.Core.Bool.{true, false, not}
+use Rattle.std.proofs.Common.{rules, Some}
+use Rattle.std.proofs.iter.runs.Sources.{ranges}
+use Rattle.rules.specs.Group.{holds}
+use Rattle.notes.proofs.Points.{unmasked_by}
 use Rattle.notes.proofs.unmasked.Goals as goal
 
-pub loop-j-init : goal.loop-j-init
-loop-j-init c = (omega arith, noted_none _ _)
-
-pub loop-j-preserved : goal.loop-j-preserved
-loop-j-preserved c = (omega arith, unmasked_next _ _ _ _ c.loop-j.invariant.1 c.holds.ensures)
-
 pub returns : goal.returns
-returns c = let e : c.loop-j.j ≡ c.args.s = omega arith in c.loop-j.invariant.1 ∙ ap (noted_to _ _) e
+returns c =
+    let a = c.args in
+    let all_hold : c.all.result ≡ true → (j : ℕ) → j < a.s → not (holds a.mask j) ≡ true
+    = λ r j l.
+    let n : c.all.ensures.runs.0.len ≡ a.s = search (rules, ranges) in
+    let x : c.all.ensures.runs.0.at j ≡ Some j = search (rules, ranges) in
+    search (rules, ranges) in
+    let one_fails : c.all.result ≡ false → (j : ℕ) × (j < a.s) × (not (holds a.mask j) ≡ false) = search (rules, ranges) in
+    unmasked_by _ _ _ all_hold one_fails

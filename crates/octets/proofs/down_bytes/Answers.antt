@@ -1,14 +1,13 @@
 use mathlib.Core.Path.{refl}
 use native.Mathlib.Omega.{arith}
 use Rattle.octets.proofs.Turns.{none_yet, down_next, all_done}
-use borrow.Author.Rules.{rules}
 use Rattle.octets.proofs.down_bytes.Goals as goal
 
 pub loop-i-init : goal.loop-i-init
-loop-i-init c = search (rules, none_yet)
+loop-i-init c = none_yet _ _ _ _
 
 pub loop-i-preserved : goal.loop-i-preserved
-loop-i-preserved c = (search rules, search rules, down_next _ _ _ _ 1 _ _ _ c.loop-i.invariant.2 c.move_byte.ensures (omega arith) (omega arith) refl)
+loop-i-preserved c = down_next _ _ _ _ 1 _ _ _ c.loop-i.invariant c.move_byte.ensures (omega arith) (omega arith) refl
 
 pub returns : goal.returns
 returns c = search all_done

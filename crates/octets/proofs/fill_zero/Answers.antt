@@ -1,7 +1,8 @@
-use Prim.Native.Nat.{◌-◌, ◌%◌}
+use Prim.Native.Nat.{ℕ}
 use native.Mathlib.Omega.{arith}
-use Rattle.octets.proofs.Turns.{fill_next}
+use lib.ListN.{length-take, length-drop}
+use Rattle.octets.proofs.Turns.{zeros_home}
 use Rattle.octets.proofs.fill_zero.Goals as goal
 
 pub returns : goal.returns
-returns c = let n = c.args.n in fill_next _ _ (n - n % 8) (n % 8) n _ _ c.fill_words.ensures c.fill_bytes.ensures (omega arith) (omega arith)
+returns c = rw c.fill.ensures.after (zeros_home _ _ _ _ _ (omega arith) (omega (arith, length-take {A = ℕ}, length-drop {A = ℕ})))

@@ -1,16 +1,13 @@
-use native.Mathlib.Omega.{arith}
-use Rattle.octets.proofs.Turns.{zeros_none, zeros_pass, zeros_stop, zeros_done}
-use borrow.Author.Rules.{rules}
+use Rattle.std.proofs.Common.{◌≡◌, ◌+◌, ◌-◌, ◌↔◌, List, ℕ, take, drop, get_or, rules, ap, arith, IsTrue, EachIndex}
+use Rattle.octets.proofs.Turns.{zeros_each}
+use Rattle.octets.specs.Bytes.{part}
 use Rattle.octets.proofs.zero_bytes.Goals as goal
 
-pub loop-i-init : goal.loop-i-init
-loop-i-init c = search (rules, zeros_none)
-
-pub returns-then-get8-ne0 : goal.returns-then-get8-ne0
-returns-then-get8-ne0 c = zeros_stop _ _ _ 1 _ _ c.loop-i.invariant.1 c.get8.ensures c.if-get8-ne0.true (omega arith)
-
-pub loop-i-preserved : goal.loop-i-preserved
-loop-i-preserved c = (search rules, zeros_pass _ _ _ 1 _ c.loop-i.invariant.1 c.get8.ensures c.if-get8-ne0.false)
-
 pub returns : goal.returns
-returns c = search zeros_done
+unfolding part
+returns c =
+    let a = c.args in
+    let x : List ℕ = take (a.at + a.n - a.at) (drop a.at a.s.now) in
+    let h : IsTrue c.all.result ↔ EachIndex x (λ i. get_or x i 0 ≡ 0) = search rules in
+    let l : a.at + a.n - a.at ≡ a.n = omega arith in
+    zeros_each a.s.now x a.at a.n c.all.result h (ap (λ (m : ℕ). take m (drop a.at a.s.now)) l)

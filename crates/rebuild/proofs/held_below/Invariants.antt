@@ -1,12 +1,8 @@
-use Prim.Native.Nat.{◌≤◌, ◌-◌}
 use mathlib.Core.Path.{◌≡◌}
 use Rattle.rules.specs.Rebuild.{holders}
-use Rattle.ballots.specs.Ballots.{votes_in}
+use Rattle.rebuild.specs.Tables.{votes_of}
 use Rattle.rebuild.specs.Rebuild.{lower}
 use Rattle.rebuild.proofs.held_below.Given as goal
 
 abbrev pub invariant-loop-r : goal.invariant-loop-r
-invariant-loop-r l = (l.r ≤ l.end) × (0 ≡ holders (lower l.count.top (votes_in l.shape l.state l.message l.count.cast) l.r) l.e)
-
-abbrev pub decreases-loop-r : goal.decreases-loop-r
-decreases-loop-r l = l.end - l.r
+invariant-loop-r l = 0 ≡ holders (lower l.count.top (votes_of l.votes) l.r) l.e

@@ -5,22 +5,13 @@ use Rattle.rebuild.proofs.holders_from.Goals as goal
 use Rattle.rebuild.proofs.holders_from.Goals.{else-holds_at, then-holds_at}
 
 pub loop-r-init : goal.loop-r-init
-loop-r-init c = (omega arith, omega arith, omega arith)
+loop-r-init c = (omega arith, omega arith)
 
 pub holds_at-requires : goal.holds_at-requires
 holds_at-requires c = (c.requires.0, c.loop-r-test.true)
 
-pub overflow_add-sum : goal.overflow_add-sum
-overflow_add-sum c = omega arith
-
-pub overflow_add-r : goal.overflow_add-r
-overflow_add-r c = omega arith
-
-pub loop-r-smaller : goal.loop-r-smaller
-loop-r-smaller c = omega arith
-
 pub loop-r-preserved : goal.loop-r-preserved
-loop-r-preserved c = elim c.if-holds_at.branch [ then-holds_at w ↦ (omega arith, omega arith, holders_more _ _ c.args.e _ _ _ _ c.args.shape.n (votes_long _ _ _ _ c.requires.0.given.sent) c.loop-r-test.true c.loop-r.invariant.2 _ c.holds_at.ensures w.if-holds_at.true w.sum-is) | else-holds_at w ↦ (omega arith, omega arith, holders_same _ _ c.args.e _ _ _ _ c.args.shape.n (votes_long _ _ _ _ c.requires.0.given.sent) c.loop-r-test.true c.loop-r.invariant.2 _ c.holds_at.ensures w.if-holds_at.false w.sum-is) ]
+loop-r-preserved c = elim c.if-holds_at.branch [ then-holds_at w ↦ (omega arith, holders_more _ _ c.args.e _ _ _ _ c.args.votes.shape.n (votes_long _ _ _ _ c.requires.0.given.sent) c.loop-r-test.true c.loop-r.invariant.1 _ c.holds_at.ensures w.if-holds_at.true w.sum-is) | else-holds_at w ↦ (omega arith, holders_same _ _ c.args.e _ _ _ _ c.args.votes.shape.n (votes_long _ _ _ _ c.requires.0.given.sent) c.loop-r-test.true c.loop-r.invariant.1 _ c.holds_at.ensures w.if-holds_at.false w.sum-is) ]
 
 pub returns : goal.returns
-returns c = holders_end _ _ c.args.e _ _ _ c.loop-r.invariant.0 c.loop-r-test.false c.loop-r.invariant.2
+returns c = holders_end _ _ c.args.e _ _ _ (c.loop-r.auto.r-end c.requires.1) c.loop-r-test.false c.loop-r.invariant.1

@@ -1,18 +1,18 @@
 use mathlib.Core.Option.{none}
 use lib.ListN.{get_or}
-use Rattle.ballots.specs.Ballots.{votes_in}
+use Rattle.rebuild.specs.Tables.{votes_of}
 use borrow.Author.Tests.{not-true, not-false}
 use Rattle.rebuild.proofs.Holders.{not_held, so_held, counts_some}
 use Rattle.rebuild.proofs.holds_at.Goals as goal
 
 pub counted-requires : goal.counted-requires
-counted-requires c = (c.requires.0.given.sent, c.requires.1)
+counted-requires c = (c.requires.0.given, c.requires.1)
 
 pub returns-then-not-counted : goal.returns-then-not-counted
-returns-then-not-counted c = not_held _ c.args.e _ _ (c.counted.ensures c.args.message.now) (not-true _ c.if-not-counted.true-raw)
+returns-then-not-counted c = not_held _ c.args.e _ _ c.counted.ensures (not-true _ c.if-not-counted.true-raw)
 
 pub log_holds-requires : goal.log_holds-requires
-log_holds-requires c = (c.requires.0, c.requires.1, counts_some _ (get_or (votes_in c.args.shape c.args.state.now c.args.message.now c.args.count.cast) c.args.r none) _ (c.counted.ensures c.args.message.now) (not-false _ c.if-not-counted.false-raw))
+log_holds-requires c = (c.requires.0, c.requires.1, counts_some _ (get_or (votes_of c.args.votes) c.args.r none) _ c.counted.ensures (not-false _ c.if-not-counted.false-raw))
 
 pub returns : goal.returns
-returns c = so_held _ c.args.e _ _ _ (c.counted.ensures c.args.message.now) (not-false _ c.if-not-counted.false-raw) c.log_holds.ensures
+returns c = so_held _ c.args.e _ _ _ c.counted.ensures (not-false _ c.if-not-counted.false-raw) c.log_holds.ensures

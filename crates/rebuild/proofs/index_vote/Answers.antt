@@ -3,7 +3,7 @@ use borrow.Author.Tests.{not-false}
 use mathlib.Core.Path.{refl}
 use mathlib.Core.Option.{none}
 use lib.ListN.{get_or}
-use Rattle.ballots.specs.Ballots.{votes_in}
+use Rattle.rebuild.specs.Tables.{votes_of}
 use Prim.Native.Nat.{ℕ, ◌<◌, ◌≤◌}
 use Rattle.rebuild.proofs.Holders.{counts_some}
 use Rattle.rebuild.proofs.Tables.{index_same, index_found}
@@ -19,16 +19,13 @@ pub returns-then-slots-end : goal.returns-then-slots-end
 returns-then-slots-end c = index_same _ _ _ _ c.requires.2
 
 pub log_of-log-requires : goal.log_of-log-requires
-log_of-log-requires c = (c.requires.0, c.requires.1, counts_some _ (get_or (votes_in c.args.shape c.args.state.now c.args.message.now c.args.count.cast) c.args.r none) _ (c.counted.ensures c.args.message.now) (not-false _ c.if-not-counted.false-raw))
+log_of-log-requires c = (c.requires.0, c.requires.1, counts_some _ (get_or (votes_of c.args.votes) c.args.r none) _ c.counted.ensures (not-false _ c.if-not-counted.false-raw))
 
 pub index_rows-requires : goal.index_rows-requires
 index_rows-requires c = (omega (arith, c.count-n.ensures, c.log_of-log.ensures.count, c.log_of-log.ensures.size), omega (arith, c.count-n.ensures, c.log_of-log.ensures.count, c.log_of-log.ensures.room, c.requires.0.sent.stands.fits.small))
-
-pub overflow_cast-next : goal.overflow_cast-next
-overflow_cast-next c = omega (arith, c.requires.2.few, c.requires.1, c.requires.0.sent.stands.fits.most)
 
 pub bounds-next-i : goal.bounds-next-i
 bounds-next-i c = replica_low _ _ c.requires.1 c.requires.0.sent.stands.fits.most
 
 pub returns : goal.returns
-returns c = index_found _ _ _ _ _ c.requires.2 (replica_low _ _ c.requires.1 c.requires.0.sent.stands.fits.most) _ c.log_of-log.ensures _ c.count-n.ensures _ c.index_rows.ensures _ _ refl refl c.if-slots-end.false c.slots-1.given.0 _ refl
+returns c = index_found _ _ _ _ _ c.requires.2 (replica_low _ _ c.requires.1 c.requires.0.sent.stands.fits.most) _ c.log_of-log.ensures _ c.count-n.ensures _ c.index_rows.ensures _ _ refl refl c.if-slots-end.false c.slots-1.given.0

@@ -5,11 +5,5 @@ use Rattle.rules.specs.Early.{due_of}
 use Rattle.rules.specs.declared.Entry.{Entry}
 use Rattle.releases.proofs.due_count.Goals as goal
 
-pub early-requires : goal.early-requires
-early-requires c = c.requires.midway
-
-pub count_due-requires : goal.count_due-requires
-count_due-requires c = c.early.ensures.0
-
 pub returns : goal.returns
 returns c = c.count_due.ensures ∙ ap (λ (es : List Entry). length (due_of c.args.time es)) c.early.ensures.1

@@ -4,6 +4,3 @@ use Rattle.releases.proofs.index_notes.Goals as goal
 
 pub returns-then-due-le8 : goal.returns-then-due-le8
 returns-then-due-le8 c = record { indexed = unserved _ _ _ (omega (arith, c.mark_none.ensures)) }
-
-pub returns : goal.returns
-returns c = c.index_notes.ensures.1

@@ -1,10 +1,6 @@
 use mathlib.Core.Path.{sym, ◌∙◌}
-use native.Mathlib.Omega.{arith}
 use Rattle.releases.proofs.Next.{copies_noted}
 use Rattle.releases.proofs.leave_by.Goals as goal
-
-pub list-requires : goal.list-requires
-list-requires c = (omega (arith, c.requires.2), omega (arith, c.requires.1, c.requires.0.midway.holds.log.room, c.requires.0.midway.fits.small))
 
 pub shape_of-state : goal.shape_of-state
 shape_of-state c = c.notes_leave.ensures.releasing.midway.size ∙ sym c.requires.0.midway.size

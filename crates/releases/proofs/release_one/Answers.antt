@@ -4,8 +4,5 @@ use Rattle.releases.proofs.LogBytes.{digest_runs}
 use Rattle.releases.proofs.Next.{went}
 use Rattle.releases.proofs.release_one.Goals as goal
 
-pub early_entry-e-requires : goal.early_entry-e-requires
-early_entry-e-requires c = (c.requires.0, c.requires.3)
-
 pub returns : goal.returns
 returns c = let w = went c.args.state.now _ _ c.early_entry-e.ensures c.log_takes.ensures in let p = c.log_place-at.result in (w, digest_runs c.requires.0 _ p (p + 24) _ _ _ w c.requires.1 c.requires.4 c.log_place-at.ensures.0 refl c.digest_on.ensures)

@@ -1,15 +1,6 @@
 use Rattle.releases.proofs.Way.{run_open, run_read}
 use Rattle.releases.proofs.run_length.Goals as goal
 
-pub notes-notes-requires : goal.notes-notes-requires
-notes-notes-requires c = c.requires.0.midway
-
-pub index_notes-requires : goal.index_notes-requires
-index_notes-requires c = c.notes-notes.ensures.0
-
-pub early-requires : goal.early-requires
-early-requires c = c.requires.0.midway
-
 pub run_of-requires : goal.run_of-requires
 run_of-requires c = (c.early.ensures.0, run_open _ _ c.args.time _ _ c.early.ensures c.notes-notes.ensures _ c.requires.1, c.notes-notes.ensures.0, c.index_notes.ensures)
 

@@ -1,4 +1,5 @@
-use native.Mathlib.Omega.{arith}
+use mathlib.Core.Path.{ap}
+use mathlib.Core.Bool.{not}
 use Rattle.rules.specs.State.{agreed}
 use Rattle.rules.specs.Image.{table_at}
 use Rattle.repeats.proofs.Laws.{first_start}
@@ -7,16 +8,13 @@ use Rattle.releases.proofs.Run.{run_stops, run_goes, run_ends}
 use Rattle.releases.proofs.run_of.Goals as goal
 
 pub loop-i-init : goal.loop-i-init
-loop-i-init c = (omega arith, first_start _)
-
-pub entry_of-e-requires : goal.entry_of-e-requires
-entry_of-e-requires c = (c.requires.0, omega (arith, c.requires.1))
+loop-i-init c = first_start _
 
 pub returns-then-not-agreed_from : goal.returns-then-not-agreed_from
-returns-then-not-agreed_from c = run_stops (agreed (sized c.args.c c.args.s) (notes_at c.args.c c.args.s c.args.notes.now)) c.args.due (table_at c.args.c c.args.early.now 0) c.loop-i.i c.loop-i.invariant.1 c.requires.1 _ _ c.loop-i-test.true c.entry_of-e.ensures c.agreed_from.ensures c.if-not-agreed_from.true-raw
+returns-then-not-agreed_from c = run_stops (agreed (sized c.args.c c.args.s) (notes_at c.args.c c.args.s c.args.notes.now)) c.args.due (table_at c.args.c c.args.early.now 0) c.loop-i.i c.loop-i.invariant c.requires.1 _ _ c.loop-i-test.true c.entry_of-e.ensures c.agreed_from.ensures (ap not c.if-not-agreed_from.true)
 
 pub loop-i-preserved : goal.loop-i-preserved
-loop-i-preserved c = (omega arith, run_goes (agreed (sized c.args.c c.args.s) (notes_at c.args.c c.args.s c.args.notes.now)) c.args.due (table_at c.args.c c.args.early.now 0) c.loop-i.i c.loop-i.invariant.1 c.requires.1 _ _ c.loop-i-test.true c.entry_of-e.ensures c.agreed_from.ensures c.if-not-agreed_from.false-raw)
+loop-i-preserved c = run_goes (agreed (sized c.args.c c.args.s) (notes_at c.args.c c.args.s c.args.notes.now)) c.args.due (table_at c.args.c c.args.early.now 0) c.loop-i.i c.loop-i.invariant c.requires.1 _ _ c.loop-i-test.true c.entry_of-e.ensures c.agreed_from.ensures (ap not c.if-not-agreed_from.false)
 
 pub returns : goal.returns
-returns c = run_ends (agreed (sized c.args.c c.args.s) (notes_at c.args.c c.args.s c.args.notes.now)) c.args.due (table_at c.args.c c.args.early.now 0) c.loop-i.i c.loop-i.invariant.1 c.requires.1 c.loop-i.invariant.0 c.loop-i-test.false
+returns c = run_ends (agreed (sized c.args.c c.args.s) (notes_at c.args.c c.args.s c.args.notes.now)) c.args.due (table_at c.args.c c.args.early.now 0) c.loop-i.i c.loop-i.invariant c.requires.1 c.loop-i.auto.i-end c.loop-i-test.false

@@ -1,4 +1,3 @@
-use Prim.Native.Nat.{◌≤◌, ◌-◌}
 use Rattle.rules.specs.State.{agreed}
 use Rattle.rules.specs.Image.{table_at}
 use Rattle.notes.specs.Notes.{sized, notes_at}
@@ -6,7 +5,4 @@ use Rattle.releases.proofs.Run.{Passed}
 use Rattle.releases.proofs.run_of.Given as goal
 
 abbrev pub invariant-loop-i : goal.invariant-loop-i
-invariant-loop-i l = (l.i ≤ l.due) × Passed (agreed (sized l.c l.s) (notes_at l.c l.s l.notes)) l.due (table_at l.c l.early 0) l.i
-
-abbrev pub decreases-loop-i : goal.decreases-loop-i
-decreases-loop-i l = l.due - l.i
+invariant-loop-i l = Passed (agreed (sized l.c l.s) (notes_at l.c l.s l.notes)) l.due (table_at l.c l.early 0) l.i

@@ -1,4 +1,3 @@
-use native.Mathlib.Omega.{arith}
 use mathlib.Core.Path.{refl}
 use mathlib.Core.List.{List, ◌++◌}
 use Prim.Native.Nat.{◌+◌}
@@ -11,15 +10,6 @@ use Rattle.stamps.proofs.put_early.Goals as goal
 
 pub places_of-layout-requires : goal.places_of-layout-requires
 places_of-layout-requires c = c.requires.0.fits
-
-pub slice_bounds-lift-count : goal.slice_bounds-lift-count
-slice_bounds-lift-count c = omega arith
-
-pub slice_bounds-lift-start : goal.slice_bounds-lift-start
-slice_bounds-lift-start c = omega arith
-
-pub slice_bounds-lift-end : goal.slice_bounds-lift-end
-slice_bounds-lift-end c = omega arith
 
 pub lift-requires : goal.lift-requires
 lift-requires c = let h = early_here c.requires.0 _ _ c.places_of-layout.ensures.early c.places_of-layout.ensures.late in (is_table _ _ _ h, rw (decoded _ _ _ h) c.requires.1, rw (decoded _ _ _ h) c.requires.2, rw (decoded _ _ _ h) c.requires.3)

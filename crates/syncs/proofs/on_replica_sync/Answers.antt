@@ -1,6 +1,5 @@
 use borrow.Enum.Refused.{opened}
 use mathlib.Core.Path.{refl}
-use native.Mathlib.Omega.{arith}
 use Rattle.rules.specs.Step.{on_replica_sync}
 use Rattle.handler.proofs.Closes.{handled_other}
 use Rattle.handler.proofs.OtherKind.{not_tag}
@@ -10,14 +9,8 @@ use Rattle.syncs.proofs.on_replica_sync.Goals as goal
 pub returns-in_default : goal.returns-in_default
 returns-in_default c = handled_other 4 on_replica_sync _ _ _ _ _ (not_tag 4 c.args.m refl (opened c.in_default.in_default-own.keys2) tt)
 
-pub entries_at-place-requires : goal.entries_at-place-requires
-entries_at-place-requires c = c.requires.stands.fits.few
-
 pub get32-count-requires : goal.get32-count-requires
 get32-count-requires c = place_inside _ _ _ c.args.out.now _ _ c.requires c.in-ReplicaSync.is _ c.entries_at-place.ensures.0
-
-pub get_sync-requires : goal.get_sync-requires
-get_sync-requires c = omega (arith, c.requires.stands.size)
 
 pub returns-then-count-get_sync : goal.returns-then-count-get_sync
 returns-then-count-get_sync c = not_longer _ _ _ _ _ _ c.requires c.in-ReplicaSync.is _ _ c.entries_at-place.ensures.0 c.get32-count.ensures _ c.get_sync.ensures c.if-count-get_sync.true

@@ -6,12 +6,6 @@ use Rattle.ticks.proofs.follower_releases.Goals as goal
 pub returns-then-shape-n : goal.returns-then-shape-n
 returns-then-shape-n c = follower_shut c.requires _ _ _ c.log_length-n.ensures.0 _ c.due_count-due.ensures c.if-shape-n.true
 
-pub replies_length-requires : goal.replies_length-requires
-replies_length-requires c = (c.requires.midway.fits.few, omega (arith, c.fitting-k.ensures, c.requires.midway.fits.small))
-
-pub length_for-requires : goal.length_for-requires
-length_for-requires c = (c.requires.midway.fits.few, omega arith)
-
 pub overflow_add-replies_length : goal.overflow_add-replies_length
 overflow_add-replies_length c = omega (arith, c.replies_length.ensures.1, c.length_for.ensures, status_long c.args.shape.s, c.requires.midway.fits.few)
 
@@ -23,9 +17,6 @@ release-at-requires c = follower_asks c.requires c.args.out.now _ _ c.log_length
 
 pub tell_status-end-requires : goal.tell_status-end-requires
 tell_status-end-requires c = follower_tells c.requires _ _ _ c.log_length-n.ensures.0 _ c.due_count-due.ensures _ _ _ c.log_length-n.ensures.1 c.if-shape-n.false c.fitting-k.ensures c.replies_length.ensures.0 c.length_for.ensures c.if-out-replies_length.false _ c.release-at.ensures
-
-pub settle-requires : goal.settle-requires
-settle-requires c = c.release-at.ensures.reached.releasing
 
 pub returns : goal.returns
 returns c = follower_done c.requires _ _ _ c.log_length-n.ensures.0 _ c.due_count-due.ensures _ _ _ c.log_length-n.ensures.1 c.if-shape-n.false c.fitting-k.ensures c.replies_length.ensures.0 c.length_for.ensures c.if-out-replies_length.false _ c.release-at.ensures _ _ _ _ c.tell_status-end.ensures c.get_sync-sync.ensures c.settle.ensures

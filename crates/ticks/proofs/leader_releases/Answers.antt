@@ -4,23 +4,11 @@ use native.Mathlib.Omega.{arith}
 use Rattle.ticks.proofs.Ways.{leader_empty, leader_shut, leader_tight, leader_asks, leader_log, leader_done}
 use Rattle.ticks.proofs.leader_releases.Goals as goal
 
-pub leader_waits-requires : goal.leader_waits-requires
-leader_waits-requires c = (c.requires, c.log_length-n.ensures.0, c.due_count-due.ensures)
-
 pub returns-then-run-eq0 : goal.returns-then-run-eq0
 returns-then-run-eq0 c = leader_empty c.requires _ _ _ c.log_length-n.ensures.0 _ _ c.run_length-run.ensures c.if-run-eq0.true c.leader_waits.ensures
 
 pub returns-then-shape-n : goal.returns-then-shape-n
 returns-then-shape-n c = leader_shut c.requires _ _ _ c.log_length-n.ensures.0 _ c.run_length-run.ensures c.if-run-eq0.false c.if-shape-n.true
-
-pub replies_length-requires : goal.replies_length-requires
-replies_length-requires c = (c.requires.midway.fits.few, omega (arith, c.fitting-k.ensures, c.requires.midway.fits.small))
-
-pub overflow_add-n : goal.overflow_add-n
-overflow_add-n c = omega (arith, c.fitting-k.ensures, c.requires.midway.fits.small, c.log_length-n.ensures.1)
-
-pub length_for-requires : goal.length_for-requires
-length_for-requires c = (c.requires.midway.fits.few, omega (arith, c.fitting-k.ensures, c.requires.midway.fits.small, c.log_length-n.ensures.1))
 
 pub overflow_add-replies_length : goal.overflow_add-replies_length
 overflow_add-replies_length c = omega (arith, c.replies_length.ensures.1, c.length_for.ensures, log_long c.args.shape.s (c.log_length-n.result + c.fitting-k.result), c.fitting-k.ensures, c.requires.midway.fits.small, c.requires.midway.fits.few, c.log_length-n.ensures.1)
@@ -33,12 +21,6 @@ release-at-requires c = leader_asks c.requires c.args.out.now _ _ c.log_length-n
 
 pub tell_log-end-requires : goal.tell_log-end-requires
 tell_log-end-requires c = leader_log c.requires _ _ _ c.log_length-n.ensures.0 _ _ _ _ c.run_length-run.ensures c.if-run-eq0.false c.if-shape-n.false c.fitting-k.ensures c.replies_length.ensures.0 c.length_for.ensures c.if-out-replies_length.false _ c.release-at.ensures
-
-pub overflow_add-n-2 : goal.overflow_add-n-2
-overflow_add-n-2 c = omega (arith, c.fitting-k.ensures, c.requires.midway.fits.small, c.log_length-n.ensures.1)
-
-pub settle-requires : goal.settle-requires
-settle-requires c = c.release-at.ensures.reached.releasing
 
 pub returns : goal.returns
 returns c = leader_done c.requires _ _ _ c.log_length-n.ensures.0 _ _ _ _ c.run_length-run.ensures c.if-run-eq0.false c.if-shape-n.false c.fitting-k.ensures c.replies_length.ensures.0 c.length_for.ensures c.if-out-replies_length.false _ c.release-at.ensures _ _ _ c.tell_log-end.ensures c.settle.ensures

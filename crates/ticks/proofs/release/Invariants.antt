@@ -1,4 +1,3 @@
-use Prim.Native.Nat.{◌≤◌, ◌-◌}
 use mathlib.Core.Path.{◌≡◌}
 use mathlib.Core.List.{◌++◌}
 use lib.ListN.{take}
@@ -9,7 +8,4 @@ use Rattle.ticks.proofs.Turns.{Appended}
 use Rattle.ticks.proofs.release.Given as goal
 
 abbrev pub invariant-loop-i : goal.invariant-loop-i
-invariant-loop-i l = (l.i ≤ l.k) × Appended l.shape l.initial.state l.initial.out l.time l.i l.at l.state l.out × (l.sum ≡ digest ((state_of l.shape l.initial.state).logged.log ++ take l.i (due_of l.time (state_of l.shape l.initial.state).waiting.early)))
-
-abbrev pub decreases-loop-i : goal.decreases-loop-i
-decreases-loop-i l = l.k - l.i
+invariant-loop-i l = Appended l.shape l.initial.state l.initial.out l.time l.i l.at l.state l.out × (l.sum ≡ digest ((state_of l.shape l.initial.state).logged.log ++ take l.i (due_of l.time (state_of l.shape l.initial.state).waiting.early)))

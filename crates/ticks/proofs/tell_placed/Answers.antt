@@ -1,11 +1,7 @@
 use Prim.Native.Nat.{◌+◌}
 use mathlib.Core.Path.{refl}
-use native.Mathlib.Omega.{arith}
 use Rattle.ticks.proofs.Telling.{placed_room, placed_told}
 use Rattle.ticks.proofs.tell_placed.Goals as goal
-
-pub log_place-from-requires : goal.log_place-from-requires
-log_place-from-requires c = (c.requires.0.midway.fits, omega (arith, c.requires.1, c.requires.0.midway.holds.log.room))
 
 pub tell-requires : goal.tell-requires
 tell-requires c = placed_room c.requires.0 c.log_place-from.result (c.log_place-from.result + 24) c.args.n c.log_place-from.ensures.0 refl c.requires.1 _ _ c.requires.2

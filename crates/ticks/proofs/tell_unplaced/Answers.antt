@@ -1,11 +1,7 @@
 use Prim.Native.Nat.{◌+◌}
 use mathlib.Core.Path.{refl}
-use native.Mathlib.Omega.{arith}
 use Rattle.ticks.proofs.Telling.{unplaced_room, unplaced_told}
 use Rattle.ticks.proofs.tell_unplaced.Goals as goal
-
-pub early_place-from-requires : goal.early_place-from-requires
-early_place-from-requires c = (c.requires.0.midway.fits, omega (arith, c.requires.0.midway.fits.room))
 
 pub tell-requires : goal.tell-requires
 tell-requires c = unplaced_room c.requires.0 c.early_place-from.result (c.early_place-from.result + 24) 0 c.early_place-from.ensures.0 refl c.requires.1 _ c.requires.2

@@ -6,6 +6,3 @@ use Rattle.verify.proofs.count_asked.Given as goal
 
 abbrev pub invariant-loop-i : goal.invariant-loop-i
 invariant-loop-i l = (l.i ≤ l.n) × (l.asked ≤ l.i) × (l.asked ≡ length (asked_to l.boundary l.asker l.t l.i)) × (l.n ≡ length l.t / 24)
-
-abbrev pub decreases-loop-i : goal.decreases-loop-i
-decreases-loop-i l = l.n - l.i

@@ -6,6 +6,3 @@ use Rattle.verify.proofs.gather.Given as goal
 
 abbrev pub invariant-loop-i : goal.invariant-loop-i
 invariant-loop-i l = (l.n ≡ length l.t / 24) × Gathered l.boundary l.asker l.t l.initial.out l.at l.n l.out l.end l.i
-
-abbrev pub decreases-loop-i : goal.decreases-loop-i
-decreases-loop-i l = l.n - l.i

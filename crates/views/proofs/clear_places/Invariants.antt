@@ -6,6 +6,3 @@ use Rattle.views.proofs.clear_places.Given as goal
 
 abbrev pub invariant-loop-i : goal.invariant-loop-i
 invariant-loop-i l = (l.i ≤ l.n) × (length l.state ≡ length l.initial.state) × (l.state ≡ splice l.initial.state l.at (replicate (l.size * l.i) 0))
-
-abbrev pub decreases-loop-i : goal.decreases-loop-i
-decreases-loop-i l = l.n - l.i

@@ -6,6 +6,3 @@ use Rattle.writer.proofs.put_numbers.Given as goal
 
 abbrev pub invariant-loop-i : goal.invariant-loop-i
 invariant-loop-i l = (l.i ≤ length l.numbers) × (length l.out ≡ length l.initial.out) × (l.out ≡ splice l.initial.out l.at (flat (le 8) (take l.i l.numbers)))
-
-abbrev pub decreases-loop-i : goal.decreases-loop-i
-decreases-loop-i l = length l.numbers - l.i

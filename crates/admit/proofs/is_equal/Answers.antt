@@ -1,5 +1,0 @@
-use Rattle.admit.proofs.Ways.{equal_is}
-use Rattle.admit.proofs.is_equal.Goals as goal
-
-pub returns : goal.returns
-returns c = search equal_is

@@ -1,5 +1,0 @@
-use Rattle.admit.proofs.Ways.{roles_are}
-use Rattle.admit.proofs.role_right.Goals as goal
-
-pub returns : goal.returns
-returns c = search roles_are

@@ -1,5 +1,0 @@
-use Rattle.places.proofs.Spots.{read_at}
-use Rattle.places.proofs.heard_point.Goals as goal
-
-pub returns : goal.returns
-returns c = read_at _ _ _ _ _ _ c.get64.ensures c.heard_place.ensures.at
