@@ -32,6 +32,7 @@ fn conclude(
 }
 
 // With a table of ROOM bytes: each size has a frame of its own.
+#[inline(never)]
 fn conclude_in<const ROOM: usize>(
     shape: Shape,
     state: &mut [u8],

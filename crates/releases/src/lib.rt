@@ -162,6 +162,7 @@ fn leave_by(shape: Shape, state: &mut [u8], n: usize, k: usize, gone: &mut [u8],
 }
 
 // The same, by a copy of at most as many bytes.
+#[inline(never)]
 fn leave_within<const BYTES: usize>(
     shape: Shape,
     state: &mut [u8],

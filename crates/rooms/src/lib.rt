@@ -37,7 +37,9 @@ fn has_length(shape: Shape, state: &[u8]) -> bool
     state.len() as u64 == fresh::state_length(shape.n, shape.s, shape.c)
 }
 
-// With room for as many slots: a frame for each number.
+// With room for as many slots. Never inlined, as the others that take room: each number has a frame of its own, and a small group does not pay for a
+// large one's.
+#[inline(never)]
 fn good_with<const SLOTS: usize>(shape: Shape, state: &[u8]) -> bool
     requires { SLOTS ≤ 33032 }
     ensures { Judges shape state.now result }
@@ -65,6 +67,7 @@ pub fn good(shape: Shape, state: &[u8]) -> bool
 // ---- an older state put in order
 
 // With room for as many slots.
+#[inline(never)]
 fn orderable_with<const SLOTS: usize>(shape: Shape, state: &[u8]) -> bool
     requires { SLOTS ≤ 33032 }
     ensures { check.Orders shape state.now result }
@@ -107,6 +110,7 @@ pub fn order(shape: Shape, state: &mut [u8]) -> Answer
 // ---- a message read
 
 // With room for as many slots.
+#[inline(never)]
 fn read_with<const SLOTS: usize>(n: u64, s: u64, message: &[u8]) -> Message
     requires { SLOTS ≤ 33032 }
     ensures { Reads n s message.now result }
@@ -131,6 +135,7 @@ pub fn read(n: u64, s: u64, message: &[u8]) -> Message
 // ---- a message written
 
 // With room for as many slots.
+#[inline(never)]
 fn write_with<const SLOTS: usize>(
     n: u64,
     s: u64,
@@ -188,6 +193,7 @@ fn answer(
 }
 
 // With room for as many slots.
+#[inline(never)]
 fn step_with<const SLOTS: usize>(
     shape: Shape,
     state: &mut [u8],
