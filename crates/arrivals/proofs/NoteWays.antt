@@ -48,6 +48,10 @@ room_is sh e j t xs l =
 pub room_below : (a c : ℕ) (p : Bool) → p ≡ ltb a c → not p ≡ false → a < c
 room_below a c p g k = ltb-true a c (sym g ∙ not-false p k)
 
+-- whether a transaction stands in a log, by the one that is read
+pub in_log : (xs log : List Entry) (x : Entry) (t : Bool) → xs ≡ log → t ≡ among xs x → t ≡ among log x
+in_log xs log x t q a = rw q at a
+
 -- ---- the rule, by its tests
 
 module _ (sh : Shape) (st : State) (w : Wire) (x : Entry) (j : ℕ) (q : x ≡ first_entry w) (f : w.from_group ≡ j) where

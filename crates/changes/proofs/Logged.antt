@@ -15,11 +15,9 @@ use Rattle.rules.specs.Group.{only, others, leader}
 use Rattle.rules.specs.Wire.{entry_bytes, wire_bytes}
 use Rattle.rules.specs.Read.{length_for}
 use Rattle.rules.specs.State.{State}
-use Rattle.rules.specs.Image.{zero_bytes, table_bytes, state_of, at_gvec, at_log}
+use Rattle.rules.specs.Image.{zero_bytes, table_bytes, state_of, at_log}
 use Rattle.rules.specs.Step.{send_leader, send_followers}
-use Rattle.rules.specs.declared.Header.{Header}
 use Rattle.rules.specs.declared.Shape.{Shape}
-use Rattle.rules.specs.declared.Message.TheVariants.{Vote, StartView}
 use Rattle.rules.proofs.Entries.{long_entry}
 use Rattle.rules.proofs.Tables.{flat_long, TableFits}
 use Rattle.places.specs.Layout.{start_of, Fits}
@@ -37,13 +35,6 @@ unfolding part
 log_lent sh b start count end e q h =
     let n : end - start ≡ 24 * count = omega arith in
     rw (n, e, q)
-
--- the cases from what is read
-pub vote_case : (sh : Shape) (b : List ℕ) (own view mask normal sync : ℕ) (h : Header) → own ≡ num b 0 1 → view ≡ num b (start_of sh at_gvec + 4 * own) 4 → mask ≡ only (view % sh.n) → h ≡ headed_in b 8 own mask → normal ≡ num b 12 4 → sync ≡ num b 24 8 → Vote h normal sync ≡ vote_in sh b
-vote_case sh b own view mask normal sync h o v t e n y = rw (e, t, v, o, n, y)
-
-pub start_case : (sh : Shape) (b : List ℕ) (own replica mask : ℕ) (h : Header) → own ≡ num b 0 1 → replica ≡ num b 1 1 → mask ≡ others sh.n replica → h ≡ headed_in b 9 own mask → StartView h ≡ start_in sh b
-start_case sh b own replica mask h o r t e = rw (e, t, r, o)
 
 -- how long the two kinds are
 pub vote_room : (s k : ℕ) → length_for s 8 k ≡ 40 + 4 * s + 24 * k

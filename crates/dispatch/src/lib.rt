@@ -25,13 +25,15 @@ fn conclude(
     requires { Ready shape state.old m message.now × (length table.old ≡ 4 + 24 * shape.c) }
     ensures { left result state.new out.new ≡ concluded shape m state.old message.now out.old }
 {
-    let Message::VerifyReply(_) = m else {
-        return votes::on_vote(shape, state, m, message, out, slots, table);
-    };
-    replies::on_verify_reply(shape, state, m, message, out, slots, table)
+    match m {
+        Message::VerifyReply(_) => {
+            replies::on_verify_reply(shape, state, m, message, out, slots, table)
+        }
+        _ => votes::on_vote(shape, state, m, message, out, slots, table),
+    }
 }
 
-// With a table of ROOM bytes: each size has a frame of its own.
+// With a table of ROOM bytes, never inlined: each size has a frame of its own.
 #[inline(never)]
 fn conclude_in<const ROOM: usize>(
     shape: Shape,

@@ -24,6 +24,7 @@ pub struct Reply {
 }
 
 // Takes e into a table: it replaces a lower entry of its transaction, or stands last where there is none. False where it has no place.
+// A bool here and below, not an Option or a Result: no value stands beside it, one thing alone can fail, and merge's own contract speaks of a bool.
 fn take_in(t: &mut [u8], c: usize, e: Entry, slots: &mut [u16]) -> bool
     requires { Table c t.old × Found (table_at c t.old 0) slots.old }
     ensures { Took c (take_in e (table_at c t.old 0)) result t.new slots.new }

@@ -69,27 +69,30 @@ fn same(b: &[u8], sp: Spots, j: usize, low: u32, high: u64) -> bool
     octets::get16(b, at + 4) as u64 == high
 }
 
-// The place of the first key that repeats an earlier one, by a nested search: the break leaves both loops with it, the form that
-// docs/DECISIONS.md, "Forms", names for it.
+// The place of the first key that repeats an earlier one, by a nested search: the break leaves both loops with it. A loop that
+// yields it, and no for, which yields nothing: the form that docs/DECISIONS.md, "Forms", names.
 #[tactic(auto, using(crate::proofs::Places::spot_in))]
 pub fn nested(b: &[u8], sp: Spots) -> usize
     requires { Inside b.now sp }
     ensures { result ≡ repeat_place (key_of b.now sp) (count_of sp) }
 {
     let m = count(sp);
-    'search: {
-        for i in 0..m {
-            let at = spot(sp, i);
-            let low = octets::get32(b, at);
-            let high = octets::get16(b, at + 4) as u64;
-            for j in 0..i {
-                if same(b, sp, j, low, high) {
-                    break 'search i;
-                }
+    let mut i = 0;
+    let place = 'search: loop {
+        if m <= i {
+            break 'search m;
+        }
+        let at = spot(sp, i);
+        let low = octets::get32(b, at);
+        let high = octets::get16(b, at + 4) as u64;
+        for j in 0..i {
+            if same(b, sp, j, low, high) {
+                break 'search i;
             }
         }
-        m
-    }
+        i += 1;
+    };
+    place
 }
 
 // The row with key x, or how many rows there are, by a search over them.

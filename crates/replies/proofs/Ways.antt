@@ -1,13 +1,13 @@
 -- The ways through the handler of kind 19, and through the merge and the start that the last reply brings. Assumes nothing.
 use Prim.Native.Nat.{ℕ, ◌+◌, ◌-◌, ◌*◌, ◌≤◌, ◌<◌}
 use mathlib.Core.Path.{◌≡◌, refl, sym, ap, ◌∙◌}
-use mathlib.Core.Bool.{Bool, true, false, not, true≢false}
+use mathlib.Core.Bool.{Bool, true, false, true≢false}
 use mathlib.Core.Option.{Option, none, some}
 use mathlib.Core.List.{List, []}
 use native.Mathlib.Omega.{arith}
 use lib.ListN.{length, get_or, set}
 use lib.Dec.{eqb, leb}
-use borrow.Author.Tests.{eqb-true, lt-ltb, le-ltb, le-leb, lt-leb, not-true, not-false}
+use borrow.Author.Tests.{eqb-true, lt-ltb, le-ltb, le-leb, lt-leb}
 use Rattle.octets.specs.Bytes.{num, splice, items}
 use Rattle.octets.proofs.Codecs.{length_items}
 use Rattle.rules.specs.Choice.{pick, count, is_some, any}
@@ -46,13 +46,13 @@ use Rattle.replies.proofs.Kept.{held_more, held_counted}
 
 module _ (sh : Shape) (b out g_vec : List ℕ) (es : List Entry) (r : Bool) (x : List ℕ) (k : Taken sh.c es r x) where
   -- it is too long
-  pub merged_past : not r ≡ true → leaves 8 b out ≡ closes sh b out (starts_with sh b g_vec es)
-  merged_past f = sym (ap (closes sh b out) (pick_false (leb (length es) sh.c) _ _ (lt-leb (length es) sh.c (k.full (not-true r f)))) ∙ closes_refused sh b out 8)
+  pub merged_past : r ≡ false → leaves 8 b out ≡ closes sh b out (starts_with sh b g_vec es)
+  merged_past f = sym (ap (closes sh b out) (pick_false (leb (length es) sh.c) _ _ (lt-leb (length es) sh.c (k.full f))) ∙ closes_refused sh b out 8)
 
   -- or it stands in the table
-  module _ (f : not r ≡ false) where
+  module _ (f : r ≡ true) where
     stands_there : Holds sh.c es x
-    stands_there = k.held (not-false r f)
+    stands_there = k.held f
 
     pub merged_table : Table sh.c x
     merged_table = is_table sh.c es x stands_there

@@ -218,16 +218,10 @@ pub fn step(shape: Shape, state: &mut [u8], message: &[u8], out: &mut [u8]) -> A
     if !has_length(shape, state) {
         return Err(Refusal::WrongState);
     }
-    if 256 < shape.c {
+    if (256 < shape.c) | (MIDDLE_MESSAGE < message.len()) {
         return step_with::<MANY>(shape, state, message, out);
     }
-    if MIDDLE_MESSAGE < message.len() {
-        return step_with::<MANY>(shape, state, message, out);
-    }
-    if 16 < shape.c {
-        return step_with::<MORE>(shape, state, message, out);
-    }
-    if SHORT_MESSAGE < message.len() {
+    if (16 < shape.c) | (SHORT_MESSAGE < message.len()) {
         return step_with::<MORE>(shape, state, message, out);
     }
     step_with::<FEW>(shape, state, message, out)

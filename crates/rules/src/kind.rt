@@ -1,4 +1,4 @@
-// The kinds of messages.
+// The kinds of messages, by their bytes: numbers, and no enum, since a header may hold any byte, and what `kinds` promises it promises of each.
 pub const TRANSACTION: u8 = 1;
 
 pub const TIMESTAMP_NOTE: u8 = 3;

@@ -140,9 +140,6 @@ gathered_none boundary j t out at n =
     }
 
 module _ (boundary j : ℕ) (t out₀ : List ℕ) (at n : ℕ) (out : List ℕ) (end i : ℕ) (g : Gathered boundary j t out₀ at n out end i) where
-  pub gathered_all : n ≤ i → out ≡ splice out₀ at (flat entry_bytes (asked_to boundary j t n))
-  gathered_all h = let e : i ≡ n = omega (arith, g.within) in rw e at g.bytes
-
   module _ (l : i < n) where
     pub gathered_skip : is_asked boundary j (entry_at t (24 * i)) ≡ false → Gathered boundary j t out₀ at n out end (i + 1)
     gathered_skip h = record { within = omega arith; size = g.size; ends = rw (asked_same boundary j t i h) g.ends; bytes = rw (asked_same boundary j t i h) g.bytes }

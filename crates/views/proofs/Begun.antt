@@ -1,5 +1,5 @@
 -- A view started: what is written, as one state. Assumes nothing.
-use Prim.Native.Nat.{ℕ, ◌+◌, ◌-◌, ◌*◌, ◌^◌, ◌≤◌, ◌<◌, min}
+use Prim.Native.Nat.{ℕ, ◌+◌, ◌*◌, ◌^◌, ◌≤◌, ◌<◌, min}
 use mathlib.Core.Path.{◌≡◌, refl, sym, ap, ◌∙◌}
 use mathlib.Core.List.{List}
 use native.Mathlib.Omega.{arith}
@@ -53,10 +53,6 @@ module _ {sh : Shape} {st : State} {b : List ℕ} (s : Stands sh st b) (view : �
     (w₁ : b₁ ≡ splice b (start_of sh at_early) (replicate (tables_length sh) 0)) (w₂ : b₂ ≡ taken_in sh b₁ view msg) (w₃ : b₃ ≡ begun_in b₂ view len) where
   head_laid : Laid sh (numbered (in_view view (views_of sh msg) st.view.normal st.view.status (emptied sh st)) view (views_of sh msg) len st.logged.log) b₃
   head_laid = head_begun (view_taken (empty_laid (stands_laid s) w₁) view msg bs h w₂) view len (stands_fits s).commit w₃
-
-  -- there is room for the points heard
-  pub heard_room : (heard log : ℕ) → heard ≡ start_of sh at_heard → log ≡ start_of sh at_log → heard + (log - heard) ≤ length b₃
-  heard_room heard log e f = omega (arith, head_laid.size)
 
   module _ {b₄ : List ℕ} (w₄ : b₄ ≡ splice b₃ (start_of sh at_heard) (replicate (9 * sh.n) 0)) where
     -- before the log is written

@@ -168,11 +168,6 @@ places_turn at n i k m b b₁ b₂ l h q w₁ w₂ =
     let e : k * (i + 1) ≡ k * i + m = omega arith in
     zeros_next b b₁ b₂ at (k * i) (at + k * i) m (k * (i + 1)) w₁ w₂ refl e (omega (arith, within k i n h))
 
-pub places_done : (at n i k : ℕ) (b b₁ : List ℕ) → i ≤ n → n ≤ i → b₁ ≡ splice b at (zero_bytes (k * i)) → b₁ ≡ splice b at (zero_bytes (k * n))
-places_done at n i k b b₁ h l w =
-    let e : i ≡ n = omega arith in
-    w ∙ ap (λ (j : ℕ). splice b at (zero_bytes (k * j))) e
-
 kept_none : (head c at : ℕ) (b : List ℕ) → at + (head + table_length c) ≤ length b → c ≤ 4096 → part b at (head + table_length c) ≡ zero_bytes (head + table_length c) → Kept head c b at
 kept_none head c at b l s e =
     let lh : length (zero_bytes head) ≡ head = length-replicate {A = ℕ} head 0 in

@@ -1,12 +1,11 @@
 -- The state in the view of a vote: entered, or as it stands; with the vote kept, and with a draft. Assumes nothing.
 use Prim.Native.Nat.{ℕ, zero, suc, ◌+◌, ◌*◌, ◌^◌, ◌≤◌, ◌<◌}
 use mathlib.Core.Path.{◌≡◌, refl, sym, ap, subst, ◌∙◌}
-use mathlib.Core.Bool.{Bool, true, false, not}
+use mathlib.Core.Bool.{Bool, true, false}
 use mathlib.Core.Option.{Option, none, some}
 use mathlib.Core.List.{List, [], ◌∷◌}
 use native.Mathlib.Omega.{arith}
 use lib.ListN.{length, set, replicate, length-set, length-replicate}
-use borrow.Author.Tests.{not-true, not-false}
 use Rattle.octets.specs.Bytes.{le, num, part, splice, items}
 use Rattle.octets.proofs.Laws.{Bytes}
 use Rattle.octets.proofs.Codecs.{All, length_items}
@@ -158,13 +157,13 @@ module _ (sh : Shape) (b msg : List ℕ) (view : ℕ) (k : Cast) (g : Brought sh
 -- ---- the view
 
 module _ (sh : Shape) (b msg : List ℕ) (view : ℕ) (entering : Bool) where
-  pub stays : Stands sh (state_of sh b) b → not entering ≡ true → b ≡ image sh (came_to sh b msg view entering)
+  pub stays : Stands sh (state_of sh b) b → entering ≡ false → b ≡ image sh (came_to sh b msg view entering)
   unfolding came_to
-  stays s e = s.bytes ∙ ap (image sh) (sym (pick_false entering _ (state_of sh b) (not-true entering e)))
+  stays s e = s.bytes ∙ ap (image sh) (sym (pick_false entering _ (state_of sh b) e))
 
-  pub enters : {b' : List ℕ} → not entering ≡ false → b' ≡ image sh (entered_by sh (state_of sh b) view (views_of sh msg) true) → b' ≡ image sh (came_to sh b msg view entering)
+  pub enters : {b' : List ℕ} → entering ≡ true → b' ≡ image sh (entered_by sh (state_of sh b) view (views_of sh msg) true) → b' ≡ image sh (came_to sh b msg view entering)
   unfolding came_to
-  enters e w = w ∙ ap (image sh) (sym (pick_true entering _ (state_of sh b) (not-false entering e)))
+  enters e w = w ∙ ap (image sh) (sym (pick_true entering _ (state_of sh b) e))
 
 -- ---- the draft
 

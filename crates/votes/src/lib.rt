@@ -49,10 +49,9 @@ fn come_to(shape: Shape, state: &mut [u8], view: u32, message: &[u8], entering: 
     requires { Stands shape (state_of shape state.old) state.old × (16 + 4 * shape.s ≤ length message.now) }
     ensures { state.new ≡ image shape (came_to shape state.old message.now view entering) }
 {
-    if !entering {
-        return;
+    if entering {
+        changes::enter(shape, state, view, true, message);
     }
-    changes::enter(shape, state, view, true, message);
 }
 
 // Keeps the vote under its sender's number, in its view.

@@ -1,16 +1,18 @@
-use borrow.Enum.Refused.{opened}
 use mathlib.Core.Path.{refl, ◌∙◌}
 use native.Mathlib.Omega.{arith}
+use Rattle.rules.specs.Choice.{any, pick}
+use Rattle.rules.specs.Wire.{case_at}
 use Rattle.rules.specs.Kind.{row_of}
 use Rattle.rules.specs.Step.{on_transaction}
 use Rattle.handler.proofs.Closes.{handled_other}
-use Rattle.handler.proofs.OtherKind.{not_tag}
+use Rattle.handler.proofs.OtherKind.{other_case}
 use Rattle.places.proofs.Sections.{stands_midway}
 use Rattle.arrivals.proofs.TransactionWays.{due_low, known_way, not_early, ours, leader_way, late_way, follower_way}
 use Rattle.arrivals.proofs.on_transaction.Goals as goal
 
 pub returns-in_default : goal.returns-in_default
-returns-in_default c = handled_other 1 on_transaction _ _ _ _ _ (not_tag 1 c.args.m refl (opened c.in_default.in_default-own.keys2) tt)
+unfolding any pick case_at
+returns-in_default c = handled_other 1 on_transaction _ _ _ _ _ (other_case 1 c.args.m refl (c.in_default.not-Transaction _ _ _))
 
 pub first_entry-entry-requires : goal.first_entry-entry-requires
 unfolding row_of

@@ -1,15 +1,17 @@
-use borrow.Enum.Refused.{opened}
 use mathlib.Core.Path.{refl}
 use Rattle.octets.proofs.Laws.{bytes_known}
+use Rattle.rules.specs.Choice.{any, pick}
+use Rattle.rules.specs.Wire.{case_at}
 use Rattle.rules.specs.Step.{on_change_view}
 use Rattle.handler.proofs.Closes.{handled_other}
-use Rattle.handler.proofs.OtherKind.{not_tag}
+use Rattle.handler.proofs.OtherKind.{other_case}
 use Rattle.changes.proofs.ChangeWays.{change_room, change_leads, change_short, change_tells, change_sent}
 use borrow.Author.Rules.{rules}
 use Rattle.changes.proofs.on_change_view.Goals as goal
 
 pub returns-in_default : goal.returns-in_default
-returns-in_default c = handled_other 7 on_change_view _ _ _ _ _ (not_tag 7 c.args.m refl (opened c.in_default.in_default-own.keys2) tt)
+unfolding any pick case_at
+returns-in_default c = handled_other 7 on_change_view _ _ _ _ _ (other_case 7 c.args.m refl (c.in_default.not-ChangeView _))
 
 pub leads_by-requires : goal.leads_by-requires
 leads_by-requires c = (c.requires.stands, change_room _ _ _ c.args.out.now _ _ c.requires c.in-ChangeView.is)

@@ -1,13 +1,15 @@
-use borrow.Enum.Refused.{opened}
 use mathlib.Core.Path.{refl}
+use Rattle.rules.specs.Choice.{any, pick}
+use Rattle.rules.specs.Wire.{case_at}
 use Rattle.rules.specs.Step.{on_start_view}
 use Rattle.handler.proofs.Closes.{handled_other}
-use Rattle.handler.proofs.OtherKind.{not_tag}
+use Rattle.handler.proofs.OtherKind.{other_case}
 use Rattle.changes.proofs.StartWays.{start_views, start_counted, start_stands, start_past, start_done}
 use Rattle.changes.proofs.on_start_view.Goals as goal
 
 pub returns-in_default : goal.returns-in_default
-returns-in_default c = handled_other 9 on_start_view _ _ _ _ _ (not_tag 9 c.args.m refl (opened c.in_default.in_default-own.keys2) tt)
+unfolding any pick case_at
+returns-in_default c = handled_other 9 on_start_view _ _ _ _ _ (other_case 9 c.args.m refl (c.in_default.not-StartView _))
 
 pub get32-number-requires : goal.get32-number-requires
 get32-number-requires c = start_counted _ _ _ c.args.out.now _ _ c.requires c.in-StartView.is _ c.entries_at-at.ensures.0

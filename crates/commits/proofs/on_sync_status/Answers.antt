@@ -1,15 +1,17 @@
-use borrow.Enum.Refused.{opened}
 use mathlib.Core.Path.{refl}
 use native.Mathlib.Omega.{arith}
+use Rattle.rules.specs.Choice.{any, pick}
+use Rattle.rules.specs.Wire.{case_at}
 use Rattle.rules.specs.Step.{on_sync_status}
 use Rattle.handler.proofs.Closes.{handled_other}
-use Rattle.handler.proofs.OtherKind.{not_tag}
+use Rattle.handler.proofs.OtherKind.{other_case}
 use Rattle.commits.proofs.StatusWays.{from_below, not_news, past_log, no_room, kept}
 use borrow.Author.Rules.{rules}
 use Rattle.commits.proofs.on_sync_status.Goals as goal
 
 pub returns-in_default : goal.returns-in_default
-returns-in_default c = handled_other 10 on_sync_status _ _ _ _ _ (not_tag 10 c.args.m refl (opened c.in_default.in_default-own.keys2) tt)
+unfolding any pick case_at
+returns-in_default c = handled_other 10 on_sync_status _ _ _ _ _ (other_case 10 c.args.m refl (c.in_default.not-SyncStatus _ _))
 
 pub is_stale-requires : goal.is_stale-requires
 is_stale-requires c = (search rules, from_below _ _ _ c.args.out.now _ _ _ c.requires c.in-SyncStatus.is)

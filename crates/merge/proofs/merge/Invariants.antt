@@ -1,4 +1,3 @@
-use Prim.Native.Nat.{◌≤◌, ◌-◌}
 use mathlib.Core.Path.{◌≡◌}
 use lib.ListN.{length}
 use Rattle.rules.specs.Image.{state_of}
@@ -9,4 +8,4 @@ use Rattle.merge.proofs.Turns.{merged_to}
 use Rattle.merge.proofs.merge.Given as goal
 
 abbrev pub invariant-loop-j : goal.invariant-loop-j
-invariant-loop-j l = (l.j ≤ l.shape.s) × Holds l.shape.c (merged_to (state_of l.shape l.state).change.draft (replies_with l.shape l.state l.message l.reply) l.j) l.scratch × Found (merged_to (state_of l.shape l.state).change.draft (replies_with l.shape l.state l.message l.reply) l.j) l.slots × (length l.slots ≡ length l.initial.slots)
+invariant-loop-j l = Holds l.shape.c (merged_to (state_of l.shape l.state).change.draft (replies_with l.shape l.state l.message l.reply) l.j) l.scratch × Found (merged_to (state_of l.shape l.state).change.draft (replies_with l.shape l.state l.message l.reply) l.j) l.slots × (length l.slots ≡ length l.initial.slots)

@@ -1,4 +1,3 @@
-use native.Mathlib.Omega.{arith}
 use Rattle.merge.proofs.Taking.{stays, replaces, no_place}
 use Rattle.merge.proofs.Rows.{find_asked, took_row, row_asked, took_new, took_full}
 use Rattle.merge.proofs.take_in.Goals as goal
@@ -8,9 +7,6 @@ find_row-i-requires c = find_asked _ _ _ _ c.requires.0 c.count-n.ensures c.requ
 
 pub returns-then-e-entry_of : goal.returns-then-e-entry_of
 returns-then-e-entry_of c = took_row _ _ _ _ _ c.requires.0 c.count-n.ensures c.find_row-i.ensures _ c.requires.1 _ c.if-i-n.true (stays _ _ _ _ _ c.requires.0 c.count-n.ensures c.find_row-i.ensures _ c.entry_of.ensures c.if-i-n.true c.if-e-entry_of.true)
-
-pub replace_at-requires : goal.replace_at-requires
-replace_at-requires c = (c.requires.0, omega arith)
 
 pub returns-then-i-n : goal.returns-then-i-n
 returns-then-i-n c = took_row _ _ _ _ _ c.requires.0 c.count-n.ensures c.find_row-i.ensures _ c.requires.1 _ c.if-i-n.true (replaces _ _ _ _ _ c.requires.0 c.count-n.ensures c.find_row-i.ensures _ _ c.entry_of.ensures c.if-i-n.true c.if-e-entry_of.false c.replace_at.ensures)

@@ -5,38 +5,23 @@ use Rattle.repeats.specs.Rows.{count_of, key_of}
 use Rattle.repeats.specs.Repeat.{seen_key, repeat_place}
 use Rattle.repeats.proofs.Places.{key_parts}
 use Rattle.repeats.proofs.Laws.{seen_start, seen_more, seen_hit, repeat_start, repeat_next, repeat_here}
+use borrow.Author.Rules.{rules}
 use Rattle.repeats.proofs.nested.Goals as goal
 
-pub loop-i-init : goal.loop-i-init
-loop-i-init c = repeat_start (key_of c.args.b.now c.args.sp)
+pub search-init : goal.search-init
+search-init c = (search rules, repeat_start (key_of c.args.b.now c.args.sp))
 
 pub loop-j-init : goal.loop-j-init
-loop-j-init c = record {
-  parts = key_parts c.args.b.now c.args.sp c.loop-i.i c.spot-at.result c.get32-low.result c.get16-high.result c.spot-at.ensures c.get32-low.ensures c.get16-high.ensures;
-  fresh = seen_start (key_of c.args.b.now c.args.sp) (key_of c.args.b.now c.args.sp c.loop-i.i);
-}
+loop-j-init c = (search rules, search rules, key_parts c.args.b.now c.args.sp c.search.i c.spot-at.result c.get32-low.result c.get16-high.result c.spot-at.ensures c.get32-low.ensures c.get16-high.ensures, seen_start (key_of c.args.b.now c.args.sp) (key_of c.args.b.now c.args.sp c.search.i))
 
 pub loop-j-preserved : goal.loop-j-preserved
-loop-j-preserved c = record {
-  parts = c.loop-j.invariant.parts;
-  fresh = seen_more (key_of c.args.b.now c.args.sp) (key_of c.args.b.now c.args.sp c.loop-i.i) c.loop-j.j c.loop-j.invariant.fresh
-      (λ e. eqb-false _ _ (sym c.same.ensures ∙ c.if-same.false) (e ∙ sym c.loop-j.invariant.parts));
-}
+loop-j-preserved c = (search rules, search rules, c.loop-j.invariant.2, seen_more (key_of c.args.b.now c.args.sp) (key_of c.args.b.now c.args.sp c.search.i) c.loop-j.j c.loop-j.invariant.3 (λ e. eqb-false _ _ (sym c.same.ensures ∙ c.if-same.false) (e ∙ sym c.loop-j.invariant.2)))
 
-pub loop-i-preserved : goal.loop-i-preserved
-loop-i-preserved c =
-    let e : c.loop-i.i ≡ c.loop-j.j = omega arith in
-    repeat_next (key_of c.args.b.now c.args.sp) c.loop-i.i c.loop-i.invariant
-    (ap (seen_key (key_of c.args.b.now c.args.sp) (key_of c.args.b.now c.args.sp c.loop-i.i)) e ∙ c.loop-j.invariant.fresh)
+pub search-preserved : goal.search-preserved
+search-preserved c = let e : c.search.i ≡ c.loop-j.j = omega arith in (search rules, repeat_next (key_of c.args.b.now c.args.sp) c.search.i c.search.invariant.1 (ap (seen_key (key_of c.args.b.now c.args.sp) (key_of c.args.b.now c.args.sp c.search.i)) e ∙ c.loop-j.invariant.3))
+
+pub returns-then-m-i : goal.returns-then-m-i
+returns-then-m-i c = let e : c.search.i ≡ c.count-m.result = omega arith in let f : c.search.i ≡ count_of c.args.sp = omega arith in sym e ∙ sym c.search.invariant.1 ∙ ap (repeat_place (key_of c.args.b.now c.args.sp)) f
 
 pub returns-then-same : goal.returns-then-same
-returns-then-same c =
-    sym (repeat_here (key_of c.args.b.now c.args.sp) (count_of c.args.sp) c.loop-i.i (omega arith) c.loop-i.invariant
-    (seen_hit (key_of c.args.b.now c.args.sp) (key_of c.args.b.now c.args.sp c.loop-i.i) c.loop-j.j c.loop-i.i (omega arith)
-    (eqb-true _ _ (sym c.same.ensures ∙ c.if-same.true) ∙ c.loop-j.invariant.parts)))
-
-pub returns-after-loop-i : goal.returns-after-loop-i
-returns-after-loop-i c =
-    let e : c.loop-i.i ≡ c.count-m.result = omega arith in
-    let f : c.loop-i.i ≡ count_of c.args.sp = omega arith in
-    sym e ∙ sym c.loop-i.invariant ∙ ap (repeat_place (key_of c.args.b.now c.args.sp)) f
+returns-then-same c = sym (repeat_here (key_of c.args.b.now c.args.sp) (count_of c.args.sp) c.search.i (omega arith) c.search.invariant.1 (seen_hit (key_of c.args.b.now c.args.sp) (key_of c.args.b.now c.args.sp c.search.i) c.loop-j.j c.search.i (omega arith) (eqb-true _ _ (sym c.same.ensures ∙ c.if-same.true) ∙ c.loop-j.invariant.2)))

@@ -1,9 +1,10 @@
-use borrow.Enum.Refused.{opened}
 use mathlib.Core.Path.{refl}
 use native.Mathlib.Omega.{arith}
+use Rattle.rules.specs.Choice.{any, pick}
+use Rattle.rules.specs.Wire.{case_at}
 use Rattle.rules.specs.Step.{on_verify_reply}
 use Rattle.handler.proofs.Closes.{handled_other}
-use Rattle.handler.proofs.OtherKind.{not_tag}
+use Rattle.handler.proofs.OtherKind.{other_case}
 use Rattle.places.proofs.Sections.{stands_midway}
 use Rattle.views.proofs.Cleared.{replies_stand}
 use Rattle.replies.proofs.Kept.{counted_few}
@@ -11,7 +12,8 @@ use Rattle.replies.proofs.Ways.{from_below, reply_views, replied, reply_counted,
 use Rattle.replies.proofs.on_verify_reply.Goals as goal
 
 pub returns-in_default : goal.returns-in_default
-returns-in_default c = handled_other 19 on_verify_reply _ _ _ _ _ (not_tag 19 c.args.m refl (opened c.in_default.in_default-own.keys2) tt)
+unfolding any pick case_at
+returns-in_default c = handled_other 19 on_verify_reply _ _ _ _ _ (other_case 19 c.args.m refl (c.in_default.not-VerifyReply _))
 
 pub reply_flag-requires : goal.reply_flag-requires
 reply_flag-requires c = (record { fits = c.requires.0.stands.fits; size = c.requires.0.stands.size }, from_below _ _ _ c.args.out.now _ _ c.requires.0 c.in-VerifyReply.is)
@@ -27,9 +29,6 @@ returns-then-shape-number c = reply_past _ _ _ _ _ _ c.requires.0 c.in-VerifyRep
 
 pub overflow_add-held_replies : goal.overflow_add-held_replies
 overflow_add-held_replies c = let k = counted_few _ _ _ c.held_replies.ensures in omega (arith, c.requires.0.stands.fits.few)
-
-pub overflow_sub-shape : goal.overflow_sub-shape
-overflow_sub-shape c = omega (arith, c.requires.0.stands.fits.groups)
 
 pub keep_reply-requires : goal.keep_reply-requires
 keep_reply-requires c = let l = from_below _ _ _ c.args.out.now _ _ c.requires.0 c.in-VerifyReply.is in (record { fits = c.requires.0.stands.fits; size = c.requires.0.stands.size }, l, replies_stand (stands_midway c.requires.0.stands) _ l, c.if-shape-number.false, reply_stands _ _ _ c.args.out.now _ _ c.requires.0 c.in-VerifyReply.is _ c.entries_at-at.ensures.0 _ c.get32-number.ensures)

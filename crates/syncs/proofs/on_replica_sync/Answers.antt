@@ -1,13 +1,15 @@
-use borrow.Enum.Refused.{opened}
 use mathlib.Core.Path.{refl}
+use Rattle.rules.specs.Choice.{any, pick}
+use Rattle.rules.specs.Wire.{case_at}
 use Rattle.rules.specs.Step.{on_replica_sync}
 use Rattle.handler.proofs.Closes.{handled_other}
-use Rattle.handler.proofs.OtherKind.{not_tag}
+use Rattle.handler.proofs.OtherKind.{other_case}
 use Rattle.syncs.proofs.Ways.{place_inside, not_longer, too_long, coming, list_asked, handled_so}
 use Rattle.syncs.proofs.on_replica_sync.Goals as goal
 
 pub returns-in_default : goal.returns-in_default
-returns-in_default c = handled_other 4 on_replica_sync _ _ _ _ _ (not_tag 4 c.args.m refl (opened c.in_default.in_default-own.keys2) tt)
+unfolding any pick case_at
+returns-in_default c = handled_other 4 on_replica_sync _ _ _ _ _ (other_case 4 c.args.m refl (c.in_default.not-ReplicaSync _))
 
 pub get32-count-requires : goal.get32-count-requires
 get32-count-requires c = place_inside _ _ _ c.args.out.now _ _ c.requires c.in-ReplicaSync.is _ c.entries_at-place.ensures.0

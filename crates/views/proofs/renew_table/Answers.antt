@@ -3,21 +3,6 @@ use native.Mathlib.Omega.{arith}
 use Rattle.views.proofs.Cleared.{rows_within, renewed, renewed_shorter}
 use Rattle.views.proofs.renew_table.Goals as goal
 
-pub overflow_mul-number : goal.overflow_mul-number
-overflow_mul-number c = omega (arith, rows_within 24 c.args.shape.c c.args.to c.get32-old.result c.args.state.now c.requires.0 c.requires.1 c.get32-old.ensures)
-
-pub overflow_add-number : goal.overflow_add-number
-overflow_add-number c = omega (arith, rows_within 24 c.args.shape.c c.args.to c.get32-old.result c.args.state.now c.requires.0 c.requires.1 c.get32-old.ensures)
-
-pub overflow_add-to-then-number-old : goal.overflow_add-to-then-number-old
-overflow_add-to-then-number-old c = omega (arith, rows_within 24 c.args.shape.c c.args.to c.get32-old.result c.args.state.now c.requires.0 c.requires.1 c.get32-old.ensures)
-
-pub overflow_sub-old : goal.overflow_sub-old
-overflow_sub-old c = omega (arith, rows_within 24 c.args.shape.c c.args.to c.get32-old.result c.args.state.now c.requires.0 c.requires.1 c.get32-old.ensures)
-
-pub overflow_mul-old : goal.overflow_mul-old
-overflow_mul-old c = omega (arith, rows_within 24 c.args.shape.c c.args.to c.get32-old.result c.args.state.now c.requires.0 c.requires.1 c.get32-old.ensures)
-
 pub fill_zero-requires : goal.fill_zero-requires
 fill_zero-requires c = omega (arith, rows_within 24 c.args.shape.c c.args.to c.get32-old.result c.args.state.now c.requires.0 c.requires.1 c.get32-old.ensures)
 

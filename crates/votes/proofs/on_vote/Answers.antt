@@ -1,14 +1,16 @@
-use borrow.Enum.Refused.{opened}
 use mathlib.Core.Path.{refl}
 use Rattle.octets.proofs.Laws.{bytes_known}
+use Rattle.rules.specs.Choice.{any, pick}
+use Rattle.rules.specs.Wire.{case_at}
 use Rattle.rules.specs.Step.{on_vote}
 use Rattle.handler.proofs.Closes.{handled_other}
-use Rattle.handler.proofs.OtherKind.{not_tag}
+use Rattle.handler.proofs.OtherKind.{other_case}
 use Rattle.votes.proofs.VoteWays.{vote_counted, vote_sender, vote_second, vote_past, vote_kept, vote_few, vote_enough}
 use Rattle.votes.proofs.on_vote.Goals as goal
 
 pub returns-in_default : goal.returns-in_default
-returns-in_default c = handled_other 8 on_vote _ _ _ _ _ (not_tag 8 c.args.m refl (opened c.in_default.in_default-own.keys2) tt)
+unfolding any pick case_at
+returns-in_default c = handled_other 8 on_vote _ _ _ _ _ (other_case 8 c.args.m refl (c.in_default.not-Vote _ _ _))
 
 pub is_second-requires : goal.is_second-requires
 is_second-requires c = vote_sender _ _ c.args.message.now c.args.out.now c.args.m _ _ _ c.requires.0 c.in-Vote.is (bytes_known c.args.message.now (λ i. (c.type_inv.message i).fits)) _ _ c.entries_at.ensures.0 c.get_view.ensures

@@ -1,4 +1,0 @@
-use Rattle.verify.proofs.is_asked.Goals as goal
-
-pub returns : goal.returns
-returns c = rw c.holds.ensures
