@@ -1,5 +1,5 @@
 // Starts: every n and S, with the least C, the next and the greatest, at the last replica of the last group.
-use rules::Shape;
+use rules::{Shape, status};
 
 // Whether these bytes are a good state.
 pub fn good_in(shape: Shape, state: &[u8]) -> bool {
@@ -44,12 +44,12 @@ impl Start {
 
     // Whether these bytes but the last are the fresh state's, and the last is as it was.
     fn stands_in(self, bytes: &[u8]) -> bool {
-        let [group, own, status, rest @ .., last] = bytes else {
+        let [group, own, doing, rest @ .., last] = bytes else {
             return false;
         };
         u64::from(*group) == self.group
             && u64::from(*own) == self.own
-            && *status == 1
+            && *doing == status::NORMAL
             && octets::all_zero(rest, 0, rest.len())
             && *last == 255
     }
