@@ -152,7 +152,11 @@ fn tell_notes(shape: Shape, state: &[u8], e: Entry, out: &mut [u8]) -> usize
 {
     let mut bytes = [0u8; 24];
     entries::put_entry(&mut bytes, 0, e);
-    handler::tell_leaders(shape, state, out, Asking::OfNote, e.mask, &bytes)
+    let asking = Asking {
+        kind: kind::TIMESTAMP_NOTE,
+        number: 0,
+    };
+    handler::tell_leaders(shape, state, out, asking, e.mask, &bytes)
 }
 
 // Puts e in early with the own group's note of it.

@@ -19,6 +19,7 @@ mod samples;
 mod ticks;
 
 use rules::Message;
+use samples::Told;
 use scripts::{Report, Row};
 use std::io;
 use wire::decode::{answer_of, offset_of};
@@ -43,6 +44,14 @@ fn read_of(row: &Row<'_>) -> Option<Message> {
     }
 }
 
+// The offset of the first wrong field; where the bytes are read as a message by mistake, its first number.
+fn offset_told(m: Message) -> u64 {
+    match Told::by(m) {
+        Some(told) => told.numbers[0],
+        None => offset_of(m) as u64,
+    }
+}
+
 // Bytes that are no message: the answer, and the offset of the first wrong field.
 fn none<R: Print>(report: &mut Report<'_, R>, row: &Row<'_>) -> io::Result<()> {
     let m = read_of(row).unwrap_or(Message::WrongSizes);
@@ -52,7 +61,7 @@ fn none<R: Print>(report: &mut Report<'_, R>, row: &Row<'_>) -> io::Result<()> {
         Some(u64::from(answer_of(m))),
         2,
     )?;
-    let offset = offset_of(m) as u64;
+    let offset = offset_told(m);
     report.line(
         format_args!("{name}: offset {offset}"),
         Some(offset),

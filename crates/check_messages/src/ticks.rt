@@ -33,10 +33,12 @@ fn has_header(tick: &Told) -> Option<u64> {
 // What a row asks of that tick read.
 fn ask_read(asks: char) -> Option<u64> {
     let m = read_tick(LENGTH)?;
+    if asks == 'A' {
+        return Some(u64::from(answer_of(m)));
+    }
     let told = Told::by(m)?;
     let [time, ..] = told.numbers;
     match asks {
-        'A' => Some(u64::from(answer_of(m))),
         'K' => Some(u64::from(told.kind)),
         'T' => Some(time),
         'G' => Some(u64::from(told.header.to_group)),

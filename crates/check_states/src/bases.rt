@@ -141,14 +141,12 @@ fn entry(stamp: u64, request: u64, mask: u64) -> Option<[u8; 24]> {
     }))
 }
 
-// A note: of a request of coordinator 7, by the own group.
-fn note(request: u64) -> Option<[u8; 33]> {
-    let mut bytes = [0; 33];
-    octets::put32(&mut bytes, 0, u32::try_from(request).ok()?);
-    octets::put16(&mut bytes, 4, 7);
-    octets::put8(&mut bytes, 15, 1);
-    octets::put64(&mut bytes, 16, request);
-    Some(bytes)
+// Writes a note: of a request of coordinator 7, by the own group. What stands of the other groups stays.
+fn put_note(memory: &mut [u8], at: usize, request: u64) -> Option<()> {
+    put(memory, at, 4, request)?;
+    put(memory, at.checked_add(4)?, 2, 7)?;
+    put(memory, at.checked_add(15)?, 1, 1)?;
+    put(memory, at.checked_add(16)?, 8, request)
 }
 
 // Fills a table of entries, or the notes, from a place on: with 16 requests, to which a table of entries adds a number.
@@ -156,7 +154,7 @@ fn fill(row: &Row<'_>, memory: &mut [u8], at: usize, add: u64) -> Option<()> {
     for i in 0..16 {
         let request = 100 + i as u64;
         if row.asks == 'n' {
-            lay(memory, at.checked_add(33 * i)?, &note(request)?)?;
+            put_note(memory, at.checked_add(33 * i)?, request)?;
         } else {
             let other = request.checked_add(add)?;
             lay(memory, at.checked_add(24 * i)?, &entry(other, other, 7)?)?;

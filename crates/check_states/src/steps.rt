@@ -40,13 +40,11 @@ impl Bench<'_> {
         digest::digest_of(self.out)
     }
 
-    // A step with that room for what is sent. Keeps the answer, and answers its number.
+    // A step with that room for what is sent: its whole answer.
     fn step(&mut self, s: u64, length: usize, message: &[u8], room: usize) -> Option<u64> {
         let state = self.memory.get_mut(..length)?;
         let out = self.out.get_mut(..room)?;
-        let answer = replica::jallumere_step(3, s, 16, state, message, out);
-        self.answer = Some(answer);
-        Some(answer % 256)
+        Some(replica::jallumere_step(3, s, 16, state, message, out))
     }
 
     // A transaction arrives. A row has its request, time, bound, coordinator and command.
@@ -78,6 +76,17 @@ impl Bench<'_> {
         self.step(2, LENGTH_OF_TWO, &message, 512)
     }
 
+    // The step of a row. Keeps its answer, none where it cannot be made, and answers its number.
+    fn stepped(&mut self, row: &Row<'_>) -> Option<u64> {
+        let [first, second, ..] = row.numbers;
+        self.answer = match row.asks {
+            'a' => self.arrives(row),
+            't' => self.tick(first, second),
+            _ => self.enter(),
+        };
+        Some(self.answer? % 256)
+    }
+
     // Keeps the digests of the state and of the outgoing bytes.
     fn keep(&mut self) -> Option<u64> {
         self.state = Some(self.state_digest()?);
@@ -87,11 +96,9 @@ impl Bench<'_> {
 
     // What a row asks.
     pub fn ask(&mut self, row: &Row<'_>) -> Option<u64> {
-        let [first, second, ..] = row.numbers;
+        let [first, ..] = row.numbers;
         match row.asks {
-            'a' => self.arrives(row),
-            't' => self.tick(first, second),
-            'c' => self.enter(),
+            'a' | 't' | 'c' => self.stepped(row),
             'q' => self.answer,
             'd' => self.keep(),
             'u' => Some(u64::from(self.state? == self.state_digest()?)),

@@ -1,5 +1,5 @@
 -- Products modulo M term by term, products and the xor by halves, and the digest byte by byte. Assumes nothing.
-use Rattle.std.proofs.Common.{◌≡◌, ℕ, ◌+◌, ◌*◌, ◌/◌, ◌%◌, ◌^◌, ◌<◌, ◌≤◌, List, length, get_or, drop, sym, refl, ap, ◌∙◌, zero-add, zero-mul, mul-one, mul-add, add-one, arith, drop_of_length-le, drop-cons}
+use Rattle.std.proofs.Common.{◌≡◌, ℕ, ◌+◌, ◌*◌, ◌/◌, ◌%◌, ◌^◌, ◌<◌, ◌≤◌, List, length, get_or, take, drop, sym, refl, ap, ◌∙◌, zero-add, zero-mul, mul-one, mul-add, add-one, arith, drop_of_length-le, drop-cons, length-take, get_or-take}
 use native.Mathlib.Nat.{add-mod, mod-add-mod, div-div-eq-div-mul}
 use lib.Bits.{bit_xor, xor_block, xor_zero_l}
 use Rattle.rules.specs.Digest.{prime, digest_from}
@@ -44,12 +44,18 @@ xor_low :
     (byte high low : ℕ) → byte < 2 ^ 32 → low < 2 ^ 32 → high * 2 ^ 32 + bit_xor byte low ≡ bit_xor byte (high * 2 ^ 32 + low)
 xor_low byte high low b l = sym (simp (zero-mul, zero-add, xor_zero_l) at (xor_block 32 0 high byte low b l))
 
+-- the byte that a loop comes to, where it goes over the first k of the bytes
+pub byte_in_front : (k i : ℕ) (s : List ℕ) → i < length (take k s) → get_or (take k s) i 0 ≡ get_or s i 0
+byte_in_front k i s l = get_or-take k s i 0 (omega (arith, length-take {A = ℕ}))
+
 -- what is left to run over, a byte further on
 pub digest_more :
-    (high low g : ℕ) (s : List ℕ) (i : ℕ) → i < length s → get_or s i 0 < 2 ^ 32 → low < 2 ^ 32 → g ≡ (high * 2 ^ 32 + bit_xor (get_or s i 0) low) * prime % 2 ^ 64
+    (high low g : ℕ) (s : List ℕ) (i x : ℕ) → g ≡ (high * 2 ^ 32 + bit_xor x low) * prime % 2 ^ 64 → x ≡ get_or s i 0 → i < length s → get_or s i 0 < 2 ^ 32 → low < 2 ^ 32
     → digest_from (high * 2 ^ 32 + low) (drop i s) ≡ digest_from g (drop (i + 1) s)
 unfolding digest_from
-digest_more high low g s i l b f e = simp (drop-cons s i 0 l, e, xor_low (get_or s i 0) high low b f, add-one i)
+digest_more high low g s i x e q l b f =
+    let h : g ≡ (high * 2 ^ 32 + bit_xor (get_or s i 0) low) * prime % 2 ^ 64 = rw (← q) e in
+    simp (drop-cons s i 0 l, h, xor_low (get_or s i 0) high low b f, add-one i)
 
 -- nothing left
 pub digest_done : (h : ℕ) (s : List ℕ) (i : ℕ) → length s ≤ i → digest_from h (drop i s) ≡ h

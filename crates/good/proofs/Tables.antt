@@ -52,14 +52,17 @@ module _ (p : ℕ → Bool) where
   unfolding below every
   below_start = refl
 
-  pub below_next : (i : ℕ) → every p (below i) ≡ true → p i ≡ true → every p (below (i + 1)) ≡ true
-  below_next i e h = below_turn p i ∙ rw (e, h)
+  pub below_none : true ≡ every p (below 0)
+  below_none = sym below_start
+
+  pub below_next : (i : ℕ) (fine t : Bool) → fine ≡ every p (below i) → t ≡ p i → (fine && t) ≡ every p (below (i + 1))
+  below_next i fine t e h = ap₂ ◌&&◌ e h ∙ sym (below_turn p i)
 
   pub below_stop : (i n : ℕ) → i < n → p i ≡ false → false ≡ every p (below n)
   below_stop i n l h = fold_stop (λ m. every p (below m)) p n (λ m d. below_turn p m) i l h
 
-  pub below_end : (i n : ℕ) → every p (below i) ≡ true → i ≤ n → n ≤ i → true ≡ every p (below n)
-  below_end i n e l h = let q : i ≡ n = omega arith in rw q at (sym e)
+  pub below_end : (i n : ℕ) (fine : Bool) → fine ≡ every p (below i) → i ≤ n → n ≤ i → fine ≡ every p (below n)
+  below_end i n fine e l h = let q : i ≡ n = omega arith in rw q at e
 
 -- ---- a table
 

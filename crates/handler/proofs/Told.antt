@@ -1,5 +1,5 @@
 -- What a case says of the message in the bytes. Assumes nothing.
-use Prim.Native.Nat.{ℕ, ◌+◌, ◌*◌, ◌<◌}
+use Prim.Native.Nat.{ℕ, ◌+◌, ◌*◌, ◌^◌, ◌<◌}
 use mathlib.Core.Path.{◌≡◌, refl, sym, ap, subst, ◌∙◌}
 use mathlib.Core.Bool.{Bool, true, false, true≢false}
 use mathlib.Core.List.{List}
@@ -9,7 +9,7 @@ use lib.Dec.{eqb, ltb}
 use borrow.Author.Tests.{eqb-true, ltb-true}
 use Rattle.octets.specs.Bytes.{num, items}
 use Rattle.octets.proofs.Laws.{Bytes}
-use Rattle.octets.proofs.Codecs.{length_items, get_or_items}
+use Rattle.octets.proofs.Codecs.{All, length_items, get_or_items}
 use Rattle.rules.specs.Choice.{pick, any}
 use Rattle.rules.specs.Group.{sizes_fit}
 use Rattle.rules.specs.Entry.{no_entry, entry_of}
@@ -26,8 +26,9 @@ use Rattle.rules.specs.declared.Message.{Message}
 use Rattle.rules.specs.declared.Message.TheVariants.{WrongSizes}
 use Rattle.rules.proofs.Choice.{and_left, pick_false}
 use Rattle.rules.proofs.EachKind.{one_known, log_known, log_later}
+use Rattle.rules.proofs.Entries.{EntryFits}
 use Rattle.rules.proofs.Verdicts.{Rights, message_right}
-use Rattle.rules.proofs.Messages.{Whole, read_whole, read_formed, whole_known}
+use Rattle.rules.proofs.Messages.{Whole, read_whole, read_formed, formed_fits, whole_known}
 use Rattle.rules.proofs.KeptMessage.{fields_as, log_good}
 use Rattle.rules.proofs.Case.{tag_case, header_case, numbers_case}
 use Rattle.handler.specs.Handler.{Ready}
@@ -112,6 +113,9 @@ module _ (n s : ℕ) (m : Message) (msg : List ℕ) where
     unfolding wire_in
     told_views e = ap (λ (j : ℕ). items (λ a. num msg a 4) 4 16 (views_in s j)) first_is ∙ ap (items (λ a. num msg a 4) 4 16) (pick_false (bare k) 0 s e)
 
+    pub told_views_long : bare k ≡ false → length w.g_vec ≡ s
+    told_views_long e = ap length (told_views e) ∙ length_items (λ a. num msg a 4) 4 16 s
+
     pub told_count : length w.entries ≡ num msg (entries_at s k) 4
     told_count = ap length told_entries ∙ length_items (entry_at msg) 24 (entries_at s k + 4) (num msg (entries_at s k) 4)
 
@@ -134,6 +138,13 @@ module _ (n s : ℕ) (m : Message) (msg : List ℕ) where
         let c : num msg (entries_at s k) 4 ≡ 1 = sym told_count ∙ told_one e in
         let z : entries_at s k + 4 + 24 * 0 ≡ entries_at s k + 4 = omega arith in
         (told_length ∙ ap (length_for s k) c, ap (entry_at msg) (sym z) ∙ told_entry 0 (omega arith))
+
+    -- its entries fit their bytes
+    pub told_fits : Bytes msg → All EntryFits w.entries
+    told_fits bs = (formed_fits n s w t.sizes (told_formed t bs)).entries
+
+    pub told_views_fit : Bytes msg → All (λ v. v < 256 ^ 4) w.g_vec
+    told_views_fit bs = (formed_fits n s w t.sizes (told_formed t bs)).g_vec
 
     -- a log is good for its destination group
     pub told_log : Bytes msg → with_log k ≡ true → good_log s (header_in m).to_group w.entries ≡ true

@@ -57,6 +57,9 @@ module _ {sh : Shape} {b msg : List ℕ} {m : Message} (r : Ready sh b m msg) (k
   pub said : Told sh.n sh.s m msg
   said = ready_told sh b msg m r (ap known own ∙ n)
 
+  pub said_view : (wire_in sh.s msg).view ≡ (header_in m).view
+  said_view = ap (λ (h : Header). h.view) said.header
+
   pub said_group : (wire_in sh.s msg).from_group ≡ (header_in m).from_group
   said_group = ap (λ (h : Header). h.from_group) said.header
 

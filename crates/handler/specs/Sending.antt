@@ -10,8 +10,6 @@ use Rattle.rules.specs.declared.Header.{Header}
 use Rattle.rules.specs.declared.Shape.{Shape}
 use Rattle.rules.specs.declared.Message.{Message}
 use Rattle.rules.specs.declared.Message.TheVariants.{Note, VerifyRequest}
-use Rattle.handler.specs.declared.Asking.{Asking}
-use Rattle.handler.specs.declared.Asking.TheVariants.{OfNote, OfVerify}
 use Rattle.places.specs.Layout.{start_of}
 use Rattle.rules.specs.Image.{at_gvec}
 
@@ -31,15 +29,6 @@ leader_in sh b j = num b (start_of sh at_gvec + 4 * j) 4 % sh.n
 -- the other groups in a mask, rising
 abbrev pub others_in : Shape → List ℕ → ℕ → List ℕ
 others_in sh b mask = keep (λ j. not (eqb j (num b 0 1)) && holds mask j) (below sh.s)
-
--- the kind of what is asked, and its number
-abbrev pub kind_of : Asking → ℕ
-kind_of OfNote = 3
-kind_of (OfVerify boundary) = 18
-
-abbrev pub number_of : Asking → ℕ
-number_of OfNote = 0
-number_of (OfVerify boundary) = boundary
 
 -- what is sent to other groups' leaders: a timestamp note, or a verify request with its boundary
 abbrev pub asked_of : ℕ → ℕ → Header → Message

@@ -12,7 +12,7 @@ ghost use Rattle.rules.specs.State as rule;
 ghost use Rattle.rules.specs.Step as steps;
 ghost use Rattle.places.specs.Layout.{Stands, Sized};
 ghost use Rattle.handler.specs.Handler.{Ready};
-ghost use Rattle.handler.specs.Sending.{message_bytes, headed_in, others_in, kind_of, number_of, asked_of, Asks, leader_bytes};
+ghost use Rattle.handler.specs.Sending.{message_bytes, headed_in, others_in, asked_of, Asks, leader_bytes};
 
 use rules::{Entry, Header, Message, Shape, kind};
 
@@ -89,32 +89,22 @@ pub fn count_others(shape: Shape, state: &[u8], mask: u16) -> u64
     count
 }
 
-// What is sent to other groups' leaders: a timestamp note, or a verify request with its boundary.
+// What is asked of other groups' leaders: a note, or a verify request with its boundary.
 #[derive(Clone, Copy, PartialEq, Eq)]
-pub enum Asking {
-    OfNote,
-    OfVerify(u64),
+pub struct Asking {
+    pub kind: u8,
+    pub number: u64,
 }
 
 impl Asking {
-    // The kind of the message.
-    fn kind(self) -> u8
-        ensures { result ≡ kind_of self }
-    {
-        match self {
-            Asking::OfNote => kind::TIMESTAMP_NOTE,
-            Asking::OfVerify(_) => kind::VERIFY_REQUEST,
-        }
-    }
-
-    // The message with this header.
+    // The message that asks it.
     fn message(self, h: Header) -> Message
-        ensures { result ≡ asked_of (kind_of self) (number_of self) h }
+        ensures { result ≡ asked_of self.kind self.number h }
     {
-        match self {
-            Asking::OfNote => Message::Note(h),
-            Asking::OfVerify(boundary) => Message::VerifyRequest(h, boundary),
+        if self.kind == kind::TIMESTAMP_NOTE {
+            return Message::Note(h);
         }
+        Message::VerifyRequest(h, self.number)
     }
 }
 
@@ -128,14 +118,14 @@ fn tell_leader(
     j: u64,
     entries: &[u8],
 ) -> usize
-    requires { Sized shape state.now × Asks (kind_of asking) entries.now × (j < shape.s)
-        × (at + length_for shape.s (kind_of asking) (length entries.now / 24) ≤ length out.old) }
-    ensures { let bytes = leader_bytes shape state.now (kind_of asking) (number_of asking) entries.now j in
+    requires { Sized shape state.now × Asks asking.kind entries.now × (j < shape.s)
+        × (at + length_for shape.s asking.kind (length entries.now / 24) ≤ length out.old) }
+    ensures { let bytes = leader_bytes shape state.now asking.kind asking.number entries.now j in
         (result ≡ at + length bytes) × (out.new ≡ splice out.old at bytes)
-        × (length bytes ≡ length_for shape.s (kind_of asking) (length entries.now / 24)) }
+        × (length bytes ≡ length_for shape.s asking.kind (length entries.now / 24)) }
 {
     let leader = places::view_at(shape, state, j) as u64 % shape.n;
-    let h = headed(state, asking.kind(), j as u8, group::only(leader));
+    let h = headed(state, asking.kind, j as u8, group::only(leader));
     tell(shape, state, out, at, asking.message(h), entries)
 }
 
@@ -149,10 +139,10 @@ pub fn tell_leaders(
     mask: u16,
     entries: &[u8],
 ) -> usize
-    requires { Sized shape state.now × Asks (kind_of asking) entries.now
-        × (length_for shape.s (kind_of asking) (length entries.now / 24) * length (others_in shape state.now mask) ≤ length out.old) }
+    requires { Sized shape state.now × Asks asking.kind entries.now
+        × (length_for shape.s asking.kind (length entries.now / 24) * length (others_in shape state.now mask) ≤ length out.old) }
     ensures { let b = state.now in
-        let bytes = flat (leader_bytes shape b (kind_of asking) (number_of asking) entries.now) (others_in shape b mask) in
+        let bytes = flat (leader_bytes shape b asking.kind asking.number entries.now) (others_in shape b mask) in
         (result ≡ length bytes) × (out.new ≡ splice out.old 0 bytes) }
 {
     let own = places::get_group(state);

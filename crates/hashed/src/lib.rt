@@ -100,7 +100,8 @@ pub fn lay_all(b: &[u8], sp: Spots, table: &mut [u16]) -> Option<usize>
 // The row with key x, where one has it.
 pub fn find(b: &[u8], sp: Spots, table: &[u16], x: u64) -> Option<usize>
     requires { Inside b.now sp × (64 ≤ length table.now) × (length table.now ≤ 65535) × Holds (key_of b.now sp) (count_of sp) table.now (count_of sp) }
-    ensures { MatchOption result (count_of sp ≡ row_of (key_of b.now sp) x (count_of sp)) (λ e. e ≡ row_of (key_of b.now sp) x (count_of sp)) }
+    ensures { MatchOption result (count_of sp ≡ row_of (key_of b.now sp) x (count_of sp))
+        (λ e. (e < count_of sp) × (e ≡ row_of (key_of b.now sp) x (count_of sp))) }
 {
     let start = slot(x, table.len());
     let p = path_end(b, sp, table, x, start)?;

@@ -91,7 +91,7 @@ module _ (mask : ℕ) (ts : List (Option ℕ)) where
   abbrev pub has_noted : ℕ → Bool
   has_noted j = not (holds mask j) || is_some (get_or ts j none)
 
-  noted_none : noted_to mask ts 0 ≡ true
+  pub noted_none : true ≡ noted_to mask ts 0
   unfolding noted_to
   noted_none = refl
 
@@ -99,8 +99,12 @@ module _ (mask : ℕ) (ts : List (Option ℕ)) where
   unfolding noted_to
   noted_turn j = rw add-one
 
+  pub noted_next : (j : ℕ) (all held heard : Bool) → all ≡ noted_to mask ts j → held ≡ holds mask j → heard ≡ is_some (get_or ts j none) → (all && (not held || heard)) ≡ noted_to mask ts (j + 1)
+  unfolding noted_to
+  noted_next j all held heard a h k = rw (add-one j, a, h, k)
+
   pub noted_by : (n : ℕ) (r : Bool) → (r ≡ true → (j : ℕ) → j < n → has_noted j ≡ true) → (r ≡ false → (j : ℕ) × (j < n) × (has_noted j ≡ false)) → r ≡ noted_to mask ts n
-  noted_by n r h g = fold_by (noted_to mask ts) has_noted n r noted_none (λ m d. noted_turn m) h g
+  noted_by n r h g = fold_by (noted_to mask ts) has_noted n r (sym noted_none) (λ m d. noted_turn m) h g
 
   pub greatest_none : 0 ≡ greatest_to mask ts 0
   unfolding greatest_to

@@ -4,8 +4,7 @@
 ghost use Rattle.std.specs.Prelude.{◌≡◌, ◌&&◌, [], ◌∷◌, ◌++◌, ◌+◌, ◌*◌, ◌<◌, ◌≤◌, max, length, get_or, set, eqb};
 ghost use Rattle.std.proofs.Math.Option.{none, some};
 ghost use Rattle.octets.specs.Bytes.{num, splice, part};
-ghost use Rattle.rules.specs.Choice.{pick, when, is_some, passes, every, same};
-ghost use Rattle.rules.specs.Group.{holds};
+ghost use Rattle.rules.specs.Choice.{pick, is_some, passes, every, same};
 ghost use Rattle.rules.specs.Entry.{stamp_fits};
 ghost use Rattle.rules.specs.State.{value_of, noted_to, greatest_to, note_fits};
 ghost use Rattle.rules.specs.State as state;
@@ -107,21 +106,18 @@ pub fn stamp_of(t: &[u8], c: usize, s: usize, i: usize, j: usize) -> Option<u64>
     point_at(t, place(s, i) + 6 + 9 * j)
 }
 
-// Whether group j was heard where it is in the mask. The points of its note stand from `at` on.
-fn heard_of(t: &[u8], at: usize, mask: u16, j: usize) -> bool
-    requires { at + 9 * j + 9 ≤ length t.now }
-    ensures { result ≡ when (holds mask j) (is_some (point_at t.now (at + 9 * j))) }
-{
-    !group::holds(mask, j as u64) || heard_at(t, at + 9 * j)
-}
-
-// Whether note i has a timestamp of each group in the mask.
+// Whether note i has a timestamp of each group in the mask. No turn has a branch, and none is left out: a `for` over all groups and not `all`, which
+// takes a quarter more where masks and marks are any.
 pub fn agreed_at(t: &[u8], c: usize, s: usize, i: usize, mask: u16) -> bool
     requires { Notes c s t.now × (i < length (notes_at c s t.now)) }
     ensures { result ≡ noted_to mask (note_in (notes_at c s t.now) i).stamps s }
 {
     let at = place(s, i) + 6;
-    (0..s).all(|j| heard_of(t, at, mask, j))
+    let mut all = true;
+    for j in 0..s {
+        all = all & (!group::holds(mask, j as u64) | heard_at(t, at + 9 * j));
+    }
+    all
 }
 
 // The greatest of note i's timestamps of groups in the mask.

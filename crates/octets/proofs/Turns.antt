@@ -2,16 +2,16 @@
 use Prim.Native.Nat.{ℕ, suc, ◌+◌, ◌-◌, ◌≤◌, ◌<◌}
 use mathlib.Core.Path.{◌≡◌, refl, sym, ap, ap₂, ◌∙◌}
 use mathlib.Core.Bool.{Bool, true, false, ◌&&◌}
-use mathlib.Core.List.{List, [], ◌∷◌, ◌++◌, append_assoc}
+use mathlib.Core.List.{List, [], ◌∷◌, ◌++◌}
 use native.Mathlib.Omega.{arith}
 use lib.ListN.{length, take, drop, get_or, replicate, length-replicate}
-use lib.Seq.{paste}
 use Rattle.std.proofs.Common.{IsTrue, EachIndex, ◌↔◌}
 use Rattle.std.proofs.lemmas.List.{get_or-replicate}
 use lib.Dec.{eqb}
 use borrow.Author.Tests.{eq-eqb, ne_eqb}
 use Rattle.octets.specs.Bytes.{le, part, num, splice, zeros}
-use Rattle.octets.proofs.Laws.{length_part, part_add, part_none, part_splice_before, splice_none, splice_next, splice_home, cut, bytes_known, le_num, zeros_part, zeros_num, zeros_are}
+use Rattle.octets.proofs.Laws.{length_part, part_add, part_none, part_splice_before, part_splice_after, splice_none, splice_next, splice_comm, splice_home, bytes_known, le_num, zeros_part, zeros_num, zeros_are}
+use Rattle.octets.proofs.Sections.{part_whole}
 
 -- ---- before the first turn, and after the last
 
@@ -34,6 +34,15 @@ pub copy_next : (d : List ℕ) (at : ℕ) (s : List ℕ) (from j k n : ℕ) (m e
 copy_next d at s from j k n m e hm he h l q =
     splice_next d at j (part s from j) (part s (from + j) k) m e h (length_part s from j l) hm he ∙ ap (splice d at) (sym (part_add s from j k) ∙ ap (part s from) q)
 
+pub copy_turn : (d : List ℕ) (at : ℕ) (s : List ℕ) (from j k n v : ℕ) (m e : List ℕ) → m ≡ splice d at (part s from j) → v ≡ num s (from + j) k → e ≡ splice m (at + j) (le k v) → ((i : ℕ) → get_or s i 0 < 256) → at + j ≤ length d → from + j + k ≤ length s → j + k ≡ n → e ≡ splice d at (part s from n)
+copy_turn d at s from j k n v m e hm hv he hb h l q =
+    copy_next d at s from j k n m e hm (written s (from + j) k v m (at + j) e hv he hb l) h (omega arith) q
+
+pub copy_all : (d : List ℕ) (at : ℕ) (s : List ℕ) (j k : ℕ) (m e : List ℕ) → m ≡ splice d at (part s 0 j) → e ≡ splice m (at + j) (part s j k) → at + j ≤ length d → j + k ≡ length s → e ≡ splice d at s
+copy_all d at s j k m e hm he h q =
+    let z : j ≡ 0 + j = omega arith in
+    copy_next d at s 0 j k (length s) m e hm (he ∙ ap (λ (i : ℕ). splice m (at + j) (part s i k)) z) h (omega arith) q ∙ ap (splice d at) (part_whole s (length s) (omega arith))
+
 -- ---- moved down within a list: j bytes, then the k above them, which still stand
 
 pub down_next : (d : List ℕ) (to from j k n : ℕ) (m e : List ℕ) → m ≡ splice d to (part d from j) → e ≡ splice m (to + j) (part m (from + j) k) → to ≤ from → from + j ≤ length d → j + k ≡ n → e ≡ splice d to (part d from n)
@@ -43,17 +52,37 @@ down_next d to from j k n m e hm he h l q =
     let still : part m (from + j) k ≡ part d (from + j) k = ap (λ (r : List ℕ). part r (from + j) k) hm ∙ part_splice_before d to x (from + j) k (omega arith) (omega arith) in
     copy_next d to d from j k n m e hm (he ∙ ap (splice m (to + j)) still) (omega arith) l q
 
--- ---- what the library's methods leave, as splices
+-- ---- moved up within a list: the upper k bytes, then the j below them, which still stand
 
--- a copy within a list
-pub pasted : (s : List ℕ) (to from n m : ℕ) → m ≡ n → from + n ≤ length s → paste s to (drop from s) m ≡ splice s to (part s from n)
-unfolding splice part
-pasted s to from n m q l = rw (q, length_part s from n l) (append_assoc (take to s) (take n (drop from s)) (drop (to + n) s))
+pub up_next : (d : List ℕ) (to from j k n : ℕ) (m e : List ℕ) → m ≡ splice d (to + j) (part d (from + j) k) → e ≡ splice m to (part m from j) → from ≤ to → to + n ≤ length d → j + k ≡ n → e ≡ splice d to (part d from n)
+up_next d to from j k n m e hm he h l q =
+    let x : List ℕ = part d from j in
+    let y : List ℕ = part d (from + j) k in
+    let lx : length x ≡ j = length_part d from j (omega arith) in
+    let still : part m from j ≡ x = ap (λ (r : List ℕ). part r from j) hm ∙ part_splice_after d (to + j) y from j (omega arith) (omega arith) in
+    he ∙ ap₂ (λ (r z : List ℕ). splice r to z) hm still ∙ sym (splice_comm d to x (to + j) y (omega arith) (omega arith))
+    ∙ copy_next d to d from j k n (splice d to x) (splice (splice d to x) (to + j) y) refl refl (omega arith) (omega arith) q
 
--- a part written over itself
-pub in_place : (s : List ℕ) (to from n : ℕ) → to ≡ from → from + n ≤ length s → s ≡ splice s to (part s from n)
-unfolding splice
-in_place s to from n e l = rw (e, length_part s from n l) (cut s from n)
+-- the same, as the loop counts: i bytes are left to move, and then j, since k of them move now
+pub up_turn : (d : List ℕ) (to from n i j k : ℕ) (m e : List ℕ) → m ≡ splice d (to + i) (part d (from + i) (n - i)) → e ≡ splice m (to + j) (part m (from + j) k) → from ≤ to → to + n ≤ length d → j + k ≡ i → i ≤ n → e ≡ splice d (to + j) (part d (from + j) (n - j))
+up_turn d to from n i j k m e hm he h l hk hi =
+    let a : to + i ≡ to + j + k = omega arith in
+    let b : from + i ≡ from + j + k = omega arith in
+    up_next d (to + j) (from + j) k (n - i) (n - j) m e (hm ∙ ap₂ (λ (o r : ℕ). splice d o (part d r (n - i))) a b) he (omega arith) (omega arith) (omega arith)
+
+pub up_none : (d : List ℕ) (to from n i : ℕ) → i ≡ n → d ≡ splice d (to + i) (part d (from + i) (n - i))
+up_none d to from n i q =
+    let z : n - i ≡ 0 = omega arith in
+    rw z (none_yet d (to + i) d (from + i))
+
+pub up_done : (d : List ℕ) (to from n i : ℕ) (e : List ℕ) → e ≡ splice d (to + i) (part d (from + i) (n - i)) → i ≤ 0 → e ≡ splice d to (part d from n)
+up_done d to from n i e he h =
+    let a : to + i ≡ to = omega arith in
+    let b : from + i ≡ from = omega arith in
+    let z : n - i ≡ n = omega arith in
+    rw (a, b, z) at he
+
+-- ---- what the library's method leaves, as a splice
 
 -- a part filled with zeros
 pub zeros_home : (s : List ℕ) (at n m k : ℕ) → m ≡ n → k ≡ n → take at s ++ (replicate k 0 ++ drop m (drop at s)) ≡ splice s at (replicate n 0)

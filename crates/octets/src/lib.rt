@@ -130,12 +130,35 @@ pub fn put64(s: &mut [u8], at: usize, v: u64)
     put32(s, at + 4, (v / 4294967296) as u32);
 }
 
-// Copies `src` to `at`.
+// Copies n bytes of `src` from `from` on to `at`, where n is a number of whole words.
+fn copy_words(dst: &mut [u8], at: usize, src: &[u8], from: usize, n: usize)
+    requires { (at + n ≤ length dst.old) × (from + n ≤ length src.now) × (n % 8 ≡ 0) }
+    ensures { dst.new ≡ splice dst.old at (part src.now from n) }
+{
+    for word in 0..n / 8 {
+        put64(dst, at + 8 * word, get64(src, from + 8 * word));
+    }
+}
+
+// Copies n bytes of `src` from `from` on to `at`.
+fn copy_bytes(dst: &mut [u8], at: usize, src: &[u8], from: usize, n: usize)
+    requires { (at + n ≤ length dst.old) × (from + n ≤ length src.now) }
+    ensures { dst.new ≡ splice dst.old at (part src.now from n) }
+{
+    for i in 0..n {
+        put8(dst, at + i, get8(src, from + i));
+    }
+}
+
+// Copies `src` to `at`. By words and not by `copy_from_slice`, for which a host that links the archive has to bring `memmove`.
 pub fn copy_in(dst: &mut [u8], at: usize, src: &[u8])
     requires { at + length src.now ≤ length dst.old }
     ensures { dst.new ≡ splice dst.old at src.now }
 {
-    dst[at..at + src.len()].copy_from_slice(src);
+    let rest = src.len() % 8;
+    let whole = src.len() - rest;
+    copy_words(dst, at, src, 0, whole);
+    copy_bytes(dst, at + whole, src, whole, rest);
 }
 
 // Moves the eight bytes at `from` to `to`. All are read before any is written, so the two places may overlap.
@@ -188,14 +211,35 @@ pub fn move_down(s: &mut [u8], to: usize, from: usize, n: usize)
     down_bytes(s, to + whole, from + whole, rest);
 }
 
-// Moves the n bytes at `from` up to `to`; the two places may overlap.
+// Moves n bytes up, highest first: what is still to be read lies below what was written. n is a number of whole words.
+fn up_words(s: &mut [u8], to: usize, from: usize, n: usize)
+    requires { (from ≤ to) × (to + n ≤ length s.old) × (n % 8 ≡ 0) }
+    ensures { s.new ≡ splice s.old to (part s.old from n) }
+{
+    for word in (0..n / 8).rev() {
+        move_word(s, to + 8 * word, from + 8 * word);
+    }
+}
+
+// Moves n bytes up, highest first.
+fn up_bytes(s: &mut [u8], to: usize, from: usize, n: usize)
+    requires { (from ≤ to) × (to + n ≤ length s.old) }
+    ensures { s.new ≡ splice s.old to (part s.old from n) }
+{
+    for i in (0..n).rev() {
+        move_byte(s, to + i, from + i);
+    }
+}
+
+// Moves the n bytes at `from` up to `to`; the two places may overlap. By words and not by `copy_within`, for which a host has to bring `memmove`.
 pub fn move_up(s: &mut [u8], to: usize, from: usize, n: usize)
     requires { (from ≤ to) × (to + n ≤ length s.old) }
     ensures { s.new ≡ splice s.old to (part s.old from n) }
 {
-    if from < to {
-        s.copy_within(from..from + n, to);
-    }
+    let rest = n % 8;
+    let whole = n - rest;
+    up_words(s, to + rest, from + rest, whole);
+    up_bytes(s, to, from, rest);
 }
 
 // Writes n zero bytes at `at`.

@@ -78,7 +78,7 @@ module _ (sh : Shape) (s msg : List ℕ) (a : Cast) (g : Given sh s msg a) (b : 
     abbrev gives : BestIn sh.n (votes_in sh s msg a) b.count.top sh.n x
     gives = best_in sh.n (votes_in sh s msg a) b k x h
 
-    prefix_within : x.sync ≤ length (vote_of (get_or (votes_in sh s msg a) x.replica none)).log
+    pub prefix_within : x.sync ≤ length (vote_of (get_or (votes_in sh s msg a) x.replica none)).log
     prefix_within = rw gives.sync (vote_synced sh s msg a g x.replica gives.within gives.held)
 
     -- the first in all of the log is one of the prefix where there is one

@@ -1,6 +1,6 @@
 -- The first number that passes a test; and with it the first key that repeats an earlier one, and the row of a key.
 use mathlib.Core.Path.{◌≡◌, ◌∙◌, ap, refl, sym}
-use mathlib.Core.Bool.{Bool, true, false, or-true}
+use mathlib.Core.Bool.{Bool, true, false, ◌&&◌, ◌||◌, not, or-true}
 use Prim.Native.Nat.{ℕ, zero, suc, ◌+◌, ◌<◌, ◌≤◌}
 use native.Mathlib.Decide.{dec_lt}
 use native.Mathlib.Numerals.{add-one}
@@ -130,6 +130,24 @@ pub record Earlier (key : ℕ → ℕ) (x n : ℕ) : Type 0 where
   pub low : row < n
   pub same : key row ≡ x
 
+module _ (key : ℕ → ℕ) (x : ℕ) where
+  earlier_step : (n : ℕ) → (seen_key key x n ≡ true → Earlier key x n) → (s t : Bool) → seen_key key x n ≡ s → eqb (key n) x ≡ t → (s || t) ≡ true → Earlier key x (suc n)
+  earlier_step n ih true t es et h =
+      let w : Earlier key x n = ih es in
+      record { row = w.row; low = omega (arith, w.low); same = w.same }
+  earlier_step n ih false true es et h = record { row = n; low = omega arith; same = eqb-true _ _ et }
+  earlier_step n ih false false es et h = let y : ◌≡◌ {A = ℕ} 0 1 = cc in absurd (omega arith)
+
+  pub seen_earlier : (n : ℕ) → seen_key key x n ≡ true → Earlier key x n
+  unfolding seen_key
+  seen_earlier zero h = let y : ◌≡◌ {A = ℕ} 0 1 = cc in absurd (omega arith)
+  seen_earlier (suc n) h = earlier_step n (seen_earlier n) (seen_key key x n) (eqb (key n) x) refl refl h
+
+pub seen_agree : (key other : ℕ → ℕ) (x n : ℕ) → ((i : ℕ) → i < n → key i ≡ other i) → seen_key key x n ≡ seen_key other x n
+unfolding seen_key
+seen_agree key other x zero h = refl
+seen_agree key other x (suc n) h = rw (seen_agree key other x n (λ i l. h i (omega arith)), h n (omega arith))
+
 -- ---- the first key that repeats an earlier one
 
 -- key i stands among those before it
@@ -137,6 +155,10 @@ abbrev pub again : (ℕ → ℕ) → ℕ → Bool
 again key i = seen_key key (key i) i
 
 module _ (key : ℕ → ℕ) where
+  pub repeat_step : (i : ℕ) → repeat_place key (suc i) ≡ pick (eqb (repeat_place key i) i && not (seen_key key (key i) i)) (suc i) (repeat_place key i)
+  unfolding repeat_place first_to
+  repeat_step i = refl
+
   pub repeat_first : (m : ℕ) → First (again key) m (repeat_place key m)
   unfolding repeat_place
   repeat_first m = first_to_lem (again key) m
@@ -159,6 +181,9 @@ module _ (key : ℕ → ℕ) where
   unfolding repeat_place
   repeat_here m i h e f = sym (first_stop (again key) i m e f h)
 
+  pub repeat_le : (m : ℕ) → repeat_place key m ≤ m
+  repeat_le m = (repeat_first m).low
+
   -- the keys of the first n are distinct where each stands not among those before it
   fresh_distinct : (n : ℕ) → ((i : ℕ) → i < n → again key i ≡ false) → (i j : ℕ) → i < n → j < n → key i ≡ key j → Dec (i < j) → Dec (j < i) → i ≡ j
   fresh_distinct n f i j hi hj e (yes l) d = absurd (clash (again key) j (seen_hit key (key j) i j l e) (f j hj))
@@ -173,6 +198,10 @@ module _ (key : ℕ → ℕ) where
   pub repeat_before : (m : ℕ) → Distinct key (repeat_place key m)
   repeat_before m = fresh_all (repeat_place key m) (repeat_first m).before
 
+  -- and the key there is one of them
+  pub repeat_among : (m : ℕ) → repeat_place key m < m → Earlier key (key (repeat_place key m)) (repeat_place key m)
+  repeat_among m h = seen_earlier key (key (repeat_place key m)) (repeat_place key m) ((repeat_first m).at h)
+
   -- the place is the end where no two keys are equal, and only there
   pub repeat_distinct : (m : ℕ) → repeat_place key m ≡ m → Distinct key m
   repeat_distinct m e = rw e at (repeat_before m)
@@ -185,6 +214,13 @@ module _ (key : ℕ → ℕ) where
         before = λ i k. seen_none key (key i) i (λ j l e. let z : j ≡ i = d j i (omega arith) k e in omega arith);
         at = λ k. absurd (omega arith);
       })
+
+-- the place asks for the first m keys alone
+pub repeat_agree : (key other : ℕ → ℕ) (m : ℕ) → ((i : ℕ) → i < m → key i ≡ other i) → repeat_place key m ≡ repeat_place other m
+unfolding repeat_place
+repeat_agree key other m h =
+    first_agree (again key) (again other) m (λ i l.
+    ap (λ (x : ℕ). seen_key key x i) (h i l) ∙ seen_agree key other (other i) i (λ j k. h j (omega arith)))
 
 -- ---- the row of a key
 

@@ -56,10 +56,12 @@ impl<R: Print, F: Read> Replay<'_, R, F> {
     // A record of a reading.
     pub fn reading(&mut self) -> Result<(), Stop> {
         let mut buffer = [0; 320];
-        let [n, s] = self.take::<2>()?;
-        let message = self.take_message(&mut buffer)?;
-        let number = u8::from_le_bytes(self.take()?);
-        let offset = u32::from_le_bytes(self.take()?);
+        let sizes = self.take::<6>()?;
+        let [n, s, ..] = sizes;
+        let message = self.take_message(&mut buffer, octets::look32(&sizes, 2))?;
+        let wanted = self.take::<5>()?;
+        let number = octets::look8(&wanted, 0);
+        let offset = octets::look32(&wanted, 1);
         self.totals.readings = self.totals.readings.saturating_add(1);
         let mut held = self.held();
         let shape = Shape {

@@ -118,10 +118,9 @@ impl<'a, R: Print, F: Read> Replay<'a, R, F> {
         Ok(bytes)
     }
 
-    // The record's message, behind its length.
-    pub fn take_message<'b>(&mut self, buffer: &'b mut [u8]) -> Result<&'b [u8], Stop> {
-        let size = u32::from_le_bytes(self.take()?) as usize;
-        let Some(message) = buffer.get_mut(..size) else {
+    // The record's message, of that many bytes.
+    pub fn take_message<'b>(&mut self, buffer: &'b mut [u8], size: u32) -> Result<&'b [u8], Stop> {
+        let Some(message) = buffer.get_mut(..size as usize) else {
             return Err(Stop::Broken("no room for the message"));
         };
         self.fill(message, CUT)?;
@@ -130,12 +129,13 @@ impl<'a, R: Print, F: Read> Replay<'a, R, F> {
 
     // What a step must come to.
     fn take_wanted(&mut self) -> Result<Came, Stop> {
+        let want = self.take::<25>()?;
         Ok(Came {
-            number: u8::from_le_bytes(self.take()?),
-            offset: u64::from(u32::from_le_bytes(self.take()?)),
-            length: u64::from(u32::from_le_bytes(self.take()?)),
-            sent: u64::from_le_bytes(self.take()?),
-            left: u64::from_le_bytes(self.take()?),
+            number: octets::look8(&want, 0),
+            offset: u64::from(octets::look32(&want, 1)),
+            length: u64::from(octets::look32(&want, 5)),
+            sent: octets::look64(&want, 9),
+            left: octets::look64(&want, 17),
         })
     }
 
@@ -178,8 +178,9 @@ impl<'a, R: Print, F: Read> Replay<'a, R, F> {
     fn step(&mut self) -> Result<(), Stop> {
         let mut buffer = [0; 1800];
         let mut out = [0; 4000];
-        let room = u32::from_le_bytes(self.take()?) as usize;
-        let message = self.take_message(&mut buffer)?;
+        let sizes = self.take::<8>()?;
+        let room = octets::look32(&sizes, 0) as usize;
+        let message = self.take_message(&mut buffer, octets::look32(&sizes, 4))?;
         let want = self.take_wanted()?;
         let Some(state) = self.state.get_mut(..self.length) else {
             return Err(Stop::Broken("no state"));

@@ -1,8 +1,9 @@
--- Any two answers that satisfy the statement of a function of a group's size coincide. Assumes nothing.
+-- Any two answers that satisfy the statement of a function of a group's size, or of a refusal, coincide. Assumes nothing.
 use Prim.Native.Nat.{ℕ}
 use mathlib.Core.Path.{◌≡◌, sym, ◌∙◌}
 use mathlib.Core.Bool.{Bool}
-use Rattle.rules.specs.Statements.{Permits, CountsFaults, CountsMajority, CountsRecovery}
+use Rattle.rules.specs.Statements.{Permits, CountsFaults, CountsMajority, CountsRecovery, Numbers, TellsOffset}
+use Rattle.rules.specs.declared.refusals.Refusal.{Refusal}
 
 pub permitted_one : (n : ℕ) (x y : Bool) → Permits n x → Permits n y → x ≡ y
 permitted_one n x y p q = p ∙ sym q
@@ -15,3 +16,9 @@ majority_one n x y p q = p ∙ sym q
 
 pub recovery_one : (n x y : ℕ) → CountsRecovery n x → CountsRecovery n y → x ≡ y
 recovery_one n x y p q = p ∙ sym q
+
+pub number_one : (r : Refusal) (x y : ℕ) → Numbers r x → Numbers r y → x ≡ y
+number_one r x y p q = p ∙ sym q
+
+pub offset_one : (r : Refusal) (x y : ℕ) → TellsOffset r x → TellsOffset r y → x ≡ y
+offset_one r x y p q = p ∙ sym q

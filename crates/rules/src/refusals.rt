@@ -1,6 +1,6 @@
 // Why a step or a message is refused.
 ghost use Rattle.std.specs.Prelude.{◌≡◌};
-ghost use Rattle.rules.specs.Refusals.{number_of, offset_of};
+ghost use Rattle.rules.specs.Statements.{Numbers, TellsOffset};
 ghost use Rattle.rules.specs.declared.refusals.Refusal.TheVariants as Refusal;
 
 use crate::WrongField;
@@ -22,7 +22,7 @@ pub enum Refusal {
 impl Refusal {
     // Its number in the table.
     pub fn number(self) -> u8
-        ensures { result ≡ number_of self }
+        ensures { Numbers self result }
     {
         match self {
             Refusal::WrongState => 1,
@@ -39,7 +39,7 @@ impl Refusal {
 
     // The offset that goes with it: 0 but for what is malformed.
     pub fn offset(self) -> usize
-        ensures { result ≡ offset_of self }
+        ensures { TellsOffset self result }
     {
         match self {
             Refusal::Malformed(at) => at,

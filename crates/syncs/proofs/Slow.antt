@@ -118,6 +118,10 @@ module _ {sh : Shape} {b msg : List ℕ} {log : Listed} (g : Coming sh b msg log
   abbrev past : ℕ → Wire
   past = past_sync (state_of sh b) (listed_in msg log)
 
+  pub told_start : (out : List ℕ) → out ≡ splice out 0 (told_bytes (state_of sh b) (listed_in msg log) 0)
+  unfolding told_bytes below sends flat
+  told_start out = sym (splice_none out 0)
+
   past_long : (n j : ℕ) → (state_of sh b).logged.sync + n ≤ log.count → j < n → length (wire_bytes (past j)) ≡ length_for sh.s 6 1
   past_long n j h l = slow_long g ((state_of sh b).logged.sync + j) (omega arith)
 
@@ -125,45 +129,53 @@ module _ {sh : Shape} {b msg : List ℕ} {log : Listed} (g : Coming sh b msg log
   unfolding told_bytes
   told_long j h = sends_below past (length_for sh.s 6 1) j (λ i l. past_long j i h l)
 
+  pub told_room : (sync j at o : ℕ) → sync ≡ (state_of sh b).logged.sync → j < log.count - sync → length_for sh.s 6 1 * (log.count - (state_of sh b).logged.sync) ≤ o → at ≡ length_for sh.s 6 1 * j → at + length_for sh.s 6 1 ≤ o
+  told_room sync j at o z l h e =
+      let k : j < log.count - (state_of sh b).logged.sync = rw z at l in
+      omega (arith, within (length_for sh.s 6 1) j (log.count - (state_of sh b).logged.sync) k)
+
+  pub told_turn : (sync j at r : ℕ) (out u v : List ℕ) → sync ≡ (state_of sh b).logged.sync → sync + j < log.count → at ≡ length_for sh.s 6 1 * j → at ≤ length out → u ≡ splice out 0 (told_bytes (state_of sh b) (listed_in msg log) j)
+      → (r ≡ at + length_for sh.s 6 1) × (v ≡ splice u at (wire_bytes (slow_reply (state_of sh b) (listed_in msg log) (sync + j)))) → (r ≡ length_for sh.s 6 1 * (j + 1)) × (v ≡ splice out 0 (told_bytes (state_of sh b) (listed_in msg log) (j + 1)))
+  unfolding told_bytes
+  told_turn sync j at r out u v z l e w q k =
+      let y : List ℕ = wire_bytes (past j) in
+      let a : at ≡ 0 + at = omega arith in
+      let m : v ≡ splice u (0 + at) y = k.1 ∙ ap (λ (i : ℕ). splice u at (wire_bytes (slow_reply (state_of sh b) (listed_in msg log) (i + j)))) z ∙ ap (λ (i : ℕ). splice u i y) a in
+      let t : length (flat wire_bytes (sends past (below j))) ≡ at = told_long j (omega arith) ∙ sym e in
+      (k.0 ∙ omega arith, splice_next out 0 at (flat wire_bytes (sends past (below j))) y u v (omega arith) t q m ∙ ap (splice out 0) (sym (sends_more past j)))
+
+  pub told_all : (sync n j at : ℕ) (out u : List ℕ) → sync ≡ (state_of sh b).logged.sync → n ≡ log.count - sync → j ≤ n → n ≤ j → at ≡ length_for sh.s 6 1 * j → u ≡ splice out 0 (told_bytes (state_of sh b) (listed_in msg log) j)
+      → (at ≡ length (flat wire_bytes (slow_replies (state_of sh b) (listed_in msg log)))) × (u ≡ splice out 0 (flat wire_bytes (slow_replies (state_of sh b) (listed_in msg log))))
+  unfolding told_bytes slow_replies
+  told_all sync n j at out u z m h k e q =
+      let c : length (listed_in msg log) ≡ log.count = length_items (entry_at msg) 24 log.at log.count in
+      let w : length (listed_in msg log) - (state_of sh b).logged.sync ≡ j = omega arith in
+      rw w (e ∙ sym (told_long j (omega (arith, g.past))), q)
+
+  -- the same of what is told so far
   abbrev sync : ℕ
   sync = (state_of sh b).logged.sync
 
-  pub told_start : (i : ℕ) (out : List ℕ) → i ≡ num b 24 8 → Told sh b msg log out out 0 i
-  unfolding told_bytes below sends flat
-  told_start i out e =
+  pub told_none : (i : ℕ) (out : List ℕ) → i ≡ num b 24 8 → Told sh b msg log out out 0 i
+  told_none i out e =
       let z : i ≡ sync = e ∙ sync_of (stands_midway g.stands) in
       let j : i - sync ≡ 0 = omega arith in
-      record { past = omega arith; within = omega (arith, g.past); size = refl; even = rw j (omega arith); bytes = rw j (sym (splice_none out 0)) }
+      record { past = omega arith; within = omega (arith, g.past); size = refl; even = rw j (omega arith); bytes = rw j (told_start out) }
 
   module _ (out u : List ℕ) (at i : ℕ) (t : Told sh b msg log out u at i) where
     module _ (l : i < log.count) (h : length_for sh.s 6 1 * (log.count - sync) ≤ length out) where
-      pub told_room : at + length_for sh.s 6 1 ≤ length u
-      told_room = omega (arith, within (length_for sh.s 6 1) (i - sync) (log.count - sync) (omega (arith, t.past)), t.even, t.size)
+      pub told_fits : at + length_for sh.s 6 1 ≤ length u
+      told_fits = omega (arith, told_room sync (i - sync) at (length out) refl (omega (arith, t.past)) h t.even, t.size)
 
-      pub told_turn : (r : ℕ) (v : List ℕ) → (r ≡ at + length_for sh.s 6 1) × (v ≡ splice u at (wire_bytes (slow_reply (state_of sh b) (listed_in msg log) i))) → length v ≡ length u → Told sh b msg log out v r (i + 1)
-      unfolding told_bytes
-      told_turn r v k s =
-          let j : ℕ = i - sync in
-          let y : List ℕ = wire_bytes (past j) in
-          let z : i ≡ sync + j = omega (arith, t.past) in
-          let n : i + 1 - sync ≡ j + 1 = omega (arith, t.past) in
-          let a : at ≡ 0 + at = omega arith in
-          let m : v ≡ splice u (0 + at) y = k.1 ∙ ap (λ (x : ℕ). splice u at (wire_bytes (slow_reply (state_of sh b) (listed_in msg log) x))) z ∙ ap (λ (x : ℕ). splice u x y) a in
-          let w : length (flat wire_bytes (sends past (below j))) ≡ at = told_long j (omega arith) ∙ sym t.even in
-          record {
-            past = omega (arith, t.past);
-            within = omega arith;
-            size = s ∙ t.size;
-            even = rw n (k.0 ∙ omega (arith, t.even));
-            bytes = rw n (splice_next out 0 at (flat wire_bytes (sends past (below j))) y u v (omega (arith, told_room, t.size)) w t.bytes m ∙ ap (splice out 0) (sym (sends_more past j)));
-          }
+      pub told_more : (r : ℕ) (v : List ℕ) → (r ≡ at + length_for sh.s 6 1) × (v ≡ splice u at (wire_bytes (slow_reply (state_of sh b) (listed_in msg log) i))) → length v ≡ length u → Told sh b msg log out v r (i + 1)
+      told_more r v k s =
+          let z : i ≡ sync + (i - sync) = omega (arith, t.past) in
+          let n : i + 1 - sync ≡ i - sync + 1 = omega (arith, t.past) in
+          let w = told_turn sync (i - sync) at r out u v refl (omega (arith, t.past)) t.even (omega (arith, told_fits, t.size)) t.bytes (k.0, k.1 ∙ ap (λ (x : ℕ). splice u at (wire_bytes (slow_reply (state_of sh b) (listed_in msg log) x))) z) in
+          record { past = omega (arith, t.past); within = omega arith; size = s ∙ t.size; even = rw n w.0; bytes = rw n w.1 }
 
-    pub told_all : log.count ≤ i → (at ≡ length (flat wire_bytes (slow_replies (state_of sh b) (listed_in msg log)))) × (u ≡ splice out 0 (flat wire_bytes (slow_replies (state_of sh b) (listed_in msg log))))
-    unfolding told_bytes slow_replies
-    told_all h =
-        let c : length (listed_in msg log) ≡ log.count = length_items (entry_at msg) 24 log.at log.count in
-        let w : length (listed_in msg log) - sync ≡ i - sync = omega (arith, t.within) in
-        rw w (t.even ∙ sym (told_long (i - sync) (omega (arith, t.past))), t.bytes)
+    pub told_done : log.count ≤ i → (at ≡ length (flat wire_bytes (slow_replies (state_of sh b) (listed_in msg log)))) × (u ≡ splice out 0 (flat wire_bytes (slow_replies (state_of sh b) (listed_in msg log))))
+    told_done h = told_all sync (log.count - sync) (i - sync) at out u refl refl (omega (arith, t.within)) (omega (arith, t.past)) t.even t.bytes
 
   -- together
   pub all_long : length (flat wire_bytes (slow_replies (state_of sh b) (listed_in msg log))) ≡ length_for sh.s 6 1 * (log.count - (state_of sh b).logged.sync)

@@ -99,7 +99,10 @@ fn tell_all(shape: Shape, state: &[u8], out: &mut [u8], boundary: u64, mask: u16
         (result ≡ length (flat (leader_bytes shape b 18 boundary []) (others_in shape b mask)))
         × (out.new ≡ splice out.old 0 (flat (leader_bytes shape b 18 boundary []) (others_in shape b mask))) }
 {
-    let asking = Asking::OfVerify(boundary);
+    let asking = Asking {
+        kind: kind::VERIFY_REQUEST,
+        number: boundary,
+    };
     handler::tell_leaders(shape, state, out, asking, mask, &state[0..0])
 }
 

@@ -1,8 +1,8 @@
 -- When the writer's parts are formed, and what it answers. Assumes nothing.
-use Rattle.std.specs.Prelude.{Ok, Err}
+use Rattle.std.specs.Prelude.{Ok, Err, is_ok, MatchResult, IsErrAnd}
 use Prim.Native.Nat.{ℕ, ◌+◌, ◌-◌, ◌*◌, ◌/◌, ◌^◌, ◌≤◌, ◌<◌}
 use mathlib.Core.Path.{◌≡◌, refl, sym, ap, ap₂, ◌∙◌}
-use mathlib.Core.Bool.{Bool, true, false, ◌&&◌, not, and-false}
+use mathlib.Core.Bool.{Bool, true, false, ◌&&◌, not, and-false, true≢false}
 use mathlib.Core.List.{List, [], ◌∷◌}
 use native.Mathlib.Omega.{arith}
 use lib.ListN.{length, take, get_or}
@@ -21,6 +21,7 @@ use Rattle.rules.specs.Read.{entry_at, entries_at, ◌to◌is◌, head_rows, bod
 use Rattle.rules.specs.Read as Reads
 use Rattle.rules.specs.Write.{wire_from, whole, parts_wrong, parts_formed, writes}
 use Rattle.rules.specs.declared.Message.{Message}
+use Rattle.rules.specs.declared.WrongField.{WrongField}
 use Rattle.rules.specs.Read.{Verdict}
 use Rattle.rules.specs.Read.{all_right, wrong_field}
 use Rattle.rules.proofs.Tests.{and_r, and_both, join, ◌also◌, each_of, all_items, at_all, sizes}
@@ -42,6 +43,16 @@ joined (Ok o) (Ok p) (Ok q) d = refl
 joined (Ok o) (Ok p) (Err w) d = refl
 joined (Ok o) (Err w) c d = refl
 joined (Err w) b c d = refl
+
+-- a verdict that is handed on with what a wrong field says, as it stands or told anew
+pub told_wrong : (v w : Verdict) (x : WrongField) (P : WrongField → WrongField → Type 0) → MatchResult v (λ o. w ≡ Ok o) (λ e. IsErrAnd w (P e)) → w ≡ Err x → ((e y : WrongField) → P e y → e ≡ y) → v ≡ Err x
+told_wrong (Ok o) w x P m q f = absurd (true≢false (ap is_ok (sym m ∙ q)))
+told_wrong (Err e) (Ok o) x P m q f = absurd m
+told_wrong (Err e) (Err y) x P m q f = ap Err (f e y m) ∙ q
+
+pub told_right : (v w : Verdict) (o : Unit {0}) → is_ok w ≡ is_ok v → w ≡ Ok o → v ≡ Ok o
+told_right (Ok o) w u e q = refl
+told_right (Err x) w u e q = absurd (true≢false (ap is_ok (sym q) ∙ e))
 
 -- each number in a slice is one of 8 bytes
 pub all_wide : (xs : List ℕ) → ((i : ℕ) → get_or xs i 0 < 2 ^ 64) → every (λ x. ltb x (2 ^ 64)) xs ≡ true

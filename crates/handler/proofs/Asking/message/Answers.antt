@@ -1,10 +1,11 @@
+use borrow.Author.Tests.{eq-eqb, ne_eqb}
 use Rattle.rules.specs.Choice.{pick}
 use Rattle.handler.proofs.Asking.message.Goals as goal
 
-pub returns-in-OfNote : goal.returns-in-OfNote
+pub returns-then-self-eq-TIMESTAMP_NOTE : goal.returns-then-self-eq-TIMESTAMP_NOTE
 unfolding pick
-returns-in-OfNote c = rw c.in-OfNote.is
+returns-then-self-eq-TIMESTAMP_NOTE c = rw (eq-eqb _ _ c.if-self-eq-TIMESTAMP_NOTE.true)
 
-pub returns-in-OfVerify : goal.returns-in-OfVerify
+pub returns : goal.returns
 unfolding pick
-returns-in-OfVerify c = rw c.in-OfVerify.is
+returns c = rw (ne_eqb _ _ c.if-self-eq-TIMESTAMP_NOTE.false)
